@@ -3,13 +3,13 @@ ghost use Rattle.std.specs.Prelude.{◌≡◌};
 
 /// Whether a body is well formed for a length.
 pub trait Fits {
-    ghost use Rattle.std.specs.Prelude.{ℕ, Bool};
-    ghost use Rattle.xh_arena.specs.declared.family.Family.{Family};
+    ghost use Rattle.std.specs.Prelude.{ℕ, Bool, Option};
+    ghost use Rattle.atomic_table.specs.Seated.{TableId};
 
     ghost is_fit: { Self → ℕ → Bool };
 
-    /// What is so of the body of a lot with bytes, whoever has the lot.
-    ghost own: { Self → Family → Type 0 };
+    /// The table whose log the body keeps notes of, if it keeps any.
+    ghost log: { Self → Option TableId };
 
     /// Whether the body is well formed for a record of `len` bytes. For none that is a blank body, which
     /// takes no memory.

@@ -16,11 +16,11 @@ pub(crate) const SIZE: u32 = 65_536;
 pub(crate) struct Blank;
 
 impl Fits for Blank {
-    ghost use Rattle.std.specs.Prelude.{true};
+    ghost use Rattle.std.specs.Prelude.{None, true};
 
     ghost is_fit = { λ _ _. true };
 
-    ghost own = { λ _ _. Unit {0} };
+    ghost log = { λ _. None };
 
     fn fits(&self, _len: u32) -> bool {
         true

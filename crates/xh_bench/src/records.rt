@@ -12,7 +12,6 @@ use crate::failure::Failure;
 use crate::timer::Work;
 use std::alloc::Global;
 use std::collections::LinkedList;
-use std::marker::Brand;
 use std::sync::Wait;
 use std::time::Clock;
 use xh_arena::{Lot, Tally, Vault};
@@ -40,7 +39,7 @@ fn fresh(alloc: Global) -> Result<Claiming, Failure> {
         Ok((mut vault, lots, mut tallies)) => {
             let mut names = LinkedList::new(alloc);
             names.push_back(vault.name())?;
-            match Records::new::<Brand, _>(alloc, lots, names, MAX_RECORDS, 1, &()) {
+            match Records::new(alloc, lots, names, MAX_RECORDS, 1) {
                 Ok((records, mut seats)) => {
                     let seat = seats.remove(0);
                     let tally = tallies.remove(0);

@@ -1,5 +1,5 @@
 -- A pass after which its record was seen gone stands in the log before the record's last one.
-use Rattle.xh_books.proofs.Common.{All, Among, Came, Event, Holder, IsHeldBy, LeadsTo, List, Option, Ownership, Pass, PlaceSeen, Shape, StartsWith, WasPassed, WasSeenGone, []}
+use Rattle.xh_books.proofs.Common.{All, Among, Came, Event, HaveSeenAll, Holder, IsHeldBy, LeadsTo, List, Option, Ownership, Pass, PlaceSeen, Shape, StartsWith, Step, WasPassed, WasSeenGone, []}
 use Rattle.xh_books.proofs.Common.{all_free, among_front, ap, at_set, came_more, index_of, inl, inr, length, record_of, refl, subst, sym, to_of, word_of, ℕ, ⊎_elim, ◌++◌, ◌∙◌, ◌∷◌, ◌≡◌, ◌≢◌, ◌⊎◌}
 use Rattle.xh_place.proofs.Seeing.{starts_more}
 
@@ -30,12 +30,15 @@ shorter (x ∷ a) b (y ∷ c) d e =
     (λ t. inr (t.0, t.1, (λ i. sym heads i ∷ t.2 i), t.3))
     (shorter a b c d tails)
 
-pub passed_again : (shape : Shape) (log : List Event) (places : List PlaceSeen) → All (λ p. StartsWith log p.front) places → (pass : Event) (front : List Event) (d r : ℕ)
-    → WasSeenGone shape places pass front d r
+-- the log begins with all that these steps had seen
+abbrev TellsAll : List Event → List Step → Type 0
+TellsAll log steps = (s : Step) → Among steps s → StartsWith log s.new.front
+
+pub passed_again : (shape : Shape) (log : List Event) (steps : List Step) → TellsAll log steps → (pass : Event) (front : List Event) (d r : ℕ) → WasSeenGone shape steps pass front d r
     → (w : WasPassed shape.records log (index_of shape.records r) d) → Came pass front w.0
-passed_again shape log places began pass front d r gone w =
-    let n : ℕ = shape.records in let k : ℕ = index_of n r in let seen = gone.4 in let from = seen.2.0 in let at = seen.2.2 in let word = at.3 in
-    let whole = starts_more at.0 at.2 (subst (λ (p : PlaceSeen). StartsWith log p.front) gone.3 (began gone.0 gone.1 gone.2)) in
+passed_again shape log steps tells pass front d r gone w =
+    let n : ℕ = shape.records in let k : ℕ = index_of n r in let seen = gone.2 in let from = seen.2.0 in let at = seen.2.2 in let word = at.3 in
+    let whole = starts_more at.0 at.2 (tells gone.0 gone.1) in
     ⊎_elim
     (λ (t : StartsWith w.0 at.0). came_more pass front seen.2.1 (starts_more from at.1 t))
     (λ (t : (x : Event) × (more : List Event) × (at.0 ≡ w.0 ++ x ∷ more) × (Pass w.2 w.3 d ∷ w.1 ≡ x ∷ (more ++ whole.0))).
@@ -44,3 +47,8 @@ passed_again shape log places began pass front d r gone w =
     (ap (λ (e : Event). index_of n (record_of e)) (sym it) ∙ w.5) (λ e m. w.6 e (subst (λ (l : List Event). Among l e) (sym after) (among_front t.1 whole.0 e m))) word.3 in
     absurd (seen.1 (word.4 ∙ ap word_of (holder ∙ ap to_of (sym it)))))
     (shorter w.0 (Pass w.2 w.3 d ∷ w.1) at.0 whole.0 (sym w.4 ∙ whole.1))
+
+-- a log of which each place has seen a beginning, where the places have seen all that the steps had
+pub tells_all : (log : List Event) (places : List PlaceSeen) (steps : List Step) → All (λ p. StartsWith log p.front) places → HaveSeenAll places steps → TellsAll log steps
+tells_all log places steps seen went s among =
+    let t = went s among in starts_more s.new.front t.4 (subst (λ (p : PlaceSeen). StartsWith log p.front) t.3 (seen t.0 t.1 t.2))

@@ -17,7 +17,8 @@ pub use Rattle.std.specs.Prelude.{slice_index_or, slice_set, ◌==◌}
 pub use Rattle.xh_arena.specs.Views.{LotOf, Move, TallyOf, VaultOf}
 pub use Rattle.xh_books.specs.{Closing.IsClosed, Closing.IsSumOver, Flight.IsInFlight, Flight.Stands, Flight.WasPassed, Flight.flight_line, Flight.flight_lines, declared.closing.Books.Books}
 pub use Rattle.xh_books.specs.Ledgers.{IsBalanced, all_back, all_lengths, all_taken, arena_line, arena_lines, arenas_of, back_of, bytes_in_flight, bytes_owned, is_listed, place_lines, taken_of}
-pub use Rattle.xh_books.specs.Drained.{ArePassedToEnded, EachCall, EachEnds, EachGiven, EndedBy, Faces, GaveBy, GoesOn, WasSeenGone, way_of}
+pub use Rattle.xh_books.specs.Lives.{AreDrained, AreLives, ArePassedByDrained, Deed, DoesWith, EachEnded, EachPassed, EachStep, HasEnded, HaveSeenAll, IsStep, Lives, StaysOrSteps, Step}
+pub use Rattle.xh_books.specs.Lives.{WasSeenGone, ends, finds_none, gives, passed_by, take_of, takes, way_of}
 pub use Rattle.xh_books.specs.Sums.{AllBegan, AllWorked, AreLawful, MakesOne, Moves, Reaches, SeesOthers, Worked, Works, arena_count, back_in, sum_of, sum_of_all, taken_in}
 pub use Rattle.xh_books.specs.inner.Steps.{AreAt, AreBooks, AreFronts, AreGathered, AreSeats, IsFull, IsSeatOfPlace, closed_line, lens_of, with_accounts, with_tallies, with_tally}
 unfoldable pub use Rattle.xh_books.specs.inner.Steps.{TellFlight}

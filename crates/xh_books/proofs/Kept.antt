@@ -4,7 +4,7 @@ use Rattle.xh_books.proofs.Common.{IsSumOver, Ledger, List, Ok, PartsOf, Pens, P
 use Rattle.xh_books.proofs.Common.{arenas_of, arith, at, bytes_in_flight, bytes_owned, get_or-map, length, length-map, map, place_lines, places_of, refl, slice_index, subst, suc, sum_by}
 use Rattle.xh_books.proofs.Common.{sum_by-cons, sym, taken_of, vault_names, zero, ℕ, ∥∥₁_map, ◌+◌, ◌<◌, ◌∙◌, ◌∷◌, ◌≡◌}
 use Rattle.xh_glance.specs.Look.{LookOf}
-use Rattle.xh_kernel.specs.Finished.{AreInOrder, HaveMetAll, WereSeen, histories_of, tallies_of}
+use Rattle.xh_kernel.specs.Finished.{AreInOrder, WereSeen, histories_of, tallies_of}
 use Rattle.xh_kernel.proofs.Compared.{kept_at}
 use Rattle.xh_books.proofs.Summing.{all_back_in_lines}
 use Rattle.xh_books.proofs.Sums.{all_back_is, all_taken_is, as_many_tallies}
@@ -39,20 +39,19 @@ lines_same xs ys e k (v ∷ vs) =
 -- its ledger, of accounts whose tallies are still those that were handed in
 pub is_closed : (parts : PartsOf) (own : RecordsOf) → own ≡ parts.records
     → (places : List PlaceSeen) (vaults : List VaultOf) (all now_ : List AccountOf) (looks : List LookOf) (r : Result Books Refused)
-    → WereSeen parts places all looks → HaveMetAll places → length all ≡ parts.workers → (vault_names vaults ≡ parts.records.shape.names) × All (IsOpen parts) vaults → tallies_of now_ ≡ tallies_of all
+    → WereSeen parts places all looks → length all ≡ parts.workers → (vault_names vaults ≡ parts.records.shape.names) × All (IsOpen parts) vaults → tallies_of now_ ≡ tallies_of all
     → IfOk r (λ b. b.ledger.arenas.items ≡ arena_lines now_ 0 vaults) → IfOk r (λ b. b.ledger.places.items ≡ place_lines (places_of places))
     → IfOk r (λ b. b.ledger.owned ≡ bytes_owned (places_of places))
     → IfOk r (λ b. b.ledger.flight ≡ bytes_in_flight (places_of places) own.shape.records 0 (all_lengths (arenas_of vaults))) → IfOk r (λ b. IsBalanced b.ledger)
     → IfOk r (λ b. IsInFlight own.shape places (all_lengths (arenas_of vaults)) b.flight.items) → IfOk r (λ b. IsClosed parts all looks b.ledger b.flight.items)
-is_closed parts own is places vaults all now_ looks (Err e) seen met workers open_vaults same arenas lines owned flight balanced in_flight = tt
-is_closed parts own is places vaults all now_ looks (Ok b) seen met workers open_vaults same arenas lines owned flight balanced in_flight = record {
+is_closed parts own is places vaults all now_ looks (Err e) seen workers open_vaults same arenas lines owned flight balanced in_flight = tt
+is_closed parts own is places vaults all now_ looks (Ok b) seen workers open_vaults same arenas lines owned flight balanced in_flight = record {
   places = places;
   pens = seen.0;
   vaults = vaults;
   kept = seen.1;
   workers = workers;
   seen = seen.2;
-  met = met;
   open_vaults = open_vaults;
   arenas = arenas ∙ lines_same now_ all same 0 vaults;
   lines = lines;

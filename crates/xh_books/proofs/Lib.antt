@@ -13,7 +13,9 @@ pub mod LedgerLines
 pub mod Sums
 pub mod Working
 pub mod Kept
-pub mod Given
+pub mod Carried
+pub mod Living
+pub mod Gone
 pub mod Again
-pub mod Called
+pub mod Deeds
 pub mod Empty

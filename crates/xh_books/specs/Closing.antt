@@ -10,7 +10,7 @@ use Rattle.xh_history.specs.Histories.{History}
 use Rattle.xh_kernel.specs.declared.call.Call.{Call}
 use Rattle.xh_kernel.specs.declared.scribe.Pens.{Pens}
 use Rattle.xh_kernel.specs.Accounts.{AccountOf}
-use Rattle.xh_kernel.specs.Finished.{HaveMetAll, HaveSeen}
+use Rattle.xh_kernel.specs.Finished.{HaveSeen}
 use Rattle.xh_kernel.specs.Kept.{AreKept}
 use Rattle.xh_kernel.specs.Places.{places_of}
 use Rattle.xh_place.specs.Seen.{PlaceSeen}
@@ -18,8 +18,7 @@ use Rattle.xh_books.specs.Flight.{IsInFlight}
 use Rattle.xh_books.specs.Ledgers.{IsBalanced, all_lengths, arena_lines, arenas_of, bytes_in_flight, bytes_owned, place_lines}
 use Rattle.xh_books.specs.Sums.{EachArena, back_in, sum_of_all, taken_in}
 
--- The locks of the kernel kept lawful histories of its places, each led to the place beside it, and these are all accounts and looks of the workers that made them. What the places heard
--- of the ends of channels has met. The ledger is of
+-- The locks of the kernel kept lawful histories of its places, each led to the place beside it, and these are all accounts and looks of the workers that made them. The ledger is of
 -- these places, of the kernel's vaults and of the accounts; the lines of directions are of these places and vaults.
 pub record IsClosed (parts : PartsOf) (accounts : List AccountOf) (looks : List LookOf) (l : Ledger) (directions : List FlightLine) : Type 0 where
   pub places : List PlaceSeen
@@ -28,7 +27,6 @@ pub record IsClosed (parts : PartsOf) (accounts : List AccountOf) (looks : List 
   pub kept : AreKept parts places pens
   pub workers : length accounts ≡ parts.workers
   pub seen : HaveSeen accounts looks pens
-  pub met : HaveMetAll places
   pub open_vaults : (vault_names vaults ≡ parts.records.shape.names) × All (IsOpen parts) vaults
   pub arenas : l.arenas.items ≡ arena_lines accounts 0 vaults
   pub lines : l.places.items ≡ place_lines (places_of places)

@@ -2,5 +2,5 @@ pub mod Ledgers
 pub mod Flight
 pub mod Sums
 pub mod Closing
-pub mod Drained
+pub mod Lives
 pub mod inner

@@ -33,7 +33,7 @@ pub use Rattle.xh_place.specs.Ending.{HasGivenBack, IsClosed, IsStopped, alone, 
 pub use Rattle.xh_place.specs.Ends.{Accepts, AreListed, EndDoes, IsUnopened, Opens, RefusedOr, at_home, end_block}
 pub use Rattle.xh_place.specs.Messages.{IsUntaken, is_listed}
 pub use Rattle.xh_place.specs.Places.{AreBlocks, Fits, IsPlaceOf, Item, PlaceOf, entry_of, found, with_blocks}
-pub use Rattle.xh_place.specs.Seen.{FindsFull, IsSamePlace, PlaceSeen, SeesMore, Stays}
+pub use Rattle.xh_place.specs.Seen.{FindsFull, IsSamePlace, IsSeen, PlaceSeen, Stays}
 pub use Rattle.xh_place.specs.Tallies.{gave, ids_of}
 pub use Rattle.xh_place.specs.declared.body.Body.{Body}
 pub use Rattle.xh_place.specs.declared.opening.Unopened.{Unopened}

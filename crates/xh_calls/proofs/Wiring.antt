@@ -1,7 +1,7 @@
 -- What the steps of wiring say of side 0 of a channel.
-use Rattle.xh_calls.proofs.Common.{AreBlocks, Closes, ClosesAgain, Content, END_BYTES, Err, Fits, HasGivenBack, HasLow, IsClosed, IsEndAt, IsUntouched, Item, List, MatchOption, None}
+use Rattle.xh_calls.proofs.Common.{AreBlocks, Closes, ClosesAgain, Content, END_BYTES, Err, Fits, HasGivenBack, HasLow, IsClosed, IsEndAt, IsSeen, IsUntouched, Item, List, MatchOption, None}
 use Rattle.xh_calls.proofs.Common.{Option, PlaceSeen, Refused, Result, Some, TallyOf, [], alone, ap, arith, bytes, end_tests, endpoint, entry_of, first_later, first_refusal, found, inr, kind_of}
-use Rattle.xh_calls.proofs.Common.{last, refl, start, subst, with_blocks, ℕ, ◌++◌, ◌∙◌, ◌∷◌, ◌≡◌, ◌≤◌}
+use Rattle.xh_calls.proofs.Common.{last, refl, start, subst, with_blocks, ℕ, ◌++◌, ◌+◌, ◌∙◌, ◌∷◌, ◌≡◌, ◌≤◌}
 use Rattle.xh_model.specs.Keyed.{without}
 use Rattle.xh_place.proofs.Swept.{last_bytes}
 
@@ -25,5 +25,5 @@ closes_again p r channel before after old new result none blocks low h =
     let long : x.len ≡ END_BYTES = long_end x.content x.len channel 0 low.2 (blocks.whole r x low.1).1 in
     let front = without r old.place.blocks in
     let whole : last r old.place.blocks ≡ front ++ (r, x) ∷ [] = ap (λ (o : Option Item). front ++ alone r o) low.1 in
-    let some : x.len ≤ n = last_bytes old new front r x (with_blocks old.place (last r old.place.blocks)) new.place n d.0 whole d.1 in
+    let some : x.len ≤ n = last_bytes (IsSeen old new) front r x (with_blocks old.place (last r old.place.blocks)) new.place n d.0 whole d.1 in
     let enough : END_BYTES ≤ n = omega (arith, long, some) in (n, inr (result, d, enough), h.2)

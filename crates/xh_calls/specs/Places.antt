@@ -15,13 +15,9 @@ use Rattle.xh_calls.specs.Parts.{PartsOf}
 abbrev pub IsTillOf : PartsOf → Till → Type 0
 IsTillOf parts t = (ids_of t.tallies.items ≡ parts.records.shape.names) × (t.seen.table ≡ parts.vaults)
 
--- the place is of these parts: of their records, and of the lines of their channels
-abbrev pub IsPlaceIn : PartsOf → PlaceOf → Type 0
-IsPlaceIn parts p = IsPlaceOf parts.records p × (p.lines ≡ parts.lines)
-
 -- the place is of these parts, and so is the till
 abbrev pub IsServed : PartsOf → PlaceOf → Till → Type 0
-IsServed parts p t = IsPlaceIn parts p × IsTillOf parts t
+IsServed parts p t = IsPlaceOf parts.records p × IsTillOf parts t
 
 -- how far a process has come, of which the place knows its latest alone: Vacant where there is no such process yet
 abbrev pub status_of : ℕ → PlaceOf → Status

@@ -11,7 +11,7 @@ use Rattle.xh_place.specs.Bodies.{IsEndAt}
 use Rattle.xh_place.specs.Ending.{IsClosed}
 use Rattle.xh_place.specs.Ends.{is_here, IsTooLate}
 use Rattle.xh_place.specs.Places.{Item, PlaceOf, with_less, with_more}
-use Rattle.xh_place.specs.Seen.{Becomes, IsElsewhere, PlaceSeen, SawWord}
+use Rattle.xh_place.specs.Seen.{Becomes, IsElsewhere, IsSeen, PlaceSeen, SawWord}
 use Rattle.xh_calls.specs.declared.wired.Wired.{Wired}
 use Rattle.xh_calls.specs.Channels.{Opens}
 use Rattle.xh_calls.specs.Endings.{IsUntouched}
@@ -45,7 +45,7 @@ Receives q d r old new = (is_here old.place q ≡ true) × ((x : Item) × (new.p
 abbrev pub TurnsAway : ℕ → ℕ → ℕ → PlaceSeen → PlaceSeen → ℕ → Type 0
 TurnsAway q d r old new bytes =
     (IsUntouched old new bytes × ((old.place.state ≡ Vacant) ⊎ IsElsewhere (SawWord old new) d r))
-    ⊎ ((is_here old.place q ≡ false) × (old.place.state ≢ Vacant) × IsTooLate old new d r old.place new.place bytes)
+    ⊎ ((is_here old.place q ≡ false) × (old.place.state ≢ Vacant) × IsTooLate (IsSeen old new) d r old.place new.place bytes)
 
 -- it was received, or turned away
 abbrev pub ReceivesOr : ℕ → ℕ → ℕ → ℕ → PlaceSeen → PlaceSeen → Result Block Refused → Type 0

@@ -6,7 +6,6 @@ ghost use Rattle.xh_core.specs.declared.status.Status.TheVariants as status;
 ghost use Rattle.xh_core.specs.Calls.{arena_tests};
 ghost use Rattle.xh_core.specs.Refusing.{Tested};
 ghost use Rattle.xh_model.specs.declared.limits.TheConstants.{CHANNELS, END_BYTES};
-ghost use Rattle.xh_place.specs.Bodies.{IsOnLine, endpoint};
 ghost use Rattle.xh_place.specs.Ending.{HasGivenBack};
 ghost use Rattle.xh_place.specs.Ends.{AreListed, IsUnopened, Opens as OpensEnds, at_home};
 ghost use Rattle.xh_place.specs.Starts.{start as starts};
@@ -37,7 +36,6 @@ fn open_channel<N: Names, R: Wait>(
     contract: Option<Contract>,
 ) -> Result<(Endpoint, Endpoint), Refused>
     ensures ok { IfOk result (λ ends. IsPair ends.0 ends.1 × (ends.0.depth ≡ N.parts.depth) × GoesBy contract ends.0) }
-    ensures line { IfOk result (λ ends. IsOnLine N.parts.lines (endpoint ends.0)) }
     ensures err { IfErr result (λ e. e ≡ Refused.NoChannel) }
 {
     let ends = match contract {
@@ -90,7 +88,6 @@ impl<N: Names> Heap<N> {
     ) -> Result<(Block, Block), Unopened>
         requires served { IsServed N.parts place.old.place till.old }
         requires fresh { IsPair low high }
-        requires line { IsOnLine N.parts.lines (endpoint low) }
         ensures same { IsSamePlace place.old place.new × IsTillOf N.parts till.new }
         ensures opened { OpensEnds arena (at_home place.old.place.table low) (at_home place.old.place.table high) place.old.place place.new.place till.old.tallies.items till.new.tallies.items result }
         ensures why { IsUnopened (starts place.old.place.state ++ arena_tests arena (length place.old.place.shape.names)) ⊤

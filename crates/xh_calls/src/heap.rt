@@ -15,6 +15,6 @@ pub struct Heap<N: Names> {
     pub records: Records<Body>,
     pub channels: Channels,
     pub arenas: Arenas<N>,
-    ghost named: { (records ≡ N.parts.records) × (channels.depth ≡ N.parts.depth) × (channels.lines.items ≡ N.parts.lines) },
+    ghost named: { (records ≡ N.parts.records) × (channels.depth ≡ N.parts.depth) },
     ghost places: { records.shape.places ≡ PLACES },
 }

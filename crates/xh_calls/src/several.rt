@@ -45,7 +45,7 @@ fn first_of(why: Refused, later: Result<Answered, Refused>) -> Result<Answered, 
 }
 
 // Each is an endpoint of the process.
-#[tactic(auto, using(xh_place::proofs::Counted::stays_more, crate::proofs::Same::stays_itself))]
+#[tactic(auto, using(crate::proofs::Same::stays_again, crate::proofs::Same::stays_itself))]
 fn test_each(records: &Records<Body>, place: &mut Place, ends: &[u16]) -> Result<(), Refused>
     requires { IsPlaceOf records.now place.old.place }
     ensures same { Stays place.old place.new }
@@ -88,7 +88,7 @@ fn test_several(
 
 impl<N: Names> Heap<N> {
     // Takes at each of the endpoints, until one has a message.
-    #[tactic(auto, using(crate::proofs::Same::same_itself, crate::proofs::Looks::first_takes))]
+    #[tactic(auto, using(crate::proofs::Same::same_itself, crate::proofs::Same::same_again, crate::proofs::Looks::first_takes))]
     fn take_first<R: Wait, G: Gate>(
         &self,
         rt: &R,

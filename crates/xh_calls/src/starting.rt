@@ -4,9 +4,10 @@ ghost use Rattle.xh_core.specs.declared.status.Status.TheVariants as status;
 ghost use Rattle.xh_core.specs.Refusing.{Tested};
 ghost use Rattle.xh_core.specs.Statuses.{is_over};
 ghost use Rattle.xh_model.specs.Words.{place_of};
+ghost use Rattle.xh_place.specs.Places.{IsPlaceOf};
 ghost use Rattle.xh_place.specs.Seen.{SeesMore};
 ghost use Rattle.xh_calls.specs.Calls.{Spawns};
-ghost use Rattle.xh_calls.specs.Places.{IsPlaceIn, start, status_of, stop};
+ghost use Rattle.xh_calls.specs.Places.{start, status_of, stop};
 
 use crate::heap::Heap;
 use crate::names::Names;
@@ -45,8 +46,8 @@ impl<N: Names> Heap<N> {
     /// The next process of the place runs now, where there is one: its number. None where one runs, or its
     /// latest was the 128th.
     pub fn spawn(&self, place: &mut Place) -> Option<u16>
-        requires { IsPlaceIn N.parts place.old.place }
-        ensures same { IsPlaceIn N.parts place.new.place × SeesMore place.old place.new × (place_of place.new.place.process ≡ place_of place.old.place.process) }
+        requires { IsPlaceOf N.parts.records place.old.place }
+        ensures same { IsPlaceOf N.parts.records place.new.place × SeesMore place.old place.new × (place_of place.new.place.process ≡ place_of place.old.place.process) }
         ensures spawns { Spawns place.old.place place.new.place result }
     {
         let again = place.process() / u16::from(PLACES) + 1 < GENERATIONS;

@@ -23,7 +23,7 @@ pub use Rattle.xh_channel.specs.declared.line_rule.Account.{Account}
 pub use Rattle.xh_channel.specs.declared.line_rule.Part.{Part}
 pub use Rattle.xh_channel.specs.declared.message.Message.{Message}
 pub use Rattle.xh_channel.specs.inner.FreeNumbers.{StandAtTheirNumbers, at_place, has_depth}
-pub use Rattle.xh_channel.specs.inner.LineRule.{Begins, IsEndBy, IsNoted, IsSettled, LiesFor, holding, line_view, telling}
+pub use Rattle.xh_channel.specs.inner.LineRule.{Grows, IsEndBy, IsNoted, IsSettled, LiesFor, holding, line_view, telling}
 pub use Rattle.xh_model.proofs.Direction.{number_at, numbers_before, numbers_join}
 pub use Rattle.xh_model.specs.declared.limits.TheConstants.{CHANNELS, DIRECTIONS}
 pub use Rattle.xh_records.specs.Seats.{Noted, no_table}

@@ -1,7 +1,6 @@
 -- What a put, a take and a shut of the line that a seat holds make of its account, and what contracts see of that.
-use Rattle.xh_channel.proofs.Common.{Account, AllOf, Begins, Bool, Counts, Err, IsEndBy, IsNoted, IsOf, IsSettled, IsSome, LiesFor, LineEnd, LineView, Lined, List, Me, Message, None, Noted, Ok}
-use Rattle.xh_channel.proofs.Common.{OnErr, OnOk, OnlySaw, Option, Part, PutsBy, PutsOn, Result, Shuts, ShutsBy}
-use Rattle.xh_channel.proofs.Common.{Some, TableId, TakesBy, TakesOn, [], and_parts, and_right, ap, append-nil, append_assoc, arith}
+use Rattle.xh_channel.proofs.Common.{Account, AllOf, Bool, Counts, Err, Grows, IsEndBy, IsNoted, IsOf, IsSettled, IsSome, LiesFor, LineEnd, LineView, Lined, List, Me, Message, None, Noted, Ok}
+use Rattle.xh_channel.proofs.Common.{OnErr, OnOk, OnlySaw, Option, Part, PutsBy, PutsOn, Result, Shuts, ShutsBy, Some, TableId, TakesBy, TakesOn, [], and_parts, and_right, ap, append_assoc, arith}
 use Rattle.xh_channel.proofs.Common.{beside, counts_at, end_of, false, false_from_ne_true, holding, inl, inr, is_drained, is_nothing, length, length-append, length_push, line_view, message}
 use Rattle.xh_channel.proofs.Common.{now_shut, number, numbers_before, numbers_join, one_put, one_taken, refl, rest, subst, suc, sym, take, take-append_seam, true, true≢false, unwrap_or, waiting}
 use Rattle.xh_channel.proofs.Common.{zero, ℕ, ⊎_elim, ◌&&◌, ◌++◌, ◌+◌, ◌-◌, ◌<◌, ◌||◌, ◌∙◌, ◌∷◌, ◌≡◌, ◌≤◌}
@@ -13,8 +12,7 @@ use Rattle.xh_channel.specs.declared.refused.Refused.{Refused}
 use Rattle.xh_channel.specs.declared.refused.Refused.TheVariants as refused
 use Rattle.xh_channel.specs.declared.unsent.Unsent.{Unsent}
 use Rattle.xh_channel.specs.declared.unsent.Unsent.TheVariants.{Full, PeerClosed, Protocol}
-use Rattle.xh_channel.specs.inner.LineRule.{Found, counts_in, own_by, peer_by, settled, settled_by, taken_notes}
-use Rattle.xh_channel.proofs.Accounts.{begins_less, begins_same}
+use Rattle.xh_channel.specs.inner.LineRule.{Found, IsTold, counts_in, own_by, peer_by, settled, settled_by, taken_notes}
 use Rattle.xh_channel.proofs.Beside.{all_push}
 
 or_right : (a b : Bool) → b ≡ true → (a || b) ≡ true
@@ -84,12 +82,12 @@ accounts v peer own rows depth state line e =
       (λ i. record peer { rows = e.1.rows i; depth = e.1.depth i; state = e.1.state i }),
     )
 
-settled_so : (v : Part) (peer own : Account) (line : Lined) → v.side ≤ 1 → Ends v.side line own peer → Begins v.own own → Begins v.told peer → BothOf v.log v.side line
+settled_so : (v : Part) (peer own : Account) (line : Lined) → v.side ≤ 1 → Ends v.side line own peer → Grows v.own own → IsTold v.told peer → BothOf v.log v.side line
     → IsSettled (holding v peer) line × (own_by (holding v peer) line ≡ own)
 settled_so v peer own line few e grows told notes = let a = accounts v peer own peer.rows peer.depth peer.state line e in (
   (
     subst (λ (x : Account × Account). LiesFor v.side (Some line) x.0 x.1) (λ i. (sym a.0 i, sym a.1 i)) (lies v.side line own peer few e),
-    subst (Begins v.own) (sym a.0) grows,
+    subst (Grows v.own) (sym a.0) grows,
     inl a.1,
     told,
     noted v.log v.side line few notes,
@@ -142,7 +140,7 @@ module _ (table : TableId) (v : Part) (peer : Account) (line line' : Lined) (fou
   saw_open : (end_of line (1 - k)).counts.shut ≡ false → (v.told.shut ≡ false) × (saw ≡ false)
   saw_open e =
       let closed : peer.shut ≡ false = ap (λ (c : Counts). c.shut) (sym was.1.counts) ∙ e in
-      let told = false_from_ne_true v.told.shut (λ p. true≢false (sym (found.told.4 p) ∙ closed)) in
+      let told = false_from_ne_true v.told.shut (λ p. true≢false (sym (found.told.2 p) ∙ closed)) in
       (told, (λ i. told i || closed i))
 
   -- an end that isn't shut isn't drained
@@ -151,7 +149,7 @@ module _ (table : TableId) (v : Part) (peer : Account) (line line' : Lined) (fou
 
   -- where the line stayed as it was
   kept : line' ≡ line → IsSettled (holding v peer) line' × (own_by (holding v peer) line' ≡ own)
-  kept same = settled_so v peer own line' found.few (subst (λ (l : Lined). Ends k l own peer) (sym same) was) (begins_same own) found.told
+  kept same = settled_so v peer own line' found.few (subst (λ (l : Lined). Ends k l own peer) (sym same) was) (omega arith, omega arith, λ p. p) found.told
       (subst (λ (l : Lined). BothOf v.log k l) (sym same) noted_now)
 
   only_saw : line' ≡ line → OnlySaw (line_view table v) seen
@@ -165,8 +163,8 @@ module _ (table : TableId) (v : Part) (peer : Account) (line line' : Lined) (fou
   step_by tag side next e = (λ i. allowed (sym was.0.rows i) (sym was.0.state i) tag side) ∙ e
 
   module _ (note : Option Noted) (of : IsOf v.log note) (tag : ℕ) (blocks : ArrayVec ℕ) where
-    full : length (waiting (end_of line (1 - k))) ≡ line.depth → length v.told.got + own.depth ≤ length own.sent
-    full e = let sent = ap length was.1.waits.0 in let deep = was.0.depth in let told = (begins_less v.told peer found.told).1 in omega (arith, length-append peer.got (waiting (end_of line (1 - k))))
+    full : length (waiting (end_of line (1 - k))) ≡ line.depth → v.told.taken + own.depth ≤ length own.sent
+    full e = let sent = ap length was.1.waits.0 in let deep = was.0.depth in let told = found.told.1 in omega (arith, length-append peer.got (waiting (end_of line (1 - k))))
 
     pub put_done : (r : Result ℕ Unsent) → PutsOn line line' k note tag blocks r → OnErr r (line' ≡ line)
         → IsSettled (holding v peer) line' × PutsBy (line_view table v) seen note tag blocks r × OnErr r (OnlySaw (line_view table v) seen)
@@ -201,8 +199,7 @@ module _ (table : TableId) (v : Part) (peer : Account) (line line' : Lined) (fou
             drained = undrained (end_of line' (1 - k)) (ap (λ (c : Counts). c.shut) p.counts ∙ r.3) ∙ sym (undrained (end_of line (1 - k)) r.3) ∙ e.drained;
           },
         ) in
-        let grows : Begins own own' = ((m ∷ [], refl), (note ∷ [], refl), ([], sym (append-nil own.got)), ([], sym (append-nil own.got_notes)), λ q. q, λ q. (q, refl, refl)) in
-        let s = settled_so v peer own' line' found.few ends' grows found.told (
+        let s = settled_so v peer own' line' found.few ends' (omega arith, omega arith, λ q. q) found.told (
           subst (AllOf v.log) (sym p.notes) noted_now.0,
           subst (AllOf v.log) (sym r.4.2) (all_push v.log (beside (end_of line (1 - k))) note noted_now.1 of),
         ) in
@@ -225,14 +222,14 @@ module _ (table : TableId) (v : Part) (peer : Account) (line line' : Lined) (fou
       only_saw same,
     )
 
-  emptied : waiting (end_of line k) ≡ [] → length v.told.sent ≤ length own.got
-  emptied e = let sent = ap length was.0.waits.0 in let none = ap length e in let told = (begins_less v.told peer found.told).0 in omega (arith, length-append own.got (waiting (end_of line k)))
+  emptied : waiting (end_of line k) ≡ [] → v.told.put ≤ length own.got
+  emptied e = let sent = ap length was.0.waits.0 in let none = ap length e in let told = found.told.0 in omega (arith, length-append own.got (waiting (end_of line k)))
 
   -- where nothing waits, a side that was shut is drained
   emptied_drained : waiting (end_of line k) ≡ [] → own.shut ≡ true → own.drained ≡ true
   emptied_drained e closed = sym was.0.drained ∙ (λ i. (was.0.counts i).shut && is_nothing (e i)) ∙ ap (λ b. b && true) closed
 
-  found_none : line' ≡ line → waiting (end_of line k) ≡ [] → (length v.told.sent ≤ length own.got) × (own.shut ≡ true → seen.drained ≡ true)
+  found_none : line' ≡ line → waiting (end_of line k) ≡ [] → (v.told.put ≤ length own.got) × (own.shut ≡ true → seen.drained ≡ true)
   found_none same e = (emptied e, λ closed. ap (λ (a : Account). a.drained) (kept same).1 ∙ emptied_drained e closed)
 
   pub take_done : (heard : Option Noted) (r : Result Message Refused) → TakesOn line line' k heard r → OnErr r (line' ≡ line)
@@ -260,18 +257,10 @@ module _ (table : TableId) (v : Part) (peer : Account) (line line' : Lined) (fou
         },
         peer_same t.rules.0 t.rules.1 t.peer own' refl refl,
       ) in
-      let waited : own.drained ≡ false = sym o.drained ∙ ap (λ l. (end_of line k).counts.shut && is_nothing l) r.2.0 ∙ and_right (end_of line k).counts.shut false refl in
-      let grows : Begins own own' = (
-        ([], sym (append-nil own.sent)),
-        ([], sym (append-nil own.sent_notes)),
-        (m ∷ [], refl),
-        (heard ∷ [], refl),
-        λ q. q,
-        λ q. absurd (true≢false (sym q ∙ waited)),
-      ) in
-      let s = settled_so v peer own' line' found.few ends' grows found.told
+      let s = settled_so v peer own' line' found.few ends' (omega arith, omega arith, λ q. q) found.told
       (notes.1, subst (λ (x : LineEnd). AllOf v.log (beside x)) (sym t.peer) noted_now.1) in
       let numbered = numbers_before number 0 (own.got ++ m ∷ []) (waiting (end_of line' k)) (subst (AreNumberedFrom number 0) split o.waits.1) in
+      let waited : own.drained ≡ false = sym o.drained ∙ ap (λ l. (end_of line k).counts.shut && is_nothing l) r.2.0 ∙ and_right (end_of line k).counts.shut false refl in
       let so : TakesBy (line_view table v) (record (line_view table (record v { own = own' })) { peer_shut = saw }) heard (Ok m) =
       (r.0 ∙ ap (λ (c : Counts). suc c.taken) o.counts, counts, (step_by m.tag (1 - k) (Some own'.state) r.2.1, refl, saw_no_less, numbered, waited)) in
       (s.0, subst (λ (x : LineView). TakesBy (line_view table v) x heard (Ok m)) (sym (seen_is own' s.1)) so, tt, notes.0)
@@ -300,16 +289,12 @@ module _ (table : TableId) (v : Part) (peer : Account) (line line' : Lined) (fou
         },
         peer_same t.rules.0 t.rules.1 t.peer own' refl refl,
       ) in
-      let same = begins_same own in
-      let s = settled_so v peer own' line' found.few ends' (same.0, same.1, same.2, same.3, (λ _. refl), λ q. (still q, refl, refl)) found.told
+      let s = settled_so v peer own' line' found.few ends' (omega arith, omega arith, λ _. refl) found.told
       (subst (AllOf v.log) (sym t.notes) noted_now.0, subst (λ (x : LineEnd). AllOf v.log (beside x)) (sym t.peer) noted_now.1) in
       (s.0, (seen_is own' s.1, saw_no_less, still))
 
 pub has_word : (a b : TableId) → a ≡ b → a.words ≡ 16 → 0 < b.words
 has_word a b same words = subst (λ (t : TableId). 0 < t.words) same (omega arith)
-
-pub has_gate : (a b : TableId) → a ≡ b → a.words ≡ 16 → 1 < b.words
-has_gate a b same words = subst (λ (t : TableId). 1 < t.words) same (omega arith)
 
 pub slot_first : (held : List (ℕ × Option Lined)) (x : Option Lined) → held ≡ (0, x) ∷ [] → held ≡ (0, x) ∷ rest held
 slot_first held x e = e ∙ ap (λ l. (0, x) ∷ l) (sym (ap rest e))

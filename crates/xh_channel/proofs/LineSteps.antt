@@ -1,11 +1,10 @@
 -- Each step on a line's word keeps the rule.
-use Rattle.xh_channel.proofs.Common.{Account, Allows, Begins, Counts, IsEndBy, IsNoted, IsSettled, Laid, LiesFor, LineEnd, Lined, List, Me, None, Option, Part, Some, [], and_parts, ap, append-nil}
+use Rattle.xh_channel.proofs.Common.{Account, Allows, Counts, Grows, IsEndBy, IsNoted, IsSettled, Laid, LiesFor, LineEnd, Lined, List, Me, None, Option, Part, Some, [], and_parts, ap, append-nil}
 use Rattle.xh_channel.proofs.Common.{arith, carried_after, either, eq-eqb, eqb, eqb-true, exchanged, false, get_elem?, gives, holding, inl, inr, is_nothing, keeps, map, message_of, ne_eqb}
-use Rattle.xh_channel.proofs.Common.{none, note_of, or_cases, put_back, refl, set, slice_index, some, step, subst, suc, sym, takes, true, true≢false, waiting, zero, ℕ, ⊎_elim, ◌++◌}
-use Rattle.xh_channel.proofs.Common.{◌||◌, ◌∙◌, ◌∷◌, ◌≡◌, ◌≢◌, ◌⊎◌}
+use Rattle.xh_channel.proofs.Common.{no_counts, none, note_of, or_cases, put_back, refl, set, slice_index, some, step, subst, suc, sym, takes, true, true≢false, waiting, zero, ℕ, ⊎_elim, ◌++◌}
+use Rattle.xh_channel.proofs.Common.{◌-◌, ◌||◌, ◌∙◌, ◌∷◌, ◌≡◌, ◌≢◌, ◌⊎◌}
 use mathlib.Core.Option as maybe
-use Rattle.xh_channel.specs.inner.LineRule.{AreMet, Compared, Fits, IsHome, IsOut, IsTaken, Kept, Lies, Locked, Met, Owns, Settled, Truth, by, no_account, no_part, own_by, peer_by, settled}
-use Rattle.xh_channel.proofs.Accounts.{begins_more, begins_nothing, begins_same}
+use Rattle.xh_channel.specs.inner.LineRule.{Compared, Fits, IsHome, IsOut, IsTaken, IsTold, Kept, Lies, Locked, Owns, Settled, Truth, by, counts_in, no_account, no_part, own_by, peer_by, settled}
 use Rattle.xh_channel.proofs.Views.{every_set}
 
 abbrev S : Type 0
@@ -18,28 +17,6 @@ M = Me S Part
 lies_turned : (k : ℕ) (line : S) (low high : Account) → Lies line low high → LiesFor k line (by k low high) (by k high low)
 lies_turned zero line low high l = l
 lies_turned (suc k) line low high l = l
-
-emptied : (xs : List Laid) → is_nothing (map message_of xs) ≡ true → xs ≡ []
-emptied [] e = refl
-emptied (x ∷ xs) e = absurd (true≢false (sym e))
-
-end_taken : (line : Lined) (end : LineEnd) (own peer : Account) → IsEndBy line end own peer → IsTaken peer own
-end_taken line end own peer is = (
-  (end.waiting.items, is.waits, is.notes),
-  λ p. let both = and_parts end.counts.shut (is_nothing (waiting end)) (is.drained ∙ p) in
-      let none = emptied end.waiting.items both.1 in (
-        ap (λ (c : Counts). c.shut) (sym is.counts) ∙ both.0,
-        sym (append-nil own.got) ∙ ap (λ l. own.got ++ map message_of l) (sym none) ∙ sym is.waits.0,
-        sym (append-nil own.got_notes) ∙ ap (λ l. own.got_notes ++ map note_of l) (sym none) ∙ sym is.notes,
-      ),
-)
-
-nothing_taken : IsTaken no_account no_account
-nothing_taken = (([], (refl, tt), refl), λ p. absurd (true≢false (sym p)))
-
-all_taken : (line : S) (low high : Account) → Lies line low high → IsTaken low high × IsTaken high low
-all_taken None low high l = subst (λ (x : Account × Account). IsTaken x.0 x.1 × IsTaken x.1 x.0) (λ i. (sym l.0 i, sym l.1 i)) (nothing_taken, nothing_taken)
-all_taken (Some line) low high l = (end_taken line line.right high low l.1, end_taken line line.left low high l.0)
 
 predecessor : (n : ℕ) → n ≢ 0 → (m : ℕ) × (n ≡ suc m)
 predecessor zero ne = absurd (ne refl)
@@ -72,8 +49,6 @@ locks slots id me f a b out owns s h long at small =
     let others : List ℕ = home.0 in let line : S = home.1 in let words = home.2 in let homes = home.3 in let free = home.4 in
     let peer : Account = by v.side t.high t.low in
     let w : Part = holding v peer in
-    let took = all_taken line t.low t.high home.5 in
-    let out_now : set s.words 0 next ≡ suc m.0 ∷ t.opened ∷ others = ap (λ l. set l 0 next) words ∙ ap (λ n. n ∷ t.opened ∷ others) m.1 in
     let t' : Truth = held_by t (suc id) in
     let none_holds : (j : ℕ) (u : Part) → Owns t j u → u.holds ≡ false = λ j u x. x.holds ∙ ap (λ n. eqb n (suc j)) free ∙ no_holder j in (
       w,
@@ -81,27 +56,14 @@ locks slots id me f a b out owns s h long at small =
       ap (λ l. get_elem? l 0) homes,
       (
         t',
-        inr (m.0, others, v.side, out_now, ap (λ l. set l 0 none) homes, ap suc (sym o.seat), took.0, took.1, o.opened),
+        inr (m.0, others, v.side, ap (λ l. set l 0 next) words ∙ ap (λ n. n ∷ others) m.1, ap (λ l. set l 0 none) homes, ap suc (sym o.seat)),
         every_set (Fits t') s.views id w (
-          (λ _. record {
-            opened = o.opened;
-            log = o.log;
-            peer_log = o.peer_log;
-            seat = o.seat;
-            own = o.own;
-            holds = sym (eq-eqb (suc id) (suc id) refl);
-            knows = λ _. refl;
-            both = λ p. (
-              (o.both p).0,
-              refl,
-            );
-          }),
+          (λ _. record { log = o.log; peer_log = o.peer_log; seat = o.seat; own = o.own; holds = sym (eq-eqb (suc id) (suc id) refl); knows = λ _. refl; both = λ p. ((o.both p).0, refl) }),
           (h.2 id v at).1,
           (h.2 id v at).2,
         )
             (λ j u other e. let g = h.2 j u e in (
               (λ p. let x = g.0 p in record {
-                opened = x.opened;
                 log = x.log;
                 peer_log = x.peer_log;
                 seat = x.seat;
@@ -129,19 +91,21 @@ locks slots id me f a b out owns s h long at small =
       ),
     ))
     (λ (gone : IsOut t s.words s.homes).
-    let found : slice_index s.words 0 ≡ suc gone.0 = ap (λ l. slice_index l 0) gone.3 in
-    let out_still : set s.words 0 next ≡ suc m.0 ∷ t.opened ∷ gone.1 = ap (λ l. set l 0 next) gone.3 ∙ ap (λ n. n ∷ t.opened ∷ gone.1) m.1 in (
+    let found : slice_index s.words 0 ≡ suc gone.0 = ap (λ l. slice_index l 0) gone.3 in (
       v,
       keeps,
       tt,
       (
         t,
-        inr (m.0, gone.1, gone.2, out_still, gone.4, gone.5, gone.6, gone.7, gone.8),
+        inr (m.0, gone.1, gone.2, ap (λ l. set l 0 next) gone.3 ∙ ap (λ n. n ∷ gone.1) m.1, gone.4, gone.5),
         every_set (Fits t) s.views id v (h.2 id v at) (λ j u _ e. h.2 j u e),
       ),
       ((λ zero_is. absurd (omega arith)), λ _. refl),
     ))
     h.1
+
+told_more : (c : Counts) (a b : Account) → Grows a b → IsTold c a → IsTold c b
+told_more c a b g t = let put = t.0 in let taken = t.1 in let p = g.0 in let q = g.1 in (omega arith, omega arith, λ e. g.2 (t.2 e))
 
 -- the accounts of a side and of its peer, by side
 own_back : (k : ℕ) (own peer : Account) → by k (by k own peer) (by k peer own) ≡ own
@@ -153,13 +117,13 @@ peer_back zero own peer = refl
 peer_back (suc k) own peer = refl
 
 -- each side goes on, where a side and its peer do
-both_grow : (k : ℕ) (low high own peer : Account) → Begins (by k low high) own → Begins (by k high low) peer → Begins low (by k own peer) × Begins high (by k peer own)
+both_grow : (k : ℕ) (low high own peer : Account) → Grows (by k low high) own → Grows (by k high low) peer → Grows low (by k own peer) × Grows high (by k peer own)
 both_grow zero low high own peer a b = (a, b)
 both_grow (suc k) low high own peer a b = (b, a)
 
-told_by_side : (k : ℕ) (c low high low' high' : Account) → Begins low low' → Begins high high' → Begins c (by k low high) → Begins c (by k low' high')
-told_by_side zero c low high low' high' a b t = begins_more c low low' t a
-told_by_side (suc k) c low high low' high' a b t = begins_more c high high' t b
+told_by_side : (k : ℕ) (c : Counts) (low high low' high' : Account) → Grows low low' → Grows high high' → IsTold c (by k low high) → IsTold c (by k low' high')
+told_by_side zero c low high low' high' a b t = told_more c low low' a t
+told_by_side (suc k) c low high low' high' a b t = told_more c high high' b t
 
 -- a seat of a side has another account than the seat of the other side: that of the other stays, where its peer's does, or where one seat has both
 elsewhere : (k j low high : ℕ) (a b own peer : Account) → by j low high ≢ by k low high → (peer ≡ by k b a) ⊎ (by k high low ≡ by k low high) → by j (by k own peer) (by k peer own) ≡ by j a b
@@ -181,21 +145,21 @@ settles slots id me line front owns holds is s h long at small =
     let v : Part = me.0 in
     let own : Account = own_by v line in
     let peer : Account = peer_by v line in
-    let told : Account = record v.told { shut = v.told.shut || v.peer.shut } in
-    let is_told : Begins told peer = (is.3.0, is.3.1, is.3.2, is.3.3, λ e. ⊎_elim is.3.4 (λ p. p) (or_cases v.told.shut v.peer.shut e), is.3.5) in
+    let told : Counts = record v.told { shut = v.told.shut || v.peer.shut } in
+    let is_told : IsTold told peer = (is.3.0, is.3.1, λ e. ⊎_elim is.3.2 (λ p. p) (or_cases v.told.shut v.peer.shut e)) in
     let k : ℕ = v.side in
     let t : Truth = h.0 in
     let mine = h.2 id v at in
     let o : Owns t id v = mine.0 owns in
     let holder : t.holder ≡ suc id = eqb-true t.holder (suc id) (sym o.holds ∙ holds) in
-    let others : (ws : List ℕ) × (n : ℕ) × (s.words ≡ n ∷ t.opened ∷ ws) = ⊎_elim (λ (x : IsHome t s.words s.homes). (x.0, 0, x.2)) (λ (x : IsOut t s.words s.homes). (x.1, suc x.0, x.3)) h.1 in
+    let others : (ws : List ℕ) × (n : ℕ) × (s.words ≡ n ∷ ws) = ⊎_elim (λ (x : IsHome t s.words s.homes). (x.0, 0, x.2)) (λ (x : IsOut t s.words s.homes). (x.1, suc x.0, x.3)) h.1 in
     let slot : (x : maybe.Option S) × (s.homes ≡ x ∷ []) = ⊎_elim (λ (x : IsHome t s.words s.homes). (some x.1, x.3)) (λ (x : IsOut t s.words s.homes). (none, x.4)) h.1 in
     let low : Account = by k own peer in
     let high : Account = by k peer own in
     let t' : Truth = record t { holder = 0; low = low; high = high } in
     let w : Part = record v { holds = false; own = own; peer = peer; told = told } in
-    let grow : Begins t.low low
-    × Begins t.high high = both_grow k t.low t.high own peer (subst (λ a. Begins a own) (sym o.own) is.1) (subst (λ a. Begins a peer) (sym (o.knows holds)) (begins_same v.peer)) in
+    let grow : Grows t.low low
+    × Grows t.high high = both_grow k t.low t.high own peer (subst (λ a. Grows a own) (sym o.own) is.1) (subst (λ a. Grows a peer) (sym (o.knows holds)) (omega arith, omega arith, λ p. p)) in
     let same : (peer ≡ by k t.high t.low) ⊎ (by k t.high_seat t.low_seat ≡ by k t.low_seat t.high_seat) =
     ⊎_elim (λ e. inl (e ∙ sym (o.knows holds))) (λ p. inr ((o.both p).0 ∙ sym o.seat)) is.2 in (
       w,
@@ -203,10 +167,9 @@ settles slots id me line front owns holds is s h long at small =
       tt,
       (
         t',
-        inl (others.0, Some line, ap (λ l. set l 0 0) others.2, (λ i. put_back (slot.1 i) (front i)), refl, is.0, subst (λ log. IsNoted log (Some line)) o.log is.4, λ e. absurd (o.opened e)),
+        inl (others.0, Some line, ap (λ l. set l 0 0) others.2, (λ i. put_back (slot.1 i) (front i)), refl, is.0, subst (λ log. IsNoted log (Some line)) o.log is.4),
         every_set (Fits t') s.views id w (
           (λ _. record {
-            opened = o.opened;
             log = o.log;
             peer_log = o.peer_log;
             seat = o.seat;
@@ -216,13 +179,12 @@ settles slots id me line front owns holds is s h long at small =
             both = λ p.
                 ((o.both p).0, peer_back k own peer);
           }),
-          subst (Begins told) (sym (peer_back k own peer)) is_told,
+          subst (IsTold told) (sym (peer_back k own peer)) is_told,
           told_by_side k v.peer_told t.low t.high low high grow.0 grow.1 mine.2,
         )
             (λ j u other e. let f = h.2 j u e in (
               (λ p. let x : Owns t j u = f.0 p in let apart : by u.side t.low_seat t.high_seat ≢ by k t.low_seat t.high_seat = λ q. other (sym x.seat ∙ q ∙ o.seat) in
                   let idle : u.holds ≡ false = x.holds ∙ ap (λ n. eqb n (suc j)) holder ∙ not_holder id j other in record {
-                    opened = x.opened;
                     log = x.log;
                     peer_log = x.peer_log;
                     seat = x.seat;
@@ -241,14 +203,42 @@ settles slots id me line front owns holds is s h long at small =
 pub holds_it : (t : Truth) (id : ℕ) (v : Part) → Owns t id v → t.holder ≡ suc id → v.holds ≡ true
 holds_it t id v o e = o.holds ∙ ap (λ n. eqb n (suc id)) e ∙ eq-eqb (suc id) (suc id) refl
 
+pub nothing_told : (a : Account) → IsTold no_counts a
+nothing_told a = (omega arith, omega arith, λ p. absurd (true≢false (sym p)))
+
+pub all_told : (a : Account) → IsTold (counts_in a) a
+all_told a = (omega arith, omega arith, λ p. p)
+
 pub no_fits : (t : Truth) (id : ℕ) → Fits t id no_part
-no_fits t id = ((λ p. absurd (true≢false (sym p))), begins_nothing t.high, begins_nothing t.low)
+no_fits t id = ((λ p. absurd (true≢false (sym p))), nothing_told t.high, nothing_told t.low)
 
 -- where one seat has both accounts and doesn't hold the line, that is at home
 pub at_home : (t : Truth) (id : ℕ) (v : Part) (words : List ℕ) (homes : List (maybe.Option S)) → IsHome t words homes ⊎ IsOut t words homes → Owns t id v → v.both ≡ true → v.holds ≡ false
     → IsHome t words homes
 at_home t id v words homes is o both idle = ⊎_elim (λ x. x)
     (λ (x : IsOut t words homes). absurd (true≢false (sym (holds_it t id v o (x.5 ∙ ap suc (one_seat x.2 v.side t.low_seat t.high_seat id o.seat (o.both both).0))) ∙ idle))) is
+
+emptied : (xs : List Laid) → is_nothing (map message_of xs) ≡ true → xs ≡ []
+emptied [] e = refl
+emptied (x ∷ xs) e = absurd (true≢false (sym e))
+
+end_taken : (line : Lined) (end : LineEnd) (own peer : Account) → IsEndBy line end own peer → IsTaken peer own
+end_taken line end own peer is = (
+  (end.waiting.items, is.waits, is.notes),
+  λ p. let both = and_parts end.counts.shut (is_nothing (waiting end)) (is.drained ∙ p) in
+      let none = emptied end.waiting.items both.1 in (
+        ap (λ (c : Counts). c.shut) (sym is.counts) ∙ both.0,
+        sym (append-nil own.got) ∙ ap (λ l. own.got ++ map message_of l) (sym none) ∙ sym is.waits.0,
+        sym (append-nil own.got_notes) ∙ ap (λ l. own.got_notes ++ map note_of l) (sym none) ∙ sym is.notes,
+      ),
+)
+
+nothing_taken : IsTaken no_account no_account
+nothing_taken = (([], (refl, tt), refl), λ p. absurd (true≢false (sym p)))
+
+all_taken : (line : S) (low high : Account) → Lies line low high → IsTaken low high × IsTaken high low
+all_taken None low high l = subst (λ (x : Account × Account). IsTaken x.0 x.1 × IsTaken x.1 x.0) (λ i. (sym l.0 i, sym l.1 i)) (nothing_taken, nothing_taken)
+all_taken (Some line) low high l = (end_taken line line.right high low l.1, end_taken line line.left low high l.0)
 
 taken_by : (k : ℕ) (low high : Account) → IsTaken low high × IsTaken high low → IsTaken (by k low high) (by k high low) × IsTaken (by k high low) (by k low high)
 taken_by zero low high t = t
@@ -263,54 +253,25 @@ compares slots id me owns both idle s h long at small =
     let peer = (o.both both).1 in
     let home : IsHome t s.words s.homes = at_home t id v s.words s.homes h.1 o both idle in
     let taken = taken_by v.side t.low t.high (all_taken home.1 t.low t.high home.5) in
-    let w : Part = record v { told = v.peer; peer_told = v.own } in (
+    let w : Part = record v { told = counts_in v.peer; peer_told = counts_in v.own } in (
       w,
       keeps,
       tt,
       (
         t,
-        inl (home.0, home.1, ap (λ l. set l 0 (slice_index l 0)) home.2, home.3, home.4, home.5, home.6, home.7),
+        inl (home.0, home.1, ap (λ l. set l 0 (slice_index l 0)) home.2, home.3, home.4, home.5, home.6),
         every_set (Fits t) s.views id w (
-          (λ _. record { opened = o.opened; log = o.log; peer_log = o.peer_log; seat = o.seat; own = o.own; holds = o.holds; knows = o.knows; both = o.both }),
-          subst (Begins v.peer) (sym peer) (begins_same v.peer),
-          subst (Begins v.own) (sym o.own) (begins_same v.own),
+          (λ _. record { log = o.log; peer_log = o.peer_log; seat = o.seat; own = o.own; holds = o.holds; knows = o.knows; both = o.both }),
+          subst (IsTold w.told) (sym peer) (all_told v.peer),
+          subst (IsTold w.peer_told) (sym o.own) (all_told v.own),
         )
             (λ j u _ e. h.2 j u e),
       ),
       (
         refl,
-        subst (Begins v.told) peer mine.1,
-        subst (Begins v.peer_told) o.own mine.2,
+        subst (IsTold v.told) peer mine.1,
+        subst (IsTold v.peer_told) o.own mine.2,
         subst (λ (x : Account × Account). IsTaken x.0 x.1) (λ i. (o.own i, peer i)) taken.0,
         subst (λ (x : Account × Account). IsTaken x.0 x.1) (λ i. (peer i, o.own i)) taken.1,
-      ),
-    )
-
-met : (a b from to : Account) → Begins a from → Begins b to → IsTaken from to → AreMet a b
-met a b from to p q t = λ d. let x = q.5 d in let y = t.1 x.0 in ((p.0.0, sym x.1 ∙ y.1 ∙ p.0.1), (p.1.0, sym x.2 ∙ y.2 ∙ p.1.1))
-
-pub meets : (slots id : ℕ) (me : M) → Allows Kept slots id me 0 (λ n. n) (Met (step slots 0 0 0 none) me)
-meets slots id me s h long at small =
-    let v : Part = me.0 in
-    let t : Truth = h.0 in
-    let mine = h.2 id v at in
-    let low : Account = by v.side t.low t.high in
-    let high : Account = by v.side t.high t.low in
-    let all : IsTaken t.low t.high
-    × IsTaken t.high t.low = ⊎_elim (λ (home : IsHome t s.words s.homes). all_taken home.1 t.low t.high home.5) (λ (gone : IsOut t s.words s.homes). (gone.6, gone.7)) h.1 in
-    let taken = taken_by v.side t.low t.high all in
-    let stays : IsHome t (set s.words 0 (slice_index s.words 0)) s.homes ⊎ IsOut t (set s.words 0 (slice_index s.words 0)) s.homes = ⊎_elim
-    (λ (home : IsHome t s.words s.homes). inl (home.0, home.1, ap (λ l. set l 0 (slice_index l 0)) home.2, home.3, home.4, home.5, home.6, home.7))
-    (λ (gone : IsOut t s.words s.homes). inr (gone.0, gone.1, gone.2, ap (λ l. set l 0 (slice_index l 0)) gone.3, gone.4, gone.5, gone.6, gone.7, gone.8))
-    h.1 in (
-      v,
-      keeps,
-      tt,
-      (t, stays, every_set (Fits t) s.views id v mine (λ j u _ e. h.2 j u e)),
-      (
-        refl,
-        λ owns. subst (Begins v.peer_told) (mine.0 owns).own mine.2,
-        met v.told v.peer_told high low mine.1 mine.2 taken.1,
-        met v.peer_told v.told low high mine.2 mine.1 taken.0,
       ),
     )

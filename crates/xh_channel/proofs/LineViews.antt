@@ -1,13 +1,11 @@
 -- Each split and each join of a line's views keeps the rule.
-use Rattle.xh_channel.proofs.Common.{Account, AllOf, IsNoted, Joins, Lined, List, None, Noted, Option, Part, Some, Splits, TableId, [], ap, arith, at_set, beside, eqb, false, get_elem?}
-use Rattle.xh_channel.proofs.Common.{inl, inr, length, length-append, line_view, refl, set, some, subst, suc, sym, telling, true, true≢false, zero, ℕ, ⊎_elim, ◌++◌, ◌+◌}
-use Rattle.xh_channel.proofs.Common.{◌-◌, ◌||◌, ◌∙◌, ◌∷◌, ◌≡◌, ◌≤◌, ◌⊎◌}
-use Rattle.xh_channel.specs.inner.LineRule.{Begins, Fits, IsHome, IsOut, Kept, Lies, Owns, Truth, by}
-use Rattle.xh_channel.specs.inner.LineRule.{copied, hearing, line_telling, high_side, joined, low_side, named, no_part, recalling}
-use Rattle.xh_channel.proofs.Views.{every_set, every_two, every_snoc}
-use Rattle.xh_channel.proofs.LineSteps.{no_holder, one_seat, holds_it, no_fits, at_home}
-use Rattle.xh_channel.proofs.Accounts.{begins_longest, begins_nothing, begins_same, length_longer}
-use Rattle.xh_channel.specs.LineSeats.{hearing_on_line}
+use Rattle.xh_channel.proofs.Common.{Account, AllOf, Counts, IsNoted, Joins, Lined, List, None, Noted, Option, Part, Some, Splits, TableId, [], ap, arith, at_set, beside, eqb, false, get_elem?}
+use Rattle.xh_channel.proofs.Common.{inl, inr, length, length-append, max, no_table, opening, or_cases, refl, replicate, set, some, subst, suc, sym, telling, true, true≢false, zero, ℕ, ⊎_elim, ◌++◌}
+use Rattle.xh_channel.proofs.Common.{◌-◌, ◌||◌, ◌∙◌, ◌∷◌, ◌≡◌, ◌≢◌, ◌≤◌, ◌⊎◌}
+use mathlib.Core.Option as maybe
+use Rattle.xh_channel.specs.inner.LineRule.{Fits, IsHome, IsOut, IsTold, Kept, Lies, Owns, Truth, both_sides, by, counts_in, hearing, high_side, joined, low_side, named, no_account, no_part}
+use Rattle.xh_channel.proofs.Views.{every_set, every_two, every_snoc, one_view}
+use Rattle.xh_channel.proofs.LineSteps.{no_holder, one_seat, holds_it, nothing_told, all_told, no_fits, at_home}
 
 pub sides : (id : ℕ) (v : Part) → v.side ≡ 0 → v.owns ≡ true → v.both ≡ true → v.holds ≡ false → Splits Kept id v (low_side v) (high_side v)
 sides id v side owns both idle s h at =
@@ -25,7 +23,6 @@ sides id v side owns both idle s h at =
       inl home,
       every_snoc (Fits t') vs high (
         (λ _. record {
-          opened = o.opened;
           log = o.peer_log both;
           peer_log = λ p. absurd (true≢false (sym p));
           seat = refl;
@@ -34,12 +31,11 @@ sides id v side owns both idle s h at =
           knows = λ p. absurd (true≢false (sym p));
           both = λ p. absurd (true≢false (sym p));
         }),
-        subst (λ (n : ℕ). Begins v.peer_told (by n t.low t.high)) side mine.2,
-        subst (λ (n : ℕ). Begins v.told (by n t.high t.low)) side mine.1,
+        subst (λ (n : ℕ). IsTold v.peer_told (by n t.low t.high)) side mine.2,
+        subst (λ (n : ℕ). IsTold v.told (by n t.high t.low)) side mine.1,
       )
           (every_set (Fits t') s.views id low (
             (λ _. record {
-              opened = o.opened;
               log = o.log;
               peer_log = λ p. absurd (true≢false (sym p));
               seat = subst (λ (n : ℕ). by n t.low_seat new ≡ id) (sym side) low_seat;
@@ -60,14 +56,14 @@ none_of log got [] e = tt
 none_of log got (x ∷ waits) e = let n = ap length e in absurd (omega (arith, length-append got (x ∷ waits)))
 
 -- where nothing was put, what waits is of any log
-pub none_noted : (log : TableId) (line : Option Lined) (low high : Account) → Lies line low high → low.sent_notes ≡ [] → high.sent_notes ≡ [] → IsNoted log line
+none_noted : (log : TableId) (line : Option Lined) (low high : Account) → Lies line low high → low.sent_notes ≡ [] → high.sent_notes ≡ [] → IsNoted log line
 none_noted log None low high l a b = tt
 none_noted log (Some line) low high l a b = (none_of log low.got_notes (beside line.left) (sym b ∙ l.0.notes), none_of log high.got_notes (beside line.right) (sym a ∙ l.1.notes))
 
 -- of both sides, where it is so of a side and of its peer
-pub of_both : (P : Account → Type 0) (k : ℕ) (low high : Account) → P (by k low high) → P (by k high low) → P low × P high
-of_both P zero low high a b = (a, b)
-of_both P (suc k) low high a b = (b, a)
+both_sent : (k : ℕ) (low high : Account) → (by k low high).sent_notes ≡ [] → (by k high low).sent_notes ≡ [] → (low.sent_notes ≡ []) × (high.sent_notes ≡ [])
+both_sent zero low high a b = (a, b)
+both_sent (suc k) low high a b = (b, a)
 
 pub names : (log : TableId) (id : ℕ) (v : Part) → v.owns ≡ true → v.both ≡ true → v.holds ≡ false → v.own.sent_notes ≡ [] → v.peer.sent_notes ≡ [] → Splits Kept id v (named log v) no_part
 names log id v owns both idle own peer s h at =
@@ -75,15 +71,15 @@ names log id v owns both idle own peer s h at =
     let mine = h.2 id v at in
     let o : Owns t id v = mine.0 owns in
     let home : IsHome t s.words s.homes = at_home t id v s.words s.homes h.1 o both idle in
-    let sent = of_both (λ a. a.sent_notes ≡ []) v.side t.low t.high (ap (λ (a : Account). a.sent_notes) o.own ∙ own) (ap (λ (a : Account). a.sent_notes) (o.both both).1 ∙ peer) in
+    let sent = both_sent v.side t.low t.high (ap (λ (a : Account). a.sent_notes) o.own ∙ own) (ap (λ (a : Account). a.sent_notes) (o.both both).1 ∙ peer) in
     let w : Part = named log v in
     let vs : List Part = set s.views id w in
     let t' : Truth = record t { log = log } in (
       t',
-      inl (home.0, home.1, home.2, home.3, home.4, home.5, none_noted log home.1 t.low t.high home.5 sent.0 sent.1, home.7),
+      inl (home.0, home.1, home.2, home.3, home.4, home.5, none_noted log home.1 t.low t.high home.5 sent.0 sent.1),
       every_snoc (Fits t') vs no_part (no_fits t' (length vs))
           (every_set (Fits t') s.views id w (
-            (λ _. record { opened = o.opened; log = refl; peer_log = λ _. refl; seat = o.seat; own = o.own; holds = o.holds; knows = o.knows; both = o.both }),
+            (λ _. record { log = refl; peer_log = λ _. refl; seat = o.seat; own = o.own; holds = o.holds; knows = o.knows; both = o.both }),
             mine.1,
             mine.2,
           )
@@ -118,7 +114,6 @@ joins id v other w side side' owns owns' idle idle' s h at two at' =
       inl home,
       every_two (Fits t') s.views id other both no_part (
         (λ _. record {
-          opened = o.opened;
           log = o.log;
           peer_log = λ _. x.log;
           seat = subst (λ (n : ℕ). by n t.low_seat id ≡ id) (sym side) low_seat;
@@ -128,7 +123,7 @@ joins id v other w side side' owns owns' idle idle' s h at two at' =
           both = λ _. subst (λ (n : ℕ). (by n id t.low_seat ≡ id) × (by n t.high t.low ≡ w.own)) (sym side) (refl, subst (λ (n : ℕ). by n t.low t.high ≡ w.own) side' x.own);
         }),
         mine.1,
-        subst (λ (n : ℕ). Begins w.told (by n t.low t.high)) (sym side) (subst (λ (n : ℕ). Begins w.told (by n t.high t.low)) side' theirs.1),
+        subst (λ (n : ℕ). IsTold w.told (by n t.low t.high)) (sym side) (subst (λ (n : ℕ). IsTold w.told (by n t.high t.low)) side' theirs.1),
       )
           (no_fits t' other)
           (λ j u apart far e. let f = h.2 j u e in (
@@ -151,20 +146,12 @@ tells id v owns few s h at =
     let is = across v.side t.low t.high few ∙ (mine.0 owns).own in (
       t,
       h.1,
-      every_snoc (Fits t) vs (telling v) ((λ p. absurd (true≢false (sym p))), subst (Begins v.own) (sym is) (begins_same v.own), begins_nothing (by (1 - v.side) t.low t.high))
+      every_snoc (Fits t) vs (telling v) ((λ p. absurd (true≢false (sym p))), subst (IsTold (counts_in v.own)) (sym is) (all_told v.own), nothing_told (by (1 - v.side) t.low t.high))
           (every_set (Fits t) s.views id v mine (λ j u _ e. h.2 j u e)),
     )
 
-pub copies : (id : ℕ) (v : Part) → Splits Kept id v v (copied v)
-copies id v s h at =
-    let t : Truth = h.0 in
-    let mine = h.2 id v at in
-    let vs : List Part = set s.views id v in (
-      t,
-      h.1,
-      every_snoc (Fits t) vs (copied v) ((λ p. absurd (true≢false (sym p))), mine.1, begins_nothing (by v.side t.low t.high))
-          (every_set (Fits t) s.views id v mine (λ j u _ e. h.2 j u e)),
-    )
+pub told_either : (c d : Counts) (a : Account) → IsTold c a → IsTold d a → IsTold (record { put = max c.put d.put; taken = max c.taken d.taken; shut = c.shut || d.shut }) a
+told_either c d a x y = let p = x.0 in let q = y.0 in let r = x.1 in let z = y.1 in (omega arith, omega arith, λ e. ⊎_elim x.2 y.2 (or_cases c.shut d.shut e))
 
 pub hears : (id : ℕ) (v : Part) (other : ℕ) (w : Part) → w.side ≡ v.side → Joins Kept id v other w (hearing v w) no_part
 hears id v other w same s h at two at' =
@@ -172,42 +159,25 @@ hears id v other w same s h at two at' =
     let both : Part = hearing v w in
     let was : get_elem? s.views other ≡ some w = ⊎_elim (λ x. absurd (two x.0)) (λ x. x.1) (at_set s.views id other both w at') in
     let mine = h.2 id v at in
-    let theirs = subst (λ (n : ℕ). Begins w.told (by n t.high t.low)) same (h.2 other w was).1 in (
+    let theirs = subst (λ (n : ℕ). IsTold w.told (by n t.high t.low)) same (h.2 other w was).1 in (
       t,
       h.1,
       every_two (Fits t) s.views id other both no_part (
-        (λ p. let o : Owns t id v = mine.0 p in record { opened = o.opened; log = o.log; peer_log = o.peer_log; seat = o.seat; own = o.own; holds = o.holds; knows = o.knows; both = o.both }),
-        begins_longest v.told w.told (by v.side t.high t.low) mine.1 theirs,
+        (λ p. let o : Owns t id v = mine.0 p in record { log = o.log; peer_log = o.peer_log; seat = o.seat; own = o.own; holds = o.holds; knows = o.knows; both = o.both }),
+        told_either v.told w.told (by v.side t.high t.low) mine.1 theirs,
         mine.2,
       )
           (no_fits t other) (λ j u _ _ e. h.2 j u e),
     )
 
-crossed : (a b : ℕ) (low high : Account) → a + b ≡ 1 → by a high low ≡ by b low high
-crossed zero zero low high e = absurd (omega (arith, e))
-crossed zero (suc b) low high e = refl
-crossed (suc a) zero low high e = refl
-crossed (suc a) (suc b) low high e = absurd (omega (arith, e))
-
-pub recalls : (id : ℕ) (v : Part) (other : ℕ) (w : Part) → w.side + v.side ≡ 1 → Joins Kept id v other w (recalling v w) no_part
-recalls id v other w sides s h at two at' =
-    let t : Truth = h.0 in
-    let both : Part = recalling v w in
-    let was : get_elem? s.views other ≡ some w = ⊎_elim (λ x. absurd (two x.0)) (λ x. x.1) (at_set s.views id other both w at') in
-    let mine = h.2 id v at in
-    let theirs = subst (Begins w.told) (crossed w.side v.side t.low t.high sides) (h.2 other w was).1 in (
+pub begins : Kept (opening (replicate 16 0) (replicate 1 None) both_sides)
+begins =
+    let t : Truth = record { log = no_table; low_seat = 0; high_seat = 0; holder = 0; low = no_account; high = no_account } in (
       t,
-      h.1,
-      every_two (Fits t) s.views id other both no_part (
-        (λ p. let o : Owns t id v = mine.0 p in record { opened = o.opened; log = o.log; peer_log = o.peer_log; seat = o.seat; own = o.own; holds = o.holds; knows = o.knows; both = o.both }),
-        mine.1,
-        theirs,
-      )
-          (no_fits t other) (λ j u _ _ e. h.2 j u e),
+      inl (replicate 15 0, None, refl, refl, refl, (refl, refl), tt),
+      one_view (Fits t) both_sides (
+        (λ _. record { log = refl; peer_log = λ _. refl; seat = refl; own = refl; holds = refl; knows = λ p. absurd (true≢false (sym p)); both = λ _. (refl, refl) }),
+        nothing_told no_account,
+        nothing_told no_account,
+      ),
     )
-
--- what contracts see of the seat that heard
-pub heard_view : (table also : TableId) (v w : Part) → line_view table (hearing v w) ≡ hearing_on_line (line_view table v) (line_telling also w)
-heard_view table also v w =
-    let put = length_longer v.told.sent w.told.sent in let taken = length_longer v.told.got w.told.got in
-    λ i. record (line_view table v) { peer_shut = v.told.shut || w.told.shut; told_put = put i; told_taken = taken i }

@@ -3,7 +3,6 @@ pub mod Beside
 pub mod Directions
 pub mod Ends
 pub mod LineSeats
-pub mod LineNotes
 pub mod Lines
 pub mod Notes
 pub mod Numbers

@@ -4,7 +4,7 @@ use Rattle.arrayvec.specs.ArrayVec.{ArrayVec}
 use Rattle.atomic_table.specs.Seated.{TableId}
 use Rattle.xh_model.specs.declared.row.Row.{Row}
 use Rattle.xh_model.specs.Rows.{allowed, row_at}
-use Rattle.xh_records.specs.Seats.{Noted, no_table}
+use Rattle.xh_records.specs.Seats.{Noted}
 use Rattle.xh_channel.specs.declared.counts.Counts.{Counts}
 use Rattle.xh_channel.specs.declared.laid.Laid.{Laid}
 use Rattle.xh_channel.specs.declared.message.Message.{Message}
@@ -36,61 +36,19 @@ pub record LineView : Type 0 where
   pub told_put : ℕ
   pub told_taken : ℕ
 
--- of which table and whose note it is, how many messages that end put and took until then, and whether it was shut;
--- which they were, what lay beside each, and whether it was drained
+-- of which table and whose note it is, how many messages that end put and took until then, and whether it was shut
 pub record LineTelling : Type 0 where
   pub table : TableId
   pub side : ℕ
   pub put : ℕ
   pub taken : ℕ
   pub shut : Bool
-  pub sent : List Message
-  pub sent_notes : List (Option Noted)
-  pub got : List Message
-  pub got_notes : List (Option Noted)
-  pub drained : Bool
-
--- the one list is a beginning of the other
-abbrev pub IsStart : {A : Type 0} → List A → List A → Type 0
-IsStart {A} first all = (more : List A) × (all ≡ first ++ more)
 
 abbrev pub counts_at : LineView → Counts
 counts_at s = record { put = length s.sent; taken = length s.got; shut = s.shut }
 
 abbrev pub IsBegun : LineView → Type 0
 IsBegun s = 1 ≤ s.depth
-
--- where there is no line
-abbrev pub no_line : LineView
-no_line = record {
-  table = no_table;
-  side = 0;
-  log = no_table;
-  rows = [];
-  depth = 0;
-  state = 0;
-  sent = [];
-  sent_notes = [];
-  got = [];
-  got_notes = [];
-  shut = false;
-  drained = false;
-  peer_shut = false;
-  told_put = 0;
-  told_taken = 0;
-}
-
-abbrev pub line_or : Option LineView → LineView
-line_or None = no_line
-line_or (Some line) = line
-
--- nothing is told
-abbrev pub no_telling : LineTelling
-no_telling = record { table = no_table; side = 0; put = 0; taken = 0; shut = false; sent = []; sent_notes = []; got = []; got_notes = []; drained = false }
-
-abbrev pub telling_or : Option LineTelling → LineTelling
-telling_or None = no_telling
-telling_or (Some telling) = telling
 
 -- nothing was put and taken
 abbrev pub IsUncarried : LineView → Type 0
@@ -104,24 +62,9 @@ IsBlank s = (s.sent ≡ []) × (s.got ≡ []) × (s.shut ≡ false) × (s.peer_s
 abbrev pub AreAcross : LineView → LineView → Type 0
 AreAcross low high = (low.side ≡ 0) × (high.side ≡ 1) × (high.table ≡ low.table)
 
--- its notes are of this log
-abbrev pub logged : TableId → Option LineView → Option LineView
-logged log None = None
-logged log (Some line) = Some (record line { log = log })
-
 -- it goes by the contract now, in its first state
 abbrev pub begun : List Row → ℕ → LineView → LineView
 begun rows depth s = record s { rows = rows; depth = depth; state = (row_at rows 0).state }
-
--- both seats of this line, at which nothing happened yet, go by the contract, with notes of no log yet
-pub record AreBegun (line : TableId) (rows : List Row) (depth : ℕ) (low high : LineView) : Type 0 where
-  pub across : AreAcross low high
-  pub blank : IsBlank low × IsBlank high
-  pub at : low.table ≡ line
-  pub logs : (low.log ≡ no_table) × (high.log ≡ no_table)
-  pub contract : (low.rows ≡ rows) × (high.rows ≡ rows)
-  pub depths : (low.depth ≡ depth) × (high.depth ≡ depth)
-  pub state : (low.state ≡ (row_at rows 0).state) × (high.state ≡ (row_at rows 0).state)
 
 -- the state after a message with this tag from this side
 abbrev pub next_state : LineView → ℕ → ℕ → Option ℕ
@@ -169,27 +112,7 @@ TookAllOf from to = to.drained ≡ true → (to.shut ≡ true) × (to.got ≡ fr
 
 -- what a seat tells, and what the peer's knows then
 abbrev pub told_on_line : LineView → LineTelling
-told_on_line s = record {
-  table = s.table;
-  side = s.side;
-  put = length s.sent;
-  taken = length s.got;
-  shut = s.shut;
-  sent = s.sent;
-  sent_notes = s.sent_notes;
-  got = s.got;
-  got_notes = s.got_notes;
-  drained = s.drained;
-}
-
--- a later note of the same end: it goes on from where the earlier one ends, and from a drained one no more was got
-abbrev pub IsLaterNote : LineTelling → LineTelling → Type 0
-IsLaterNote old new = IsStart old.sent new.sent × IsStart old.sent_notes new.sent_notes × IsStart old.got new.got × IsStart old.got_notes new.got_notes
-    × (old.shut ≡ true → new.shut ≡ true) × (old.drained ≡ true → (new.drained ≡ true) × (new.got ≡ old.got) × (new.got_notes ≡ old.got_notes))
-
--- of the notes of both ends: a drained end got all that the other tells that it sent, each message with what lay beside it
-abbrev pub GotAllOf : LineTelling → LineTelling → Type 0
-GotAllOf from to = to.drained ≡ true → IsStart from.sent to.got × IsStart from.sent_notes to.got_notes
+told_on_line s = record { table = s.table; side = s.side; put = length s.sent; taken = length s.got; shut = s.shut }
 
 abbrev pub hearing_on_line : LineView → LineTelling → LineView
 hearing_on_line s note = record s { peer_shut = s.peer_shut || note.shut; told_put = max s.told_put note.put; told_taken = max s.told_taken note.taken }

@@ -1,9 +1,9 @@
 -- The two ends of a channel that was just opened.
-use Rattle.std.specs.Prelude.{◌≡◌, ◌<◌, true, false, []}
+use Rattle.std.specs.Prelude.{◌≡◌, ◌<◌, true, false, List, []}
 use Rattle.xh_model.specs.declared.limits.TheConstants.{CHANNELS}
-use Rattle.xh_records.specs.Seats.{no_table}
+use Rattle.xh_model.specs.declared.row.Row.{Row}
+use Rattle.xh_model.specs.Rows.{row_at}
 use Rattle.xh_channel.specs.Ends.{no_counts}
-use Rattle.xh_channel.specs.LineSeats.{LineView, IsBegun, IsBlank}
 use Rattle.xh_channel.specs.Queues.{Posted}
 
 -- nothing was put, taken or shut, and nothing was told
@@ -37,18 +37,10 @@ pub record IsPair (low high : Posted) : Type 0 where
   pub rows : high.rows ≡ low.rows
   pub state : high.state ≡ low.state
 
--- a seat of the end's side at a line that was begun with its depth and its log, on which it did nothing yet
-pub record IsNewSeat (end : Posted) (seat : LineView) : Type 0 where
-  pub side : seat.side ≡ end.side
-  pub log : seat.log ≡ end.log
-  pub depth : seat.depth ≡ end.depth
-  pub begun : IsBegun seat
-  pub blank : IsBlank seat
-
--- an end that goes by the contract of the line
-abbrev pub ruled_at : LineView → Posted → Posted
-ruled_at line end = record end { has_contract = true; line = line.table; rows = line.rows; state = line.state }
+-- an end that goes by the contract, in its first state
+abbrev pub ruled_by : List Row → Posted → Posted
+ruled_by rows end = record end { has_contract = true; rows = rows; state = (row_at rows 0).state }
 
 -- an end without a contract
 abbrev pub unruled : Posted → Posted
-unruled end = record end { has_contract = false; line = no_table; rows = []; state = 0 }
+unruled end = record end { has_contract = false; rows = []; state = 0 }

@@ -15,10 +15,10 @@ use Rattle.xh_channel.specs.Beside.{IsOf}
 use Rattle.xh_channel.specs.inner.ClosedWords.{ClosedView}
 use Rattle.xh_channel.specs.Numbers.{Numbered}
 use Rattle.xh_channel.specs.Ends.{Puts, Takes, now_shut}
-use Rattle.xh_channel.specs.LineSeats.{LineView, IsBegun, counts_at}
+use Rattle.xh_channel.specs.LineSeats.{LineView, IsBegun, IsBlank, counts_at}
 use Rattle.xh_channel.specs.QueueEnds.{IsUncarried, QueueView}
 
--- its spot, whether its channel has a contract, the depth, its two queues and its line; the contract's rows and its state, and no table, [] and 0 without a contract.
+-- its spot, whether its channel has a contract, the depth, its two queues and its line; the contract's rows and its state, [] and 0 without a contract.
 -- Of what it did: its counts, the messages that it sent and took, all that it pushed, and whether it is drained:
 -- its channel has a contract, it was shut, and nothing waits for it, so nothing comes any more, whatever its peer does.
 -- Of its peer: whether it saw or was told that it is shut, and how many messages it was told that the peer put and took.
@@ -83,19 +83,20 @@ abbrev pub AreIdle : QueueView → QueueView → ClosedView → Type 0
 AreIdle out into word = IsUncarried out.role.sent × IsUncarried into.role.got × (word.shut ≡ false) × (word.peer_shut ≡ false) × (into.role.told_put ≡ 0) × (out.role.told_taken ≡ 0)
 
 -- The parts of an endpoint are those of its spot, and of what it pushed it sent all but one message at most, which met a shut peer.
--- With a contract its queues are idle and its line was begun with its depth
+-- With a contract its queues are idle and its line was begun with its depth, and else its line is blank
 pub record IsEnd (spot : Spot) (has_contract : Bool) (out into : QueueView) (word : ClosedView) (put : ℕ) (line : LineView) (note heard : Option Noted) : Type 0 where
   pub own_word : word.word ≡ 2 * spot.channel + spot.side
-  pub own_seat : has_contract ≡ true → line.side ≡ spot.side
+  pub own_seat : line.side ≡ spot.side
   pub pushes : out.role.pushes ≡ true
   pub pops : into.role.pops ≡ true
   pub some_sent : put ≤ length out.role.sent.messages
   pub all_sent : word.peer_shut ≡ false → put ≡ length out.role.sent.messages
   pub numbers : put ≤ MAX_MESSAGES
   pub by_line : has_contract ≡ true → AreIdle out into word × IsBegun line × (line.depth ≡ out.depth)
+  pub by_queues : has_contract ≡ false → IsBlank line
   pub as_many : length out.role.sent.notes ≡ length out.role.sent.messages
   pub into_log : into.role.got.log ≡ out.role.sent.log
-  pub line_log : has_contract ≡ true → line.log ≡ out.role.sent.log
+  pub line_log : line.log ≡ out.role.sent.log
   pub of_log : IsOf out.role.sent.log note × IsOf out.role.sent.log heard
 
 -- the same end of the same channel, which was told the same

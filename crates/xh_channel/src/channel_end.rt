@@ -1,20 +1,19 @@
 //! One end of a channel, apart from where its number is free again.
-ghost use Rattle.std.specs.Prelude.{◌≡◌, ◌+◌, ◌*◌, ◌<◌, ◌≤◌, suc, true, false, None, Some, OnErr, IfOk, IfErr, MatchBool, MatchOption};
+ghost use Rattle.std.specs.Prelude.{◌≡◌, ◌+◌, ◌*◌, ◌<◌, ◌≤◌, suc, true, false, None, Some, OnErr, IfOk, IfErr, MatchBool};
 ghost use Rattle.xh_model.specs.declared.limits.TheConstants.{CHANNELS, MAX_MESSAGES};
 ghost use Rattle.xh_channel.specs.Beside.{IsOf};
 ghost use Rattle.xh_channel.specs.Ends.{given_back};
 ghost use Rattle.xh_channel.specs.Notes.{IsOfPeer, hearing, told_by};
-ghost use Rattle.xh_channel.specs.LineNotes.{IsOfItsLine, telling_of};
-ghost use Rattle.xh_channel.specs.LineSeats.{IsLaterNote, LineTelling, told_on_line};
+ghost use Rattle.xh_channel.specs.LineSeats.{IsBlank};
 ghost use Rattle.xh_channel.specs.Numbers.{message};
-ghost use Rattle.xh_channel.specs.Pairs.{IsNewSeat, IsUnused, ruled_at, unruled};
+ghost use Rattle.xh_channel.specs.Pairs.{IsUnused, unruled};
 ghost use Rattle.xh_channel.specs.Queues.{AreIdle, IsSameEnd, IsUnsent, KeepsItsMessages, PutsAs, ShutsAs, TakesAs, Unpushed};
 
 mod pair;
 
 use crate::closed_word::ClosedWord;
 use crate::laid::Laid;
-use crate::line_seat::{LineNote, LineSeat};
+use crate::line_seat::LineSeat;
 use crate::message::Message;
 use crate::note::Note;
 use crate::queue_end::QueueEnd;
@@ -23,7 +22,7 @@ use crate::signal::{OwnSignal, Signal};
 use crate::spot::Spot;
 use crate::unsent::Unsent;
 use arrayvec::ArrayVec;
-pub use pair::{compare, with_log, without_contract};
+pub use pair::{begin, compare, with_log};
 use std::marker::Model;
 use std::sync::Wait;
 use xh_model::limits::{MAX_BLOCKS, MAX_MESSAGES};
@@ -32,12 +31,13 @@ use xh_model::limits::{MAX_BLOCKS, MAX_MESSAGES};
 #[derive(Drop)]
 pub struct ChannelEnd {
     spot: Spot,
+    // with a contract the line carries the messages, and the queues nothing
+    has_contract: bool,
     sender: QueueEnd,
     receiver: QueueEnd,
     word: ClosedWord,
     put: u64,
-    // with a contract: it carries the messages, and the queues nothing
-    line: Option<LineSeat>,
+    line: LineSeat,
     // its channel's, also where it is used on other channels
     signal: OwnSignal,
     // goes with the next message that is put
@@ -47,15 +47,13 @@ pub struct ChannelEnd {
 }
 
 impl Model for ChannelEnd {
-    ghost use Rattle.std.specs.Prelude.{is_some};
-    ghost use Rattle.xh_channel.specs.LineSeats.{line_or};
     ghost use Rattle.xh_channel.specs.Queues.{IsEnd, Posted, posted};
 
     ghost Value = { Posted };
 
-    ghost view = { λ e. posted e.spot (is_some e.line) e.sender e.receiver e.word e.put (line_or e.line) e.carried e.heard };
+    ghost view = { λ e. posted e.spot e.has_contract e.sender e.receiver e.word e.put e.line e.carried e.heard };
 
-    ghost invariant = { λ e. IsEnd e.spot (is_some e.line) e.sender e.receiver e.word e.put (line_or e.line) e.carried e.heard };
+    ghost invariant = { λ e. IsEnd e.spot e.has_contract e.sender e.receiver e.word e.put e.line e.carried e.heard };
 }
 
 fn copy_of(blocks: &ArrayVec<u16, MAX_BLOCKS>) -> ArrayVec<u16, MAX_BLOCKS>
@@ -67,41 +65,32 @@ fn copy_of(blocks: &ArrayVec<u16, MAX_BLOCKS>) -> ArrayVec<u16, MAX_BLOCKS>
     copy
 }
 
-// What a line tells the peer, where there is one.
-fn note_of(line: &mut Option<LineSeat>) -> Option<LineNote>
-    ensures told { MatchOption line.old (result ≡ None) (λ s. result ≡ Some (told_on_line s)) }
-    ensures same { line.new ≡ line.old }
-{
-    match line {
-        Some(line) => Some(line.note()),
-        None => None,
-    }
-}
-
 impl ChannelEnd {
     /// An end with nothing put and nothing taken, of a channel without a contract.
     pub fn new(
         spot: Spot,
         queues: (QueueEnd, QueueEnd),
         word: ClosedWord,
+        line: LineSeat,
         signal: OwnSignal,
     ) -> ChannelEnd
-        requires own { word.word ≡ 2 * spot.channel + spot.side }
+        requires own { (word.word ≡ 2 * spot.channel + spot.side) × (line.side ≡ spot.side) }
         requires roles { (queues.0.role.pushes ≡ true) × (queues.1.role.pops ≡ true) }
-        requires new { AreIdle queues.0 queues.1 word }
-        requires log { queues.1.role.got.log ≡ queues.0.role.sent.log }
+        requires new { AreIdle queues.0 queues.1 word × IsBlank line }
+        requires log { (queues.1.role.got.log ≡ queues.0.role.sent.log) × (line.log ≡ queues.0.role.sent.log) }
         ensures spot { (result.channel ≡ spot.channel) × (result.side ≡ spot.side) × (result.depth ≡ queues.0.depth) }
-        ensures tables { (result.out ≡ queues.0.queue) × (result.into ≡ queues.1.queue) × (result.closed ≡ word.table) }
-        ensures unused { IsUnused result × (result ≡ unruled result) × (result.log ≡ queues.0.role.sent.log) }
+        ensures tables { (result.out ≡ queues.0.queue) × (result.into ≡ queues.1.queue) × (result.closed ≡ word.table) × (result.line ≡ line.table) }
+        ensures unused { IsUnused result × (result ≡ unruled result) }
     {
         let (sender, receiver) = queues;
         ChannelEnd {
             spot,
+            has_contract: false,
             sender,
             receiver,
             word,
             put: 0,
-            line: None,
+            line,
             signal,
             carried: None,
             heard: None,
@@ -119,7 +108,7 @@ impl ChannelEnd {
     pub fn has_contract(&self) -> bool
         ensures { result ≡ self.now.has_contract }
     {
-        self.line.is_some()
+        self.has_contract
     }
 
     pub fn depth(&self) -> usize
@@ -128,13 +117,13 @@ impl ChannelEnd {
         self.sender.depth()
     }
 
-    /// An end of a channel without a contract goes by the contract of this line from now on.
-    pub fn with_line(self, line: LineSeat) -> ChannelEnd
-        requires { IsUnused self × (self.has_contract ≡ false) × IsNewSeat self line }
-        ensures { result ≡ ruled_at line self }
+    /// The channel has no contract any more.
+    pub fn without_contract(self) -> ChannelEnd
+        requires { IsUnused self }
+        ensures { result ≡ unruled self }
     {
         ChannelEnd {
-            line: Some(line),
+            has_contract: false,
             ..self
         }
     }
@@ -146,38 +135,24 @@ impl ChannelEnd {
     {
         Note {
             spot: self.spot,
+            has_contract: self.has_contract,
             put: self.sender.note(),
             taken: self.receiver.note(),
             shut: self.word.note(),
-            line: note_of(&mut self.line),
+            line: self.line.note(),
         }
-    }
-
-    /// What it did, which goes on from where an earlier note of it ends.
-    pub fn tell(&mut self, earlier: Option<LineNote>) -> LineNote
-        requires { IsOfItsLine earlier self.old }
-        ensures told { result ≡ telling_of self.old }
-        ensures later { (n : LineTelling) → earlier ≡ Some n → IsLaterNote n result }
-        ensures same { self.new ≡ self.old }
-    {
-        let Some(line) = &mut self.line else {
-            unreachable!()
-        };
-        line.tell(earlier)
     }
 
     pub fn hear(&mut self, note: Note)
         requires { IsOfPeer note self.old }
         ensures { self.new ≡ hearing self.old note }
     {
-        match (note.line, &mut self.line) {
-            (Some(told), Some(line)) => line.hear(told),
-            (None, None) => {
-                self.receiver.hear(note.put);
-                self.sender.hear(note.taken);
-                self.word.hear(note.shut);
-            }
-            _ => {}
+        if note.has_contract && self.has_contract {
+            self.line.hear(note.line);
+        } else if !note.has_contract && !self.has_contract {
+            self.receiver.hear(note.put);
+            self.sender.hear(note.taken);
+            self.word.hear(note.shut);
         }
     }
 
@@ -292,9 +267,10 @@ impl ChannelEnd {
         ensures kept { OnErr result (Unpushed self.old self.new (message (suc self.old.counts.put) tag blocks)) }
         ensures same { IsSameEnd self.old self.new }
     {
-        match &mut self.line {
-            Some(line) => line.put(rt, tag, blocks, &mut self.carried),
-            None => self.put_on_queue(rt, tag, blocks),
+        if self.has_contract {
+            self.line.put(rt, tag, blocks, &mut self.carried)
+        } else {
+            self.put_on_queue(rt, tag, blocks)
         }
     }
 
@@ -304,9 +280,10 @@ impl ChannelEnd {
         ensures kept { OnErr result (KeepsItsMessages self.old self.new) }
         ensures same { IsSameEnd self.old self.new }
     {
-        match &mut self.line {
-            Some(line) => line.take(rt, &mut self.heard),
-            None => self.take_from_queue(rt),
+        if self.has_contract {
+            self.line.take(rt, &mut self.heard)
+        } else {
+            self.take_from_queue(rt)
         }
     }
 
@@ -314,9 +291,10 @@ impl ChannelEnd {
     pub fn shut<R: Wait>(&mut self, rt: &R)
         ensures { ShutsAs self.old self.new }
     {
-        match &mut self.line {
-            Some(line) => line.shut(rt),
-            None => self.word.shut(),
+        if self.has_contract {
+            self.line.shut(rt);
+        } else {
+            self.word.shut();
         }
     }
 

@@ -1,12 +1,9 @@
 //! All channels of a heap.
-ghost use Rattle.std.specs.Prelude.{◌≡◌, ℕ, ◌+◌, ◌*◌, ◌<◌, ◌≤◌, ◌⊎◌, suc, true, false, length, IfOk, IfErr, IfSome, OnErr};
+ghost use Rattle.std.specs.Prelude.{◌≡◌, ℕ, ◌+◌, ◌*◌, ◌<◌, ◌≤◌, ◌⊎◌, suc, true, false, length, IfOk, IfErr, OnErr};
 ghost use Rattle.xh_model.specs.Rows.{row_at};
 ghost use Rattle.xh_model.specs.declared.limits.TheConstants.{CHANNELS, MAX_DEPTH, MAX_MESSAGES, PLACES};
 ghost use Rattle.xh_channel.specs.Ends.{given_back};
 ghost use Rattle.xh_channel.specs.inner.FreeNumbers.{StandAtTheirNumbers, at_place, has_depth};
-ghost use Rattle.xh_channel.specs.LineNotes.{line_at};
-ghost use Rattle.xh_channel.specs.LineSeats.{AreBegun};
-ghost use Rattle.xh_records.specs.Seats.{no_table};
 ghost use Rattle.xh_channel.specs.Numbers.{message};
 ghost use Rattle.xh_channel.specs.Pairs.{IsPair};
 ghost use Rattle.xh_channel.specs.QueueEnds.{IsNewDirection};
@@ -19,7 +16,7 @@ use crate::closed_word::ClosedWords;
 use crate::endpoint::Endpoint;
 use crate::free_numbers::{FreeNumbers, Home};
 use crate::free_pair::FreePair;
-use crate::line_seat::{LineHandle, LineSeat};
+use crate::line_seat::LineSeat;
 use crate::message::Message;
 use crate::queue_end::{QueueEnd, direction};
 use crate::refused::Refused;
@@ -41,9 +38,8 @@ pub struct Channels {
     home: Home,
     signals: Vec<OwnSignal>,
     bells: OwnBells,
-    lines: Vec<LineHandle>,
     ghost deep: { (1 ≤ depth) × (depth ≤ MAX_DEPTH) },
-    ghost each: { (length signals.items ≡ CHANNELS) × (length lines.items ≡ CHANNELS) },
+    ghost each: { length signals.items ≡ CHANNELS },
 }
 
 // What an end sends by, and what it receives by.
@@ -72,15 +68,17 @@ fn pair(
 {
     let words = words.both();
     let queues = queues(alloc, depth);
+    let lines = LineSeat::pair(alloc);
     let own: Result<_, _> = Arc::try_clone(signal);
     let peers: Result<_, _> = Arc::try_clone(signal);
-    let (Ok(words), Ok(queues), Ok(own), Ok(peers)) = (words, queues, own, peers) else {
+    let (Ok(words), Ok(queues), Ok(lines), Ok(own), Ok(peers)) = (words, queues, lines, own, peers)
+    else {
         return Err(AllocError);
     };
     let spot = Spot { channel, side: 0 };
-    let low = ChannelEnd::new(spot, queues.0, words.0, own);
+    let low = ChannelEnd::new(spot, queues.0, words.0, lines.0, own);
     let spot = Spot { channel, side: 1 };
-    let high = ChannelEnd::new(spot, queues.1, words.1, peers);
+    let high = ChannelEnd::new(spot, queues.1, words.1, lines.1, peers);
     Ok(FreePair { low, high })
 }
 
@@ -100,17 +98,6 @@ fn pairs(
         pairs.push(Some(pair(alloc, depth, words, channel, signal)?))?;
     }
     Ok(pairs)
-}
-
-// A handle to the line of each number, of which none is open.
-fn lines(alloc: Global) -> Result<Vec<LineHandle>, AllocError>
-    ensures { IfOk result (λ v. length v.items ≡ CHANNELS) }
-{
-    let mut lines = Vec::with_capacity(alloc, CHANNELS as usize)?;
-    for _ in 0..CHANNELS {
-        lines.push(LineHandle::new(alloc)?)?;
-    }
-    Ok(lines)
 }
 
 // The signal of each number.
@@ -146,21 +133,18 @@ impl Channels {
         let bells = Bells::new(alloc)?;
         let signals = signals(alloc, &bells)?;
         let pairs = pairs(alloc, depth as usize, &mut words, &signals)?;
-        let lines = lines(alloc)?;
         Ok(Channels {
             depth,
             home: home(alloc, pairs)?,
             signals,
             bells,
-            lines,
         })
     }
 
     /// Both ends of the lowest channel that is free, side 0 first, with nothing put, nothing taken and
-    /// neither shut, and notes of no log. NoChannel where none is free.
+    /// neither shut. NoChannel where none is free.
     pub fn open<R: Wait>(&self, rt: &R) -> Result<(Endpoint, Endpoint), Refused>
         ensures ok { IfOk result (λ ends. IsPair ends.0 ends.1 × (ends.0.depth ≡ self.now.depth) × (ends.0.has_contract ≡ false)) }
-        ensures log { IfOk result (λ ends. (ends.0.log ≡ no_table) × (ends.1.log ≡ no_table)) }
         ensures err { IfErr result (λ r. r ≡ NoChannel) }
     {
         let own: Result<_, _> = Arc::try_clone(&self.home);
@@ -183,21 +167,7 @@ impl Channels {
         Ok((low, high))
     }
 
-    // The seats of both ends of a pair at the line of its channel, which goes by the contract.
-    fn seats<R: Wait>(
-        &self,
-        rt: &R,
-        channel: u8,
-        contract: Contract,
-    ) -> Option<(LineSeat, LineSeat)>
-        requires { channel < CHANNELS }
-        ensures begun { IfSome result (λ s. AreBegun (line_at self.now.lines.items channel) contract self.now.depth s.0 s.1) }
-    {
-        let (line, peers) = self.lines[channel as usize].open()?;
-        Some(LineSeat::begin(rt, line, peers, contract, self.depth))
-    }
-
-    /// As `open`, of a channel that goes by the contract. Both ends begin in its first state, at the line of that number.
+    /// As `open`, of a channel that goes by the contract. Both ends begin in its first state.
     pub fn open_with<R: Wait>(
         &self,
         rt: &R,
@@ -205,22 +175,19 @@ impl Channels {
     ) -> Result<(Endpoint, Endpoint), Refused>
         ensures ok { IfOk result (λ ends. IsPair ends.0 ends.1 × (ends.0.depth ≡ self.now.depth) × (ends.0.has_contract ≡ true)) }
         ensures contract { IfOk result (λ ends. (ends.0.rows ≡ contract) × (ends.0.state ≡ (row_at contract 0).state)) }
-        ensures line { IfOk result (λ ends. ends.0.line ≡ line_at self.now.lines.items ends.0.channel) }
         ensures err { IfErr result (λ r. r ≡ NoChannel) }
     {
         let (low, high) = self.open(rt)?;
-        let Some((line, peers)) = self.seats(rt, low.spot().channel, contract) else {
-            self.cancel(rt, low, high);
-            return Err(Refused::NoChannel);
+        let (first, second) = channel_end::begin(rt, low.inner, high.inner, contract, self.depth);
+        let low = Endpoint {
+            inner: first,
+            ..low
         };
-        Ok((low.with_line(line), high.with_line(peers)))
-    }
-
-    /// A handle to the line of each channel, by its number.
-    pub fn lines(&self) -> &Vec<LineHandle>
-        ensures { (result.now ≡ self.now.lines) × (length self.now.lines.items ≡ CHANNELS) }
-    {
-        &self.lines
+        let high = Endpoint {
+            inner: second,
+            ..high
+        };
+        Ok((low, high))
     }
 
     /// The number of a channel that was never used is free again, where it was opened: of a pair of
@@ -229,7 +196,8 @@ impl Channels {
         requires { IsPair low high }
     {
         let Endpoint { inner: low, home } = low;
-        let (low, high) = channel_end::without_contract(low, high.inner);
+        let low = low.without_contract();
+        let high = high.inner.without_contract();
         home.lock(rt).cancel(FreePair { low, high });
     }
 

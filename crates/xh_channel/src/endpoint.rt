@@ -1,17 +1,14 @@
 //! One end of a channel.
-ghost use Rattle.std.specs.Prelude.{◌≡◌, ◌<◌, None, Some, false};
+ghost use Rattle.std.specs.Prelude.{◌≡◌, ◌<◌, None, Some};
 ghost use Rattle.atomic_table.specs.Seated.{TableId};
 ghost use Rattle.xh_channel.specs.Beside.{IsOf};
-ghost use Rattle.xh_channel.specs.LineNotes.{IsOfItsLine, telling_of};
-ghost use Rattle.xh_channel.specs.LineSeats.{IsLaterNote, LineTelling};
-ghost use Rattle.xh_channel.specs.Pairs.{IsNewSeat, IsPair, IsUnused, ruled_at};
+ghost use Rattle.xh_channel.specs.Pairs.{IsPair};
 ghost use Rattle.xh_channel.specs.Queues.{IsRenamed};
 ghost use Rattle.xh_model.specs.declared.limits.TheConstants.{CHANNELS};
 ghost use Rattle.xh_channel.specs.Notes.{AgreesWith, ArePeers, IsOfPeer, hearing, told_by};
 
 use crate::channel_end::{self, ChannelEnd};
 use crate::free_numbers::Home;
-use crate::line_seat::{LineNote, LineSeat};
 use crate::message::Message;
 use crate::note::Note;
 use crate::spot::Spot;
@@ -89,17 +86,6 @@ impl Endpoint {
         self.inner.has_contract()
     }
 
-    // An end of a channel without a contract goes by the contract of this line from now on.
-    pub(crate) fn with_line(self, line: LineSeat) -> Endpoint
-        requires { IsUnused self × (self.has_contract ≡ false) × IsNewSeat self line }
-        ensures { result ≡ ruled_at line self }
-    {
-        Endpoint {
-            inner: self.inner.with_line(line),
-            ..self
-        }
-    }
-
     /// The next message that this end puts has this note beside it. Where the put is refused, the note stays here for the next one.
     pub fn carry(&mut self, note: xh_records::Note)
         requires { note.table ≡ self.old.log }
@@ -122,16 +108,6 @@ impl Endpoint {
         ensures same { self.new ≡ self.old }
     {
         self.inner.note()
-    }
-
-    // What it did, which goes on from where an earlier note of it ends.
-    pub(crate) fn tell(&mut self, earlier: Option<LineNote>) -> LineNote
-        requires { IsOfItsLine earlier self.old }
-        ensures told { result ≡ telling_of self.old }
-        ensures later { (n : LineTelling) → earlier ≡ Some n → IsLaterNote n result }
-        ensures same { self.new ≡ self.old }
-    {
-        self.inner.tell(earlier)
     }
 
     /// Hears a note of its peer. From then on a take finds nothing only where as much was taken as the note says was put, a put

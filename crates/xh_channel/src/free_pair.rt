@@ -1,7 +1,6 @@
 //! Both ends of a channel whose number is free.
 ghost use Rattle.std.specs.Prelude.{◌≡◌, false};
 ghost use Rattle.xh_channel.specs.Pairs.{IsPair};
-ghost use Rattle.xh_records.specs.Seats.{no_table};
 
 use crate::channel_end::ChannelEnd;
 
@@ -12,5 +11,4 @@ pub struct FreePair {
     pub high: ChannelEnd,
     ghost fresh: { IsPair low high },
     ghost plain: { low.has_contract ≡ false },
-    ghost unlogged: { (low.log ≡ no_table) × (high.log ≡ no_table) },
 }

@@ -1,5 +1,5 @@
-// The line of a channel with a contract, in the one slot of a table. Its first word is the lock: 0 at home, 1 out, 2 out and waited for.
-// Its second says whether it is open: 0 not, 1 open. No value of a `Part` is made.
+// The line of a channel with a contract, in the one slot of a table. Its first word is the lock: 0 at home, 1 out, 2 out and waited for. No value of a `Part` is made.
+use crate::counts::Counts;
 use crate::line::Line;
 use crate::log::{LogName, Of};
 use crate::message::Message;
@@ -25,7 +25,7 @@ pub struct Account {
 }
 
 /// What a seat knows. It owns the account of its side, or that of both sides, and knows its peer's while it holds the line.
-/// `told` and `peer_told` are beginnings of what the peer and its own side did. The notes are of one
+/// `told` and `peer_told` are no more than what the peer and its own side did. The notes are of one
 /// log, which a seat of both sides has from each.
 pub struct Part {
     pub log: LogName,
@@ -36,19 +36,18 @@ pub struct Part {
     pub holds: bool,
     pub own: Account,
     pub peer: Account,
-    pub told: Account,
-    pub peer_told: Account,
+    pub told: Counts,
+    pub peer_told: Counts,
 }
 
-/// At first the line isn't open, and no seat has a part.
 pub struct Keeping;
 
 impl TableRule<Option<Line>, Part, ()> for Keeping {
-    ghost use Rattle.xh_channel.specs.inner.LineRule.{Kept, no_part};
+    ghost use Rattle.xh_channel.specs.inner.LineRule.{Kept, both_sides};
 
     ghost holds = { λ _ s. Kept s };
 
-    ghost first = { λ _. no_part };
+    ghost first = { λ _. both_sides };
 }
 
 /// Takes the line, where it is at home.
@@ -124,17 +123,6 @@ impl Split<Part> for Tells {
     ghost right = { telling };
 }
 
-/// A new seat tells what this one was told.
-pub struct Copies;
-
-impl Split<Part> for Copies {
-    ghost use Rattle.xh_channel.specs.inner.LineRule.{copied};
-
-    ghost left = { λ v. v };
-
-    ghost right = { copied };
-}
-
 /// A seat hears what its peer tells.
 pub struct Hears;
 
@@ -144,44 +132,6 @@ impl Join<Part> for Hears {
     ghost both = { hearing };
 
     ghost spent = { no_part };
-}
-
-/// A seat is told what a note tells of its own side: its own earlier note, or that of the other side.
-pub struct Recalls;
-
-impl Join<Part> for Recalls {
-    ghost use Rattle.xh_channel.specs.inner.LineRule.{no_part, recalling};
-
-    ghost both = { recalling };
-
-    ghost spent = { no_part };
-}
-
-/// The seat sees that what it was told of its own side begins its account, where it owns that, and that what it was told of both sides agrees.
-pub struct Meets;
-
-impl Play<Option<Line>, Part> for Meets {
-    ghost use Rattle.xh_channel.specs.inner.LineRule.{Met};
-
-    ghost then = { Met };
-}
-
-/// A new seat has both sides of a line that wasn't open, and the notes are of no log yet.
-pub struct Opens;
-
-impl Play<Option<Line>, Part> for Opens {
-    ghost use Rattle.xh_channel.specs.inner.LineRule.{Opened};
-
-    ghost then = { Opened };
-}
-
-/// The seat of both sides of a line on which nothing was put, taken or shut gives them up, and the line isn't open any more.
-pub struct Closes;
-
-impl Play<Option<Line>, Part> for Closes {
-    ghost use Rattle.xh_channel.specs.inner.LineRule.{Closed};
-
-    ghost then = { Closed };
 }
 
 pub type LineTable = Table<Option<Line>, Part, (), Keeping, Global>;

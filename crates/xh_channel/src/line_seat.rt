@@ -1,18 +1,14 @@
 //! An end's seat at the line of its channel.
-ghost use Rattle.std.specs.Prelude.{◌≡◌, ◌+◌, ◌<◌, ◌≤◌, IfOk, IfSome, OnErr, OnOk, Some};
+ghost use Rattle.std.specs.Prelude.{◌≡◌, ◌+◌, ◌<◌, ◌≤◌, IfOk, OnErr, OnOk};
 ghost use Rattle.xh_channel.specs.Beside.{Goes, IsOf};
 ghost use Rattle.xh_records.specs.Seats.{no_table};
 ghost use Rattle.xh_model.specs.declared.limits.TheConstants.{MAX_DEPTH, MAX_MESSAGES};
-ghost use Rattle.xh_channel.specs.LineSeats.{AreAcross, GotAllOf, IsBegun, IsBlank, IsDelivered, IsLaterNote, IsLessTold, IsUncarried, OnlySaw};
-ghost use Rattle.xh_channel.specs.LineSeats.{PutsBy, LineTelling, ShutsBy, TakesBy, TookAllOf, begun, hearing_on_line, told_all, told_on_line};
+ghost use Rattle.xh_channel.specs.LineSeats.{AreAcross, IsBegun, IsBlank, IsDelivered, IsLessTold, IsUncarried, OnlySaw, PutsBy, ShutsBy, TakesBy, TookAllOf, begun, hearing_on_line, told_all, told_on_line};
 ghost use Rattle.std.specs.Arc.{arc_value};
 ghost use Rattle.xh_channel.specs.inner.LineRule.{IsWhole, high_side, line_view, low_side};
 
 use crate::line::Line;
-use crate::line_rule::{
-    BothSides, Closes, Compares, Copies, Hears, LineTable, Meets, Names, Opens, Recalls, Sides,
-    Tells,
-};
+use crate::line_rule::{BothSides, Compares, Hears, LineTable, Names, Sides, Tells};
 use crate::line_steps::{HOME, Token, hold, lock, settle};
 use crate::log::Of;
 use crate::message::Message;
@@ -29,13 +25,6 @@ use xh_records::Note;
 
 /// The lock's word lies in a block of these: no two locks are on one cache line.
 const WORDS: usize = 16;
-
-/// The word that says whether the line is open, and what it says then and at first.
-const GATE: usize = 1;
-
-const OPEN: u64 = 1;
-
-const CLOSED: u64 = 0;
 
 /// The seat of one end at its channel's line. Contracts see what the end did and what it was told.
 #[derive(Drop)]
@@ -76,76 +65,6 @@ impl Model for LineNote {
 }
 
 type OwnTable = Arc<LineTable, Global>;
-
-/// A handle to a line, at which notes of its two ends meet. Contracts see which line it is.
-#[derive(Drop)]
-pub struct LineHandle {
-    table: OwnTable,
-}
-
-impl Model for LineHandle {
-    ghost use Rattle.std.specs.Prelude.{◌≡◌};
-    ghost use Rattle.std.specs.Arc.{arc_value};
-    ghost use Rattle.atomic_table.specs.Seated.{TableId};
-
-    ghost Value = { TableId };
-
-    ghost view = { λ h. (arc_value h.table).shared.table_id };
-
-    ghost invariant = { λ h. (arc_value h.table).shared.table_id.words ≡ 16 };
-}
-
-impl LineHandle {
-    /// A handle to a new line, which isn't open.
-    #[tactic(auto, using(crate::proofs::LineGates::begins))]
-    pub fn new(alloc: Global) -> Result<LineHandle, AllocError> {
-        let (table, _seat) = Table::vacant(alloc, &[HOME; WORDS], 1, &())?;
-        let table = Arc::new(alloc, table)?;
-        Ok(LineHandle { table })
-    }
-
-    /// Both seats of the line, where it wasn't open: on it nothing was put, taken or shut, and its notes are of no log yet.
-    pub fn open(&self) -> Option<(LineSeat, LineSeat)>
-        ensures blank { IfSome result (λ s. AreAcross s.0 s.1 × IsBlank s.0 × IsBlank s.1) }
-        ensures line { IfSome result (λ s. (s.0.table ≡ self.now) × (s.0.log ≡ no_table) × (s.1.log ≡ no_table)) }
-    {
-        let low: Result<_, _> = Arc::try_clone(&self.table);
-        let high: Result<_, _> = Arc::try_clone(&self.table);
-        let (Ok(low), Ok(high)) = (low, high) else {
-            return None;
-        };
-        let (found, token) = low.shared.swap_new_seat::<Opens>(GATE, OPEN);
-        if found != CLOSED {
-            return None;
-        }
-        Some(cut(low, high, token))
-    }
-
-    /// Another note that tells the same.
-    #[tactic(auto, using(crate::proofs::LineMoves::has_word, crate::proofs::LineViews::copies))]
-    pub fn copy(&self, note: &mut LineNote) -> LineNote
-        requires { note.old.table ≡ self.now }
-        ensures told { result ≡ note.old }
-        ensures same { note.new ≡ note.old }
-    {
-        LineNote {
-            seat: self.table.shared.split_seat::<Copies>(&mut note.seat),
-        }
-    }
-
-    /// Shows, of notes of both ends of the line, that an end that was drained took all that the other tells that it put.
-    #[tactic(auto, using(crate::proofs::LineMoves::has_word, crate::proofs::LineViews::recalls))]
-    pub fn meet(&self, one: &mut LineNote, other: &mut LineNote)
-        requires { (one.old.table ≡ self.now) × (other.old.table ≡ self.now) × (one.old.side + other.old.side ≡ 1) }
-        ensures met { GotAllOf one.old other.old × GotAllOf other.old one.old }
-        ensures same { (one.new ≡ one.old) × (other.new ≡ other.old) }
-    {
-        let note = self.copy(other);
-        let shared = &self.table.shared;
-        shared.join_seat::<Recalls>(&mut one.seat, note.seat);
-        shared.load::<Meets>(&mut one.seat, 0);
-    }
-}
 
 // The table's seat of both sides, cut in two.
 #[tactic(auto, using(crate::proofs::LineMoves::has_word, crate::proofs::LineViews::sides))]
@@ -212,15 +131,19 @@ pub fn with_log<S: Of>(low: LineSeat, high: LineSeat) -> (LineSeat, LineSeat)
     cut(low, high, token)
 }
 
-/// The line isn't open any more.
-pub fn close(low: LineSeat, high: LineSeat)
-    requires { AreAcross low high × IsBlank low × IsBlank high }
-{
-    let (low, _high, mut token) = join(low, high);
-    low.shared.store::<Closes>(&mut token, GATE, CLOSED);
-}
-
 impl LineSeat {
+    /// Both seats of a new table, where no line is yet.
+    #[tactic(auto, using(crate::proofs::LineViews::begins))]
+    pub fn pair(alloc: Global) -> Result<(LineSeat, LineSeat), AllocError>
+        ensures blank { IfOk result (λ s. AreAcross s.0 s.1 × IsBlank s.0 × IsBlank s.1 × (s.0.depth ≡ 0) × (s.1.depth ≡ 0)) }
+        ensures log { IfOk result (λ s. (s.0.log ≡ no_table) × (s.1.log ≡ no_table)) }
+    {
+        let (table, token) = Table::vacant(alloc, &[HOME; WORDS], 1, &())?;
+        let low = Arc::new(alloc, table)?;
+        let high = Arc::try_clone(&low)?;
+        Ok(cut(low, high, token))
+    }
+
     /// Both sides go by the contract, on a new line. The depth is how many messages may wait in a direction.
     pub fn begin<R: Wait>(
         rt: &R,
@@ -306,33 +229,6 @@ impl LineSeat {
         let table = &self.table;
         LineNote {
             seat: table.shared.split_seat::<Tells>(&mut self.seat),
-        }
-    }
-
-    /// What its peer may hear of it now, which goes on from where an earlier note of it ends.
-    #[tactic(auto, using(crate::proofs::LineMoves::has_word, crate::proofs::LineViews::recalls))]
-    pub fn renew(&mut self, note: LineNote) -> LineNote
-        requires { (note.table ≡ self.old.table) × (note.side ≡ self.old.side) }
-        ensures told { result ≡ told_on_line self.old }
-        ensures later { IsLaterNote note result }
-        ensures same { self.new ≡ self.old }
-    {
-        let shared = &self.table.shared;
-        shared.join_seat::<Recalls>(&mut self.seat, note.seat);
-        shared.load::<Meets>(&mut self.seat, 0);
-        self.note()
-    }
-
-    /// As `renew`, where there may be no earlier note.
-    pub fn tell(&mut self, earlier: Option<LineNote>) -> LineNote
-        requires { (n : LineTelling) → earlier ≡ Some n → (n.table ≡ self.old.table) × (n.side ≡ self.old.side) }
-        ensures told { result ≡ told_on_line self.old }
-        ensures later { (n : LineTelling) → earlier ≡ Some n → IsLaterNote n result }
-        ensures same { self.new ≡ self.old }
-    {
-        match earlier {
-            Some(note) => self.renew(note),
-            None => self.note(),
         }
     }
 

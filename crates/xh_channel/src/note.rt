@@ -10,16 +10,15 @@ use std::marker::Model;
 #[derive(Drop)]
 pub struct Note {
     pub(crate) spot: Spot,
+    pub(crate) has_contract: bool,
     pub(crate) put: QueueNote,
     pub(crate) taken: QueueNote,
     pub(crate) shut: ShutNote,
-    // of a channel with a contract
-    pub(crate) line: Option<LineNote>,
+    pub(crate) line: LineNote,
 }
 
 impl Model for Note {
-    ghost use Rattle.std.specs.Prelude.{cond, is_some};
-    ghost use Rattle.xh_channel.specs.LineSeats.{telling_or};
+    ghost use Rattle.std.specs.Prelude.{cond};
     ghost use Rattle.xh_channel.specs.Notes.{Told};
 
     ghost Value = { Told };
@@ -27,17 +26,17 @@ impl Model for Note {
     ghost view = { λ n. record {
       channel = n.spot.channel;
       side = n.spot.side;
-      has_contract = is_some n.line;
+      has_contract = n.has_contract;
       out = n.put.queue;
       into = n.taken.queue;
       closed = n.shut.table;
-      line = (telling_or n.line).table;
-      put = cond (is_some n.line) (telling_or n.line).put n.put.put;
-      taken = cond (is_some n.line) (telling_or n.line).taken n.taken.taken;
-      shut = cond (is_some n.line) (telling_or n.line).shut n.shut.shut;
+      line = n.line.table;
+      put = cond n.has_contract n.line.put n.put.put;
+      taken = cond n.has_contract n.line.taken n.taken.taken;
+      shut = cond n.has_contract n.line.shut n.shut.shut;
     } };
 
-    ghost use Rattle.std.specs.Prelude.{◌≡◌, ◌+◌, ◌-◌, ◌*◌, IfSome};
+    ghost use Rattle.std.specs.Prelude.{◌≡◌, ◌+◌, ◌-◌, ◌*◌};
 
-    ghost invariant = { λ n. (n.shut.word ≡ 2 * n.spot.channel + (1 - n.spot.side)) × IfSome n.line (λ l. l.side ≡ n.spot.side) };
+    ghost invariant = { λ n. (n.shut.word ≡ 2 * n.spot.channel + (1 - n.spot.side)) × (n.line.side ≡ n.spot.side) };
 }

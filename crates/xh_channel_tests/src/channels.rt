@@ -21,8 +21,7 @@ use xh_channel::{Refused, Unsent};
 
 #[test]
 fn a_cancelled_number_is_free_again(rt: HostRuntime) {
-    play(&rt, rt.alloc(), 1, Scene::FreeAgain(FREE));
-    play(&rt, rt.alloc(), 1, Scene::FreeAgain(ONE_WAY));
+    play(&rt, rt.alloc(), 1, Scene::FreeAgain);
 }
 
 #[test]

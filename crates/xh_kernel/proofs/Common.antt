@@ -6,8 +6,7 @@ pub use Rattle.std.proofs.lemmas.List.Elements.{All-cons, All-tail}
 pub use Rattle.std.specs.Vec.Iter.{into_iter_items, into_iter_len}
 pub use Rattle.xh_arena.specs.Views.{TallyOf, VaultOf}
 pub use Rattle.xh_calls.proofs.Lists.{each_push, first_of, rest_of, there}
-pub use Rattle.xh_calls.proofs.Same.{stays_itself}
-pub use Rattle.xh_place.proofs.Counted.{stays_more}
+pub use Rattle.xh_calls.proofs.Same.{stays_again, stays_itself}
 pub use Rattle.xh_calls.specs.Parts.{IsOpen, PartsOf}
 pub use Rattle.xh_calls.specs.inner.Making.{IsBundle}
 pub use Rattle.xh_core.specs.declared.glance.Glance.{Glance}

@@ -1,8 +1,7 @@
 -- Comparing what workers have seen with the pens of the places, place by place and worker by worker.
 use Rattle.xh_kernel.proofs.Common.{AccountOf, All, AreInOrder, AreKept, AreOwn, Call, IsKept, IsUnmoved, List, PartsOf, Pens, PlaceSeen, [], ap, arith, get_or, get_or-map, get_or-set_other}
-use Rattle.xh_kernel.proofs.Common.{drop, histories_of, length, map-set, refl, set, set-get_or, slice_set, subst, suc, sym, take, tallies_of, zero, ℕ, ◌++◌, ◌+◌, ◌<◌, ◌∙◌, ◌∷◌, ◌≡◌, ◌≤◌}
+use Rattle.xh_kernel.proofs.Common.{histories_of, length, map-set, refl, set, set-get_or, slice_set, subst, suc, sym, tallies_of, zero, ℕ, ◌+◌, ◌<◌, ◌∙◌, ◌∷◌, ◌≡◌, ◌≤◌}
 use borrow.Author.Count.{below_more}
-use Rattle.std.proofs.Math.Seq.{take-append_seam}
 use Rattle.xh_history.specs.Histories.{HasSeen, History, at}
 
 -- the pens of a place, and what they know, by its number
@@ -10,10 +9,6 @@ pub pens_at : (parts : PartsOf) (pens : List Pens) → All (AreOwn parts) pens �
     → ((get_or pens k d).history.number ≡ k) × ((get_or pens k d).history.history ≡ at (histories_of pens) k)
 pens_at parts pens own in_order k d h =
     ((own k d h).2 ∙ in_order.1 k d (omega (arith, h, in_order.0)), sym (get_or-map (λ (p : Pens). p.history.history) pens k d [] h))
-
--- a list that was lent whole, and came back as it was
-pub slice_back : {A : Type 0} (n : ℕ) (old new : List A) → n ≡ length new → new ≡ old → take n (new ++ drop (length new) old) ≡ old
-slice_back n old new long is = ap (λ k. take k (new ++ drop (length new) old)) long ∙ take-append_seam new (drop (length new) old) ∙ is
 
 -- ---- an account
 

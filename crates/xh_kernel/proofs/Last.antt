@@ -2,7 +2,7 @@
 use Rattle.xh_kernel.proofs.Common.{All, All-cons, AreKept, AreOf, Call, Glance, IsHistoryOf, IsKept, IsPlaceOf, IsUnused, List, PartsOf, PenOf, Pens, PlaceSeen, Some, [], ap, arith, fresh_pen}
 use Rattle.xh_kernel.proofs.Common.{last_of, places_of, refl, subst, sym, ℕ, ◌++◌, ◌∙◌, ◌∷◌, ◌≡◌}
 use Rattle.xh_history.specs.Histories as histories
-use Rattle.xh_place.proofs.Seeing.{sees_same}
+use Rattle.xh_records.proofs.History.{starts_itself}
 
 last_push : {A : Type 0} (xs : List A) (x : A) → last_of (xs ++ x ∷ []) ≡ Some x
 last_push [] x = refl
@@ -16,7 +16,7 @@ told pen new g h e same = ap (λ (p : PenOf). last_of p.history) e ∙ last_push
 pub history_first : (parts : PartsOf) (p : PlaceSeen) (pens : Pens) (k : ℕ) → IsUnused parts k p.place → pens.glances ≡ fresh_pen parts.glances k
     → pens.history ≡ histories.fresh_pen parts.histories k → AreOf parts pens p
 history_first parts p pens k unused glances history =
-    let first : IsHistoryOf parts k [] (fresh_pen parts.glances k).history p = ∣ (p, [], unused, refl, ((refl, sees_same p), refl)) ∣₁ in
+    let first : IsHistoryOf parts k [] (fresh_pen parts.glances k).history p = ∣ (p, [], unused, refl, ((refl, starts_itself p.front), refl)) ∣₁ in
     subst (λ (z : histories.PenOf Call). IsHistoryOf parts z.number z.history pens.glances.history p) (sym history) (subst (λ (z : PenOf). IsHistoryOf parts k [] z.history p) (sym glances) first)
 
 -- one place more, and its pens
@@ -29,10 +29,4 @@ kept_push parts (x ∷ ps) (q ∷ all) p pens are is = (are.0, kept_push parts p
 pub kept_named : (parts : PartsOf) (ps : List PlaceSeen) (all : List Pens) → AreKept parts ps all → All (IsPlaceOf parts.records) (places_of ps)
 kept_named parts [] all are = λ k d below. absurd (omega (arith, below))
 kept_named parts (p ∷ ps) [] are = absurd are
-kept_named parts (p ∷ ps) (pens ∷ all) are = All-cons (IsPlaceOf parts.records) p.place (places_of ps) are.0.found.0.0 (kept_named parts ps all are.1)
-
--- their places are of these lines
-pub kept_lines : (parts : PartsOf) (ps : List PlaceSeen) (all : List Pens) → AreKept parts ps all → All (λ p. p.place.lines ≡ parts.lines) ps
-kept_lines parts [] all are = λ k d below. absurd (omega (arith, below))
-kept_lines parts (p ∷ ps) [] are = absurd are
-kept_lines parts (p ∷ ps) (pens ∷ all) are = All-cons (λ (q : PlaceSeen). q.place.lines ≡ parts.lines) p ps are.0.found.0.1 (kept_lines parts ps all are.1)
+kept_named parts (p ∷ ps) (pens ∷ all) are = All-cons (IsPlaceOf parts.records) p.place (places_of ps) are.0.found.0 (kept_named parts ps all are.1)

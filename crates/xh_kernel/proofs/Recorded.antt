@@ -1,13 +1,13 @@
 -- One more call of a history.
 use Rattle.xh_kernel.proofs.Common.{AreOf, Call, Does, FrontOf, Glance, Goes, IsFound, IsHistoryOf, IsNext, Leads, LeadsTo, List, Made, PartsOf, Pens, PlaceSeen, Stays, [], ap, append-nil}
-use Rattle.xh_kernel.proofs.Common.{append_assoc, glance_of, inl, refl, slice_set, stays_itself, stays_more, subst, sym, ℕ, ◌++◌, ◌<◌, ◌∙◌, ◌∷◌, ◌≡◌}
+use Rattle.xh_kernel.proofs.Common.{append_assoc, glance_of, inl, refl, slice_set, stays_again, stays_itself, subst, sym, ℕ, ◌++◌, ◌<◌, ◌∙◌, ◌∷◌, ◌≡◌}
 use Rattle.std.proofs.Math.Logic.{∥∥₁_map}
 use Rattle.xh_history.specs.Histories.{HasSeen, History, PenOf, at}
 
 module _ (parts : PartsOf) where
   leads_on : (a b from c : PlaceSeen) (h : History Call) (gs told : List Glance) (n : ℕ) (e : Call) → Leads parts a h gs b → Stays b from → Goes parts (n, e) from c told
       → Leads parts a (h ++ (n, e) ∷ []) (gs ++ told) c
-  leads_on a b from c [] gs told n e l s g = (from, c, told, [], stays_more l.0 s, g, ap (λ (xs : List Glance). xs ++ told) l.1 ∙ sym (append-nil told), (stays_itself c, refl))
+  leads_on a b from c [] gs told n e l s g = (from, c, told, [], stays_again a b from l.0 s, g, ap (λ (xs : List Glance). xs ++ told) l.1 ∙ sym (append-nil told), (stays_itself c, refl))
   leads_on a b from c (x ∷ h) gs told n e l s g = (
     l.0,
     l.1,
@@ -21,7 +21,7 @@ module _ (parts : PartsOf) where
   )
 
   leads_rests : (a b c : PlaceSeen) (h : History Call) (gs : List Glance) → Leads parts a h gs b → Stays b c → Leads parts a h gs c
-  leads_rests a b c [] gs l s = (stays_more l.0 s, l.1)
+  leads_rests a b c [] gs l s = (stays_again a b c l.0 s, l.1)
   leads_rests a b c (x ∷ h) gs l s = (l.0, l.1, l.2, l.3, l.4, l.5, l.6, leads_rests l.1 b c h l.3 l.7 s)
 
   -- the place has seen more, and is the same

@@ -2,7 +2,6 @@
 use Rattle.std.specs.Prelude.{◌≡◌, ℕ, ◌<◌, List, All, length, map, slice_index_or}
 use Rattle.xh_arena.specs.Views.{TallyOf}
 use Rattle.xh_calls.specs.Parts.{PartsOf}
-use Rattle.xh_channel.specs.LineNotes.{HaveMet}
 use Rattle.xh_glance.specs.Histories as glances
 use Rattle.xh_glance.specs.Look.{LookOf}
 use Rattle.xh_history.specs.Histories.{HasSeen, History, at}
@@ -45,7 +44,3 @@ pub record HaveSeen (accounts : List AccountOf) (looks : List LookOf) (pens : Li
 -- the locks kept lawful histories, which led to these places, and the accounts and looks have seen them
 abbrev pub WereSeen : PartsOf → List PlaceSeen → List AccountOf → List LookOf → Type 0
 WereSeen parts places accounts looks = (pens : List Pens) × AreKept parts places pens × HaveSeen accounts looks pens
-
--- what each place heard of the ends of channels met what each had: an end of which the one heard that it was drained got all that its peer had sent, as far as the other heard
-abbrev pub HaveMetAll : List PlaceSeen → Type 0
-HaveMetAll places = All (λ q. All (λ p. HaveMet p.ends q.ends) places) places

@@ -10,7 +10,7 @@ use Rattle.xh_calls.specs.Channels.{Opens}
 use Rattle.xh_calls.specs.Endings.{Closes, Stops}
 use Rattle.xh_calls.specs.Messages.{Gives, Takes}
 use Rattle.xh_calls.specs.Parts.{PartsOf}
-use Rattle.xh_calls.specs.Places.{IsPlaceIn, start}
+use Rattle.xh_calls.specs.Places.{start}
 use Rattle.xh_calls.specs.Several.{TakesAny}
 use Rattle.xh_calls.specs.Wires.{ClosesAgain, OpensToward, ReceivesOr, toward_high}
 use Rattle.xh_kernel.specs.declared.call.Call.{Call}
@@ -18,7 +18,7 @@ use Rattle.xh_kernel.specs.declared.call.Call.TheVariants as call
 use Rattle.xh_kernel.specs.Accounts.{AccountOf, IsUnmoved}
 use Rattle.xh_kernel.specs.Places.{IsFound}
 use Rattle.xh_model.specs.Words.{place_of}
-use Rattle.xh_place.specs.Places.{PlaceOf, glance_of}
+use Rattle.xh_place.specs.Places.{IsPlaceOf, PlaceOf, glance_of}
 use Rattle.xh_place.specs.Seen.{PlaceSeen, SeesMore, Stays}
 
 -- ---- one call
@@ -64,7 +64,7 @@ Leads parts old (c ∷ cs) glances new = (from : PlaceSeen) × (mid : PlaceSeen)
 
 -- the place k, while nobody has had it
 pub record IsUnused (parts : PartsOf) (k : ℕ) (p : PlaceOf) : Type 0 where
-  pub own : IsPlaceIn parts p
+  pub own : IsPlaceOf parts.records p
   pub process : p.process ≡ k
   pub state : p.state ≡ Vacant
   pub blocks : p.blocks ≡ []

@@ -4,10 +4,9 @@ use Rattle.xh_core.specs.Statuses.{is_over}
 use Rattle.xh_glance.specs.Pen.{PenOf}
 use Rattle.xh_model.specs.declared.limits.TheConstants.{GENERATIONS}
 use Rattle.xh_model.specs.Words.{generation_of, place_of}
-use Rattle.xh_place.specs.Places.{AreBlocks, PlaceOf, glance_of}
+use Rattle.xh_place.specs.Places.{AreBlocks, IsPlaceOf, PlaceOf, glance_of}
 use Rattle.xh_place.specs.Seen.{PlaceSeen}
 use Rattle.xh_calls.specs.Parts.{PartsOf}
-use Rattle.xh_calls.specs.Places.{IsPlaceIn}
 
 -- its process is one of 128 there, each record stands once in its list, each block is whole, and it has none where its process is over
 pub record IsLawful (p : PlaceOf) : Type 0 where
@@ -17,7 +16,7 @@ pub record IsLawful (p : PlaceOf) : Type 0 where
 
 -- a lawful place of these parts
 abbrev pub IsFound : PartsOf → PlaceOf → Type 0
-IsFound parts p = IsPlaceIn parts p × IsLawful p
+IsFound parts p = IsPlaceOf parts.records p × IsLawful p
 
 abbrev pub last_of : {A : Type 0} → List A → Option A
 last_of [] = None

@@ -1,10 +1,10 @@
 //! What lies behind a place's lock.
 ghost use Rattle.std.specs.Prelude.{◌≡◌};
 ghost use Rattle.std.proofs.Props.{props};
-ghost use Rattle.xh_calls.specs.Places.{IsPlaceIn};
 ghost use Rattle.xh_kernel.specs.inner.Lawful.{Distinct-prop, Fits-prop};
 ghost use Rattle.xh_kernel.specs.Kept.{AreOf, AreOwn, IsKept};
 ghost use Rattle.xh_kernel.specs.Places.{IsLawful, IsTold};
+ghost use Rattle.xh_place.specs.Places.{IsPlaceOf};
 
 use crate::looking::Waits;
 use crate::scribe::{Pens, Scribe};
@@ -20,7 +20,7 @@ pub(crate) struct Held<N: Names> {
     pub(crate) scribe: Scribe,
     pub(crate) waits: Waits,
     pub(crate) of: PhantomData<N>,
-    ghost named: { IsPlaceIn N.parts place.place },
+    ghost named: { IsPlaceOf N.parts.records place.place },
     ghost own: { AreOwn N.parts scribe.pens },
     ghost told: { IsTold place.place scribe.pens.glances },
     ghost lawful: { IsLawful place.place } by { Prim.hlevel (props, Distinct-prop, Fits-prop) },

@@ -8,7 +8,7 @@ ghost use Rattle.xh_glance.specs.Pen.{fresh_pen};
 ghost use Rattle.xh_history.specs.Histories as histories;
 ghost use Rattle.xh_kernel.specs.Accounts.{AreFresh};
 ghost use Rattle.xh_kernel.specs.declared.call.Call.TheVariants.{Spawn};
-ghost use Rattle.xh_kernel.specs.Finished.{HaveMetAll, WereSeen, tallies_of};
+ghost use Rattle.xh_kernel.specs.Finished.{WereSeen, tallies_of};
 ghost use Rattle.xh_kernel.specs.Histories.{Asks};
 ghost use Rattle.xh_kernel.specs.inner.Making.{ArePens, AreSeats, AreUnseen, AreUnwritten};
 ghost use Rattle.xh_kernel.specs.Kept.{AreKept};
@@ -30,7 +30,6 @@ use crate::call::Call;
 use crate::finishing::{Finished, compare};
 use crate::held::Held;
 use crate::looking::Waits;
-use crate::meeting::meet;
 use crate::parts::Parts;
 use crate::scribe::{Pens, Scribe};
 use crate::shared::Shared;
@@ -40,7 +39,6 @@ use std::marker::PhantomData;
 use std::sync::{Mutex, MutexGuard, Wait};
 use xh_arena::Vault;
 use xh_calls::{Arenas, Bundle, Heap, Names};
-use xh_channel::Channels;
 use xh_core::{Glance, Refused};
 use xh_glance::{Glances, Look, Pen};
 use xh_history::{Front, Histories};
@@ -59,14 +57,13 @@ pub struct Kernel<N: Names> {
 }
 
 /// What a kernel was: the vaults by arena, the places by number, which hold all seats of the records, the
-/// pens of each place's glances and history, the records, the channels, the glances and the histories.
+/// pens of each place's glances and history, the records, the glances and the histories.
 #[derive(Drop)]
 pub struct Settled {
     pub vaults: Vec<Vault>,
     pub places: Vec<Place>,
     pub pens: Vec<Pens>,
     pub records: Records<Body>,
-    pub channels: Channels,
     pub glances: Glances,
     pub histories: Histories<Call>,
 }
@@ -80,7 +77,6 @@ fn lock_place<N: Names>(
 ) -> Result<CachePadded<Mutex<Held<N>>>, Refused>
     requires records { records.now ≡ N.parts.records }
     requires seat { IsSeatOf N.parts.records seat × (seat.lots ≡ []) × (seat.process < PLACES) }
-    requires lines { seat.lines ≡ N.parts.lines }
     requires glances { pens.glances ≡ fresh_pen N.parts.glances seat.process }
     requires history { pens.history ≡ histories.fresh_pen N.parts.histories seat.process }
     ensures { IfErr result (λ e. e ≡ Refused.OutOfMemory) }
@@ -104,7 +100,7 @@ fn lock_places<N: Names>(
     unwritten: Vec<xh_history::Pen<Call>>,
 ) -> Result<Vec<CachePadded<Mutex<Held<N>>>>, Refused>
     requires records { records.now ≡ N.parts.records }
-    requires seats { AreSeats N.parts seats.items }
+    requires seats { AreSeats N.parts.records seats.items }
     requires pens { ArePens N.parts.glances pens.items }
     requires unwritten { AreUnwritten N.parts.histories unwritten.items }
     ensures count { IfOk result (λ l. vec_len l ≡ PLACES) }
@@ -284,7 +280,7 @@ impl<N: Names> Kernel<N> {
         ensures vaults { IfOk result (λ s. (vault_names s.vaults.items ≡ N.parts.records.shape.names) × All (IsOpen N.parts) s.vaults.items × (vec_len s.vaults ≤ MAX_ARENAS)) }
         ensures places { IfOk result (λ s. All (IsPlaceOf s.records) (places_of s.places.items) × (vec_len s.places ≡ s.records.shape.places)) }
         ensures kept { IfOk result (λ s. AreKept N.parts s.places.items s.pens.items) }
-        ensures tables { IfOk result (λ s. (s.records ≡ N.parts.records) × (s.channels.lines.items ≡ N.parts.lines) × (s.glances ≡ N.parts.glances) × (s.histories ≡ N.parts.histories)) }
+        ensures tables { IfOk result (λ s. (s.records ≡ N.parts.records) × (s.glances ≡ N.parts.glances) × (s.histories ≡ N.parts.histories)) }
         ensures refused { IfErr result (λ e. e ≡ Refused.OutOfMemory) }
     {
         let Kernel { shared, places } = self;
@@ -295,7 +291,7 @@ impl<N: Names> Kernel<N> {
         } = shared;
         let Heap {
             records,
-            channels,
+            channels: _,
             arenas,
         } = heap;
         let vaults = arenas.into_vaults(alloc)?;
@@ -305,15 +301,14 @@ impl<N: Names> Kernel<N> {
             places,
             pens,
             records,
-            channels,
             glances,
             histories,
         })
     }
 
-    /// Takes the kernel apart as `settle` does, compares what its workers have seen with the histories and the
-    /// glances of its places, and lets what each place has heard of the ends of channels meet what each has. The
-    /// accounts and the looks of all workers are handed in, in any order. OutOfMemory where a growth was refused.
+    /// Takes the kernel apart as `settle` does, and compares what its workers have seen with the histories and the
+    /// glances of its places. The accounts and the looks of all workers are handed in, in any order. OutOfMemory
+    /// where a growth was refused.
     pub fn finish(
         self,
         alloc: Global,
@@ -327,20 +322,18 @@ impl<N: Names> Kernel<N> {
         ensures count { IfOk result (λ f. vec_len f.accounts ≡ vec_len accounts) }
         ensures same { IfOk result (λ f. tallies_of f.accounts.items ≡ tallies_of accounts.items) }
         ensures seen { IfOk result (λ f. WereSeen N.parts f.places.items accounts.items looks.items) }
-        ensures met { IfOk result (λ f. HaveMetAll f.places.items) }
         ensures refused { IfErr result (λ e. e ≡ Refused.OutOfMemory) }
     {
+        let settled = self.settle(alloc)?;
         let Settled {
             vaults,
-            mut places,
+            places,
             pens,
             records,
-            channels,
             glances,
             histories,
-        } = self.settle(alloc)?;
+        } = settled;
         let accounts = compare(&glances, &histories, pens, accounts, looks)?;
-        meet(&channels, places.as_mut_slice());
         Ok(Finished {
             vaults,
             places,

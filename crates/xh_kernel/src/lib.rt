@@ -7,7 +7,6 @@ mod finishing;
 mod held;
 mod kernel;
 mod looking;
-mod meeting;
 mod parts;
 mod scribe;
 mod shared;

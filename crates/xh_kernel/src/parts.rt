@@ -4,7 +4,7 @@ ghost use Rattle.xh_calls.specs.Parts.{AreMadeBy, ArePartsLimits};
 
 use crate::call::Call;
 use std::alloc::Global;
-use std::marker::{Brand, Model};
+use std::marker::Model;
 use xh_arena::Vault;
 use xh_calls::{Bundle, Makings, make_vaults};
 use xh_channel::Channels;
@@ -42,9 +42,9 @@ impl Model for Parts {
 
     ghost Value = { PartsOf };
 
-    ghost view = { λ p. parts_of p.records (vec_len p.bundles) p.config p.channels p.glances p.histories p.vault_histories };
+    ghost view = { λ p. parts_of p.records (vec_len p.bundles) p.config p.channels.depth p.glances p.histories p.vault_histories };
 
-    ghost invariant = { λ p. AreParts (parts_of p.records (vec_len p.bundles) p.config p.channels p.glances p.histories p.vault_histories)
+    ghost invariant = { λ p. AreParts (parts_of p.records (vec_len p.bundles) p.config p.channels.depth p.glances p.histories p.vault_histories)
         p.vaults.items p.seats.items p.pens.items p.bundles.items p.looks.items p.unwritten.items p.fronts.items p.vault_pens.items p.seen.items };
 }
 
@@ -60,11 +60,11 @@ fn make_parts(alloc: Global, config: Config, workers: u8) -> Result<Parts, Refus
         names,
         bundles,
     } = make_vaults(alloc, config, workers)?;
-    let channels = Channels::new(alloc, config.depth)?;
-    let made = Records::new::<Brand, _>(alloc, lots, names, config.records, PLACES, &channels);
+    let made = Records::new(alloc, lots, names, config.records, PLACES);
     let Ok((records, seats)) = made else {
         return Err(Refused::OutOfMemory);
     };
+    let channels = Channels::new(alloc, config.depth)?;
     let (glances, pens, looks) = Glances::new(alloc, workers)?;
     let (histories, unwritten, fronts) = Histories::new(alloc, workers)?;
     let (vault_histories, vault_pens, seen) = Histories::new(alloc, workers)?;

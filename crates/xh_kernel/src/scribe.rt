@@ -1,6 +1,5 @@
 //! What is written down of a place: what looks see without its lock, and its history.
 ghost use Rattle.std.specs.Prelude.{◌≡◌, ◌↔◌, ◌<◌, ◌^◌, ◌++◌, List, Some, length, true};
-ghost use Rattle.xh_calls.specs.Places.{IsPlaceIn};
 ghost use Rattle.xh_core.specs.declared.glance.Glance.{Glance};
 ghost use Rattle.xh_core.specs.Statuses.{is_over};
 ghost use Rattle.xh_glance.specs.Words.{IsPackable};
@@ -10,7 +9,7 @@ ghost use Rattle.xh_kernel.specs.Kept.{AreOf, AreOwn, IsNext};
 ghost use Rattle.xh_kernel.specs.Places.{IsLawful, IsTold, last_of};
 ghost use Rattle.xh_model.specs.declared.limits.TheConstants.{GENERATIONS};
 ghost use Rattle.xh_model.specs.Words.{generation_of, place_of};
-ghost use Rattle.xh_place.specs.Places.{AreBlocks, PlaceOf, glance_of};
+ghost use Rattle.xh_place.specs.Places.{AreBlocks, IsPlaceOf, PlaceOf, glance_of};
 ghost use Rattle.xh_place.specs.Seen.{PlaceSeen, SeesMore, Stays};
 
 use crate::call::Call;
@@ -143,7 +142,7 @@ impl Scribe {
         ghost call: { Call }
         requires pens { AreOwn N.parts self.old.pens }
         requires front { (front.old.table ≡ N.parts.histories) × (front.old.number < N.parts.workers) }
-        requires place { IsPlaceIn N.parts place.now.place × (place_of place.now.place.process ≡ self.old.pens.glances.number) × (generation_of place.now.place.process < GENERATIONS) }
+        requires place { IsPlaceOf N.parts.records place.now.place × (place_of place.now.place.process ≡ self.old.pens.glances.number) × (generation_of place.now.place.process < GENERATIONS) }
         requires does { (old : PlaceSeen) × (from : PlaceSeen) × IsTold old.place self.old.pens.glances × AreOf N.parts self.old.pens old × Stays old from
             × Does N.parts call from place.now × SeesMore from place.now }
         ensures pens { AreOwn N.parts self.new.pens × (self.new.pens.glances.number ≡ self.old.pens.glances.number) }

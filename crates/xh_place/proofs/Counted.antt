@@ -1,7 +1,6 @@
 -- A worker's tallies and desk.
 use Rattle.xh_place.proofs.Words.{◌≡◌, ℕ, zero, suc, ◌+◌, ◌<◌, List, [], ◌∷◌, length, get_or, set, refl, sym, ap, ◌∙◌, subst, arith, Some, slice_get, TableId, TallyOf, ids_of, took, gave, Held}
-use Rattle.xh_place.proofs.Words.{Body, IsSameDesk, IsSeatAt, Item, with_blocks, IsSamePlace, PlaceSeen, SeesMore, Stays}
-use Rattle.xh_place.proofs.Seeing.{sees_more}
+use Rattle.xh_place.proofs.Words.{Body, IsSameDesk, IsSeatAt, Item, with_blocks, IsSamePlace, PlaceSeen, SeesMore}
 use Rattle.xh_place.specs.declared.desk.Desk.{Desk}
 
 pub ids_long : (ts : List TallyOf) → length (ids_of ts) ≡ length ts
@@ -52,16 +51,6 @@ module _ {R V G : Type 0} (names : V → List TableId) where
       (h.0 ∙ at.1.0 ∙ sym (ap (λ s. s.names) shape), h.2 ∙ at.1.1 ∙ sym (ap (λ s. s.names) shape)),
     )
 
--- a place that stays the same through several calls
-pub stays_more : {a b c : PlaceSeen} → Stays a b → Stays b c → Stays a c
-stays_more one two = (two.0 ∙ one.0, sees_more one.1 two.1)
-
-pub same_stays : {a b : PlaceSeen} → Stays a b → IsSamePlace a b
-same_stays h = (ap (λ p. p.table) h.0, ap (λ p. p.shape) h.0, ap (λ p. p.lines) h.0, ap (λ p. p.process) h.0, h.1)
-
-pub same_more : {a b c : PlaceSeen} → IsSamePlace a b → IsSamePlace b c → IsSamePlace a c
-same_more one two = (two.0 ∙ one.0, two.1 ∙ one.1, two.2 ∙ one.2, two.3 ∙ one.3, sees_more one.4 two.4)
-
 -- a place with other blocks is the same place
 pub same_place : (old new : PlaceSeen) (xs : List (ℕ × Item)) → new.place ≡ with_blocks old.place xs → SeesMore old new → IsSamePlace old new
-same_place old new xs e more = (ap (λ p. p.table) e, ap (λ p. p.shape) e, ap (λ p. p.lines) e, ap (λ p. p.process) e, more)
+same_place old new xs e more = (ap (λ p. p.table) e, ap (λ p. p.shape) e, ap (λ p. p.process) e, more)

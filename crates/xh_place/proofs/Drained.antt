@@ -1,23 +1,33 @@
 -- An endpoint of a place that takes one message after another.
-use Rattle.xh_place.specs.Seen.{Knows}
-use Rattle.xh_place.proofs.Words.{on_err_weaker, ◌≡◌, ℕ, ◌≤◌, inl, inr, List, [], ◌∷◌, ◌++◌, append_assoc, append-nil, length, refl, sym, ap, ◌∙◌, subst, Some, Option, Ok, Err, Result}
+use Rattle.xh_place.proofs.Words.{on_err_weaker, ◌≡◌, ℕ, ◌≤◌, inl, inr, List, [], ◌∷◌, ◌++◌, append_assoc, append-nil, length, refl, sym, ap, ◌∙◌, subst, Some, None, Option, Ok, Err, Result}
 use Rattle.xh_place.proofs.Words.{MatchResult, Message, Posted, Refused, put, value_at, front_at, put_at, put_same, put_twice, Content, bytes, endpoint, kind_of, toward, Taken, AreGot}
 use Rattle.xh_place.proofs.Words.{AreUnpacked, EndsWith, IsDrained, Shuts, TakesEach, EndDoes, end_block, toward_in, away_in, Clears, Drains, IsUntaken, Unpacks, IsSent}
 use Rattle.xh_place.proofs.Words.{IsOf, IsUnpacked, Laid, Noted, TakesNone, TakesOne}
 use Rattle.xh_place.proofs.Words.{IsTaken, Item, PlaceOf, with_blocks, with_more, IsSeen, PlaceSeen, SawAfter, Stays, Event, Pass}
-use Rattle.xh_place.proofs.Words.{AllReceived, IsKnown, true, false, ⊎_elim, ◌+◌, arith}
+use Rattle.xh_place.proofs.Words.{true, false, ⊎_elim, ◌+◌, arith}
 use Rattle.std.proofs.Common.{true≢false}
 use Rattle.std.proofs.lemmas.Bool.{false_from_ne_true}
 use Rattle.xh_channel.specs.declared.counts.Counts.{Counts}
 use Rattle.xh_channel.specs.declared.refused.Refused.{Refused as NoMessage}
 use Rattle.xh_model.specs.declared.limits.TheConstants.{MAX_MESSAGES}
 use Rattle.xh_place.proofs.Listing.{put_front}
-use Rattle.xh_place.proofs.Ends.{found_none, one_end, way_shut, way_taken}
-use Rattle.xh_place.proofs.Seeing.{all_got_as, unpacked_as, away_as, came_before, seen_wide, sees_same}
+use Rattle.xh_place.proofs.Ends.{found_none, way_shut, way_taken}
+use Rattle.xh_place.proofs.Seeing.{all_got_as, unpacked_as, away_as, came_before, seen_wide, starts_same}
 use Rattle.xh_place.proofs.Moves.{more_none, more_twice}
 use Rattle.xh_core.specs.declared.header.Kind.TheVariants as kind
 
 -- ---- one endpoint
+
+abbrev end_of : Posted → Content → Posted
+end_of p (bytes xs) = p
+end_of p (endpoint q) = q
+
+abbrev end_in : Posted → Option Item → Posted
+end_in p None = p
+end_in p (Some x) = end_of p x.content
+
+one_end : (p q : Posted) → Some (end_block p) ≡ Some (end_block q) → p ≡ q
+one_end p q e = ap (end_in p) e
 
 each_more : (ms : List Laid) (x : Laid) (old mid new : Posted) → TakesEach ms old mid → TakesOne x mid new → TakesEach (ms ++ x ∷ []) old new
 each_more [] x old mid new each one = (new, subst (λ (p : Posted). TakesOne x p new) each one, refl)
@@ -50,14 +60,6 @@ ends_drained ms old shut new shuts drain has =
     ⊎_elim
     (λ (none : (why : NoMessage) × TakesNone why last new). found_none none.0 last new none.1 still (stays.1 ∙ ap (λ (c : Counts). c.shut) shuts.0))
     (λ (many : (18446744073709551615 ≤ length ms) × (new ≡ last) × (last.has_contract ≡ false)). absurd (true≢false (sym still ∙ many.2)))
-    drain.2
-
-ends_ruled : (ms : List Laid) (old shut new : Posted) → Shuts old shut → IsDrained ms shut new → old.has_contract ≡ true → new.has_contract ≡ true
-ends_ruled ms old shut new shuts drain has =
-    let last : Posted = drain.0 in let still : last.has_contract ≡ true = (each_stays ms shut last drain.1).0 ∙ shuts.1.0.0.has_contract ∙ has in
-    ⊎_elim
-    (λ (none : (why : NoMessage) × TakesNone why last new). none.1.same.has_contract ∙ still)
-    (λ (many : (18446744073709551615 ≤ length ms) × (new ≡ last) × (last.has_contract ≡ false)). ap (λ (p : Posted). p.has_contract) many.1 ∙ still)
     drain.2
 
 each_way : (ms : List Laid) (old new : Posted) → TakesEach ms old new → toward (endpoint new) ≡ toward (endpoint old)
@@ -152,17 +154,9 @@ module _ (saw : Option Noted → ℕ → ℕ → Type 0) (e : ℕ) (ms : List La
   pub drained_all : 18446744073709551615 ≤ length ms → Drains saw e old mid
   drained_all all = (is.0, is.1, ms, (before, after, is.2.2, is.2.3, (after, is.2.4, inr (all, refl, each_many ms before after is.2.4 all))), is.3, is.4)
 
--- where it is then
-pub drained_at : (saw : Option Noted → ℕ → ℕ → Type 0) (e : ℕ) (old new : PlaceOf) → (drain : Drains saw e old new) → value_at e new.blocks ≡ Some (end_block drain.3.1)
-drained_at saw e old new drain =
-    let does = drain.3 in ap (λ (p : PlaceOf). value_at e p.blocks) drain.5
-    ∙ front_at e (end_block does.1) drain.0.blocks drain.1 (ap (λ (p : PlaceOf). value_at e p.blocks) does.3 ∙ put_at e (end_block does.1) (end_block does.0) old.blocks does.2)
-
 -- it was shut before
-pub cleared : (saw : Option Noted → ℕ → ℕ → Type 0) (first last : PlaceSeen) → ((note : Option Noted) (r word : ℕ) → saw note r word → IsSeen first last note r word) → (r : ℕ) (old mid new : PlaceOf)
-    → EndDoes r old mid Shuts → (drain : Drains saw r mid new) → AllReceived (IsKnown first last) drain.3.1
-    → (drain.3.1.has_contract ≡ true → Knows last drain.3.1) → Clears first last r old new
-cleared saw first last seen r old mid new shut drain received knows =
+pub cleared : (saw : Option Noted → ℕ → ℕ → Type 0) (r : ℕ) (old mid new : PlaceOf) → EndDoes r old mid Shuts → Drains saw r mid new → Clears saw r old new
+cleared saw r old mid new shut drain =
     let p : Posted = shut.0 in let s : Posted = shut.1 in let does = drain.3 in let q : Posted = does.1 in let ms : List Laid = drain.2 in
     let at : value_at r mid.blocks ≡ Some (end_block s) = ap (λ (z : PlaceOf). value_at r z.blocks) shut.3 ∙ put_at r (end_block s) (end_block p) old.blocks shut.2 in
     let one : does.0 ≡ s = one_end does.0 s (sym does.2 ∙ at) in
@@ -175,24 +169,13 @@ cleared saw first last seen r old mid new shut drain received knows =
       drain.1,
       shut.2,
       refl,
-      (
-        ms,
-        s,
-        q,
-        shut.4,
-        drained',
-        subst (λ (n : ℕ). AreUnpacked (IsSeen first last) n ms drain.1) turned
-            (unpacked_as saw (IsSeen first last) seen (toward_in (value_at r mid.blocks)) ms drain.1 drain.4),
-        ends_drained ms p s q shut.4 drained',
-        received,
-        λ has. knows (ends_ruled ms p s q shut.4 drained' has),
-      ),
+      (ms, s, q, shut.4, drained', subst (λ (n : ℕ). AreUnpacked saw n ms drain.1) turned drain.4, ends_drained ms p s q shut.4 drained'),
       drain.5 ∙ (λ i. with_more (turned i) drain.1 (base i)),
     )
 
 -- nothing came with bytes
-pub cleared_bytes : (first last : PlaceSeen) (r : ℕ) (x : Item) (old new : PlaceOf) → value_at r old.blocks ≡ Some x → kind_of x.content ≡ kind.Data → new ≡ old → Clears first last r old new
-cleared_bytes first last r x old new at plain same = (
+pub cleared_bytes : (saw : Option Noted → ℕ → ℕ → Type 0) (r : ℕ) (x : Item) (old new : PlaceOf) → value_at r old.blocks ≡ Some x → kind_of x.content ≡ kind.Data → new ≡ old → Clears saw r old new
+cleared_bytes saw r x old new at plain same = (
   x,
   x,
   [],
@@ -201,7 +184,7 @@ cleared_bytes first last r x old new at plain same = (
   none x.content plain,
   same ∙ more_none (toward x.content) old ∙ ap (λ (l : List (ℕ × Item)). with_more (toward x.content) [] (with_blocks old l)) (sym (put_same r x old.blocks at)),
 ) where
-  none : (c : Content) → kind_of c ≡ kind.Data → EndsWith first last c []
+  none : (c : Content) → kind_of c ≡ kind.Data → EndsWith saw c []
   none (bytes xs) e = refl
   none (endpoint p) e = absurd (cc)
 
@@ -210,7 +193,7 @@ cleared_bytes first last r x old new at plain same = (
 pub taken_from : (e : ℕ) (old mid new : PlaceSeen) (result : Result Taken Refused) → Stays old mid → MatchResult result (IsTaken e mid new) (IsUntaken e mid.place new.place)
     → MatchResult result (IsTaken e old new) (IsUntaken e old.place new.place)
 taken_from e old mid new (Ok taken) same is =
-    let x : Laid = is.1 in let wide = seen_wide mid new old new (ap (λ (p : PlaceOf). p.shape) same.0) same.1 (sees_same new) x.note in
+    let x : Laid = is.1 in let wide = seen_wide mid new old new (ap (λ (p : PlaceOf). p.shape) same.0) same.1 (starts_same refl) x.note in
     subst (λ (p : PlaceOf). (z : PlaceOf) × (x : Laid) × EndDoes e p z (TakesOne x) × Unpacks (IsSeen old new x.note) (toward_in (value_at e p.blocks)) x.message z new.place taken
     × IsOf p.table x.note) same.0
     (is.0, x, is.2, unpacks_as (IsSeen mid new x.note) (IsSeen old new x.note) wide (toward_in (value_at e mid.place.blocks)) x.message is.0 new.place taken is.3, is.4)
@@ -218,8 +201,8 @@ taken_from e old mid new (Err refused) same is = subst (λ (p : PlaceOf). IsUnta
 
 pub sent_from : (e tag : ℕ) (given : List ℕ) (old mid new : PlaceSeen) (result : Result ℕ Refused) → Stays old mid → IsSent e tag given mid new result → IsSent e tag given old new result
 sent_from e tag given old mid new result same is =
-    let seen : PlaceSeen = record { place = mid.place; front = old.front; ends = old.ends } in
-    subst (λ (p : PlaceOf). IsSent e tag given (record { place = p; front = old.front; ends = old.ends }) new result) same.0 (record {
+    let seen : PlaceSeen = record { place = mid.place; front = old.front } in
+    subst (λ (p : PlaceOf). IsSent e tag given (record { place = p; front = old.front }) new result) same.0 (record {
       mid = is.mid;
       blocks = is.blocks;
       answered = is.answered;
@@ -227,13 +210,11 @@ sent_from e tag given old mid new result same is =
       all = is.all;
       records = is.records;
       note = is.note;
-      noted = (is.noted.0, λ r among. came_before (Pass mid.place.process r (away_in (value_at e mid.place.blocks))) old.front same.1.front (is.noted.1 r among));
+      noted = (is.noted.0, λ r among. came_before (Pass mid.place.process r (away_in (value_at e mid.place.blocks))) old.front same.1 (is.noted.1 r among));
       made = is.made;
       moved = is.moved;
       lost = on_err_weaker is.answered (λ h r among.
           let d : ℕ = away_in (value_at e mid.place.blocks) in let passed : Event = Pass mid.place.process r d in
-          away_as (SawAfter passed mid new) (SawAfter passed seen new) (λ q word w. (w.0, came_before passed old.front same.1.front w.1, w.2)) d r (h r among)) is.lost;
+          away_as (SawAfter passed mid new) (SawAfter passed seen new) (λ q word w. (w.0, came_before passed old.front same.1 w.1, w.2)) d r (h r among)) is.lost;
       answer = is.answer;
-      knows = is.knows;
-      paired = is.paired;
     })

@@ -1,13 +1,9 @@
 -- A seat that has gained a record, or two at once.
-use Rattle.xh_place.proofs.Words.{length, IsOnLine, line_at, endpoint, Option, LineTelling, ◌≡◌, ℕ, ◌<◌, ◌≤◌, List, [], ◌∷◌, ◌++◌, length, sym, ap, ◌∙◌, subst, true, eq-eqb, eqb, arith, rules, Some}
-use Rattle.xh_place.proofs.Words.{◌&&◌, nat_le, nat_lt, LotOf, Among, keys, value_at, put}
-use Rattle.xh_place.proofs.Words.{Family, IsOwn, own_of, without, last_at, last_put, last_without, IsLotOf, Held, with_lots, HasNow, bare, Body, Nothing, Data, End, bytes, content_of, fits_in}
+use Rattle.xh_place.proofs.Words.{◌≡◌, ℕ, ◌<◌, ◌≤◌, List, [], ◌∷◌, ◌++◌, length, sym, ap, ◌∙◌, subst, true, eq-eqb, eqb, arith, rules, Some, ◌&&◌, nat_le, nat_lt, LotOf, Among, keys, value_at, put}
+use Rattle.xh_place.proofs.Words.{IsOwn, None, TableId, log_of, without, last_at, last_put, last_without, IsLotOf, Held, with_lots, HasNow, bare, Body, Nothing, Data, End, bytes, content_of, fits_in}
 use Rattle.xh_place.proofs.Words.{◌≢◌, ◌+◌, ⊎_elim}
 use Rattle.xh_place.proofs.Words.{append_assoc, refl, Status, among_either, keys_push, last_other, put_split, IsRecord, Item, with_blocks, item_at, item_of, shown, IsPlace, is_over}
-use Rattle.xh_channel.specs.Pairs.{IsPair, IsUnused}
-use Rattle.xh_channel.specs.Queues.{IsRenamed}
-use Rattle.xh_place.proofs.Words.{Posted, TableId}
-use Rattle.xh_place.specs.inner.Opening.{AreMade, HasTwoMore, fresh}
+use Rattle.xh_place.specs.inner.Opening.{AreMade, HasTwoMore}
 use Rattle.xh_place.proofs.Steps.{IsNow, list_room, won}
 
 module _ (seat new : Held Body) (r : ℕ) (l : LotOf Body) (is : HasNow seat (seat.lots ++ (r, l) ∷ []) new) (fresh : Among (keys seat.lots) r → ⊥) where
@@ -31,37 +27,14 @@ fits_bytes (Data v) xs n e long some most = let same : v.items ≡ xs = cc in le
     let b : nat_le n 1048576 ≡ true = search rules in let d : nat_lt 0 n ≡ true = search rules in (λ i. a i && (d i && b i))
 fits_bytes (End p) xs n e long some most = absurd (cc)
 
--- bytes are of any family
-pub bytes_own : (f : Family) (l : LotOf Body) (xs : List ℕ) → content_of l.body ≡ bytes xs → IsOwn own_of f l
-bytes_own f l xs e = λ some. go l.body e where
-  go : (b : Body) → content_of b ≡ bytes xs → own_of b f
-  go Nothing h = tt
-  go (Data v) h = tt
-  go (End p) h = absurd (cc)
+no_log : (b : Body) (xs : List ℕ) → content_of b ≡ bytes xs → log_of b ≡ None
+no_log Nothing xs e = refl
+no_log (Data v) xs e = refl
+no_log (End p) xs e = absurd (cc)
 
--- an endpoint that took nothing needs no receipt
-pub fresh_own : (f : Family) (end : Posted) → end.log ≡ f.table → IsUnused end → IsOnLine f.lines (endpoint end) → own_of (End (fresh end)) f
-fresh_own f end log unused line = (log, (tt, ([], sym unused.got, sym unused.got_notes, λ x among. absurd among)), line, ap length unused.pushed_notes ∙ sym (ap length unused.pushed))
-
--- the other end of a pair is on the same line
-pub pair_line : (lines : List TableId) (low high : Posted) → IsPair low high → IsOnLine lines (endpoint low) → IsOnLine lines (endpoint high)
-pair_line lines low high pair on = λ has. (omega (arith, pair.high_side), pair.line ∙ (on (sym pair.contract ∙ has)).1 ∙ ap (line_at lines) (sym pair.channel))
-
--- the log of its notes is another
-pub renamed_unused : (log : TableId) (old new : Posted) → IsRenamed log old new → IsUnused old → IsUnused new
-renamed_unused log old new is unused = subst IsUnused (sym is) record {
-  counts = unused.counts;
-  sent = unused.sent;
-  pushed = unused.pushed;
-  got = unused.got;
-  sent_notes = unused.sent_notes;
-  pushed_notes = unused.pushed_notes;
-  got_notes = unused.got_notes;
-  peer_shut = unused.peer_shut;
-  told_put = unused.told_put;
-  told_taken = unused.told_taken;
-  drained = unused.drained;
-}
+-- bytes keep notes of no log
+pub bytes_own : (table : TableId) (l : LotOf Body) (xs : List ℕ) → content_of l.body ≡ bytes xs → IsOwn log_of table l
+bytes_own table l xs e = λ t some at. let f : None ≡ Some t = sym (no_log l.body xs e) ∙ at in absurd (cc)
 
 -- ---- a seat, and a place, that gained two records at once
 
@@ -98,25 +71,24 @@ module _ {arena : ℕ} {old new : Held Body} {r t : ℕ} {l m : LotOf Body} (two
   pub has_first : value_at r new.lots ≡ Some l
   has_first = ap (λ (h : Held Body). value_at r h.lots) then_other ∙ last_other r t m (with_one old r l).lots (λ e. two.apart (sym e)) ∙ last_at r l old.lots two.first_fresh
 
-module _ {seat last : Held Body} (rs : List ℕ) {room total : ℕ} {state : Status} {notes : List (Option LineTelling)} (is : IsPlace notes seat (shown seat.lots rs) room total state)
-    (alive : is_over state ≡ true → ⊥)
+module _ {seat last : Held Body} (rs : List ℕ) {room total : ℕ} {state : Status} (is : IsPlace seat (shown seat.lots rs) room total state) (alive : is_over state ≡ true → ⊥)
     {arena r t : ℕ} {l m : LotOf Body} (made : AreMade arena seat last r t l m) where
-  first_more : IsNow notes seat rs state (with_one seat r l) (rs ++ r ∷ []) room (total + l.len) (λ (es : List (ℕ × Item)). es ++ (r, item_of l) ∷ [])
+  first_more : IsNow seat rs state (with_one seat r l) (rs ++ r ∷ []) room (total + l.len) (λ (es : List (ℕ × Item)). es ++ (r, item_of l) ∷ [])
   first_more = won rs is (with_one seat r l) made.two.first_fresh refl made.first alive refl refl refl
 
   pub room_second : length (rs ++ r ∷ []) < room
   room_second = list_room (rs ++ r ∷ []) first_more.0 made.second (other_fresh made.two)
 
   pub opened : {ys : List ℕ} {room' n : ℕ} → ys ≡ (rs ++ r ∷ []) ++ t ∷ [] → room' ≡ room → n ≡ total + l.len + m.len
-      → IsNow notes seat rs state last ys room' n (λ (es : List (ℕ × Item)). es ++ (r, item_of l) ∷ (t, item_of m) ∷ [])
+      → IsNow seat rs state last ys room' n (λ (es : List (ℕ × Item)). es ++ (r, item_of l) ∷ (t, item_of m) ∷ [])
   opened {ys} {room'} {n} items same sum =
       let second = won (rs ++ r ∷ []) first_more.0 last (other_fresh made.two) (then_other made.two) made.second alive items same refl in (
-        subst (λ (z : ℕ). IsPlace notes last (shown last.lots ys) room' z state) (sym sum) second.0,
+        subst (λ (z : ℕ). IsPlace last (shown last.lots ys) room' z state) (sym sum) second.0,
         λ p e. second.1 (with_blocks p (p.blocks ++ (r, item_of l) ∷ [])) (first_more.1 p e) ∙ ap (with_blocks p) (append_assoc p.blocks ((r, item_of l) ∷ []) ((t, item_of m) ∷ [])),
       )
 
   -- both stand in the list
-  pub both_listed : (ys : List ℕ) {room' n : ℕ} → IsPlace notes last (shown last.lots ys) room' n state → {low high : Item} → item_of l ≡ low → item_of m ≡ high
+  pub both_listed : (ys : List ℕ) {room' n : ℕ} → IsPlace last (shown last.lots ys) room' n state → {low high : Item} → item_of l ≡ low → item_of m ≡ high
       → (value_at r (shown last.lots ys) ≡ Some low) × IsRecord last.shape r × (value_at t (shown last.lots ys) ≡ Some high) × IsRecord last.shape t
   both_listed ys {room'} {n} is' {low} {high} first second =
       let shape : seat.shape ≡ last.shape = sym (ap (λ (h : Held Body). h.shape) made.two.lots) in (

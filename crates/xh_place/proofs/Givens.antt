@@ -1,9 +1,8 @@
 -- What the tests of a give let through, its loops over its blocks, and the list that it settles with the seat.
-use Rattle.xh_place.proofs.Words.{AreOnLines, LineTelling, dec_among, map-append, arith, eqb, eq-eqb, ◌≡◌, ℕ, Bool, true, false, ⊎_elim, List, [], ◌∷◌, refl, sym, ap, ◌∙◌, ◌==◌, ◌||◌, ◌&&◌, Option}
-use Rattle.xh_place.proofs.Words.{Some, None, is_some}
+use Rattle.xh_place.proofs.Words.{dec_among, map-append, arith, eqb, eq-eqb, ◌≡◌, ℕ, Bool, true, false, ⊎_elim, List, [], ◌∷◌, refl, sym, ap, ◌∙◌, ◌==◌, ◌||◌, ◌&&◌, Option, Some, None, is_some}
 use Rattle.xh_place.proofs.Words.{nat_tests, list_all, list_any, first_refusal, Among, Distinct, value_at, given_tests, is_listed, Item, ◌≢◌, ◌+◌, ◌*◌, ◌≤◌, inl, inr, length, subst, cond, dite}
 use Rattle.xh_place.proofs.Words.{ℕ_discrete, LotOf, Status, is_over, keys, put, without, distinct_without, put_at, put_keys, put_other, without_at, without_other, Held, with_lots, HasNow, AreBack}
-use Rattle.xh_place.proofs.Words.{Family, family_of, lens, less_all, Body, item_at, item_of, item_in, shown, total_of, with_blocks, IsBlock, IsPlace, settle, settled, append-nil, length-append}
+use Rattle.xh_place.proofs.Words.{RecordsOf, records_of, lens, less_all, Body, item_at, item_of, item_in, shown, total_of, with_blocks, IsBlock, IsPlace, settle, settled, append-nil, length-append}
 use Rattle.xh_place.proofs.Words.{◌++◌, Event, Accept}
 use Rattle.xh_place.proofs.Words.{Pass, among_either, last_at, last_other, did, accepted_on, moves, passed_on, SeatSaw, SeatSeesMore, with_done, IsElsewhere, CameBack}
 use Rattle.xh_place.proofs.Words.{ArePassed, Came}
@@ -103,9 +102,8 @@ total_settled (r ∷ rs) was now xs once d held is =
     omega arith
 
 -- what was passed is at most all
-pub passed_below : {seat : Held Body} (rs given : List ℕ) {room total : ℕ} {state : Status} {notes : List (Option LineTelling)} → IsPlace notes seat (shown seat.lots rs) room total state
-    → Distinct given
-    → ((r : ℕ) → Among given r → (k : LotOf Body) × (value_at r seat.lots ≡ Some k) × IsBlock (family_of seat) r k) → {lost : ℕ} → lost ≡ lens given (λ r. value_at r seat.lots) → lost ≤ total
+pub passed_below : {seat : Held Body} (rs given : List ℕ) {room total : ℕ} {state : Status} → IsPlace seat (shown seat.lots rs) room total state → Distinct given
+    → ((r : ℕ) → Among given r → (k : LotOf Body) × (value_at r seat.lots ≡ Some k) × IsBlock (records_of seat) r k) → {lost : ℕ} → lost ≡ lens given (λ r. value_at r seat.lots) → lost ≤ total
 passed_below {seat} rs given {room} {total} {state} is d held {lost} all =
     let was : ℕ → Option (LotOf Body) = λ r. value_at r seat.lots in let none : ℕ → Option (LotOf Body) = λ r. None in
     let a = total_settled given was none (shown seat.lots rs) is.distinct d (λ r h. let k = held r h in (k.0, k.1)) (λ r h. is.same r) in
@@ -128,12 +126,12 @@ pub shown_look : (lots : List (ℕ × LotOf Body)) (rs : List ℕ) (r : ℕ) →
 shown_look lots rs r e = shown_if lots rs r ∙ ap (λ (b : Bool). cond b (Some (item_in (value_at r lots))) None) e ∙ item_if (value_at r lots)
 
 -- After a give, whatever came back: each given record has what its seat has for it now, and its old place; all others are as they were.
-settled_place : (seat last : Held Body) (rs ys given back : List ℕ) (room cap total total' : ℕ) (state : Status) {notes : List (Option LineTelling)} → (is_over state ≡ true → ⊥)
-    → IsPlace notes seat (shown seat.lots rs) room total state → Distinct given → ((r : ℕ) → Among given r → (k : LotOf Body) × (value_at r seat.lots ≡ Some k))
+settled_place : (seat last : Held Body) (rs ys given back : List ℕ) (room cap total total' : ℕ) (state : Status) → (is_over state ≡ true → ⊥)
+    → IsPlace seat (shown seat.lots rs) room total state → Distinct given → ((r : ℕ) → Among given r → (k : LotOf Body) × (value_at r seat.lots ≡ Some k))
     → HasNow seat last.lots last → ((q : ℕ) → (Among given q → ⊥) → value_at q last.lots ≡ value_at q seat.lots) → AreBack given back last
     → ys ≡ less_all given (λ r. list_any (λ q. q == r) back) rs → cap ≡ room → total' + lens given (λ r. value_at r seat.lots) ≡ total + lens given (λ r. value_at r last.lots)
-    → IsNow notes seat rs state last ys cap total' (settled given (λ r. item_at (value_at r last.lots)))
-settled_place seat last rs ys given back room cap total total' state {notes} alive is d held same others came items caps sum =
+    → IsNow seat rs state last ys cap total' (settled given (λ r. item_at (value_at r last.lots)))
+settled_place seat last rs ys given back room cap total total' state alive is d held same others came items caps sum =
     let xs : List (ℕ × Item) = shown seat.lots rs in let f : ℕ → Option Item = λ r. item_at (value_at r last.lots) in
     let shape : last.shape ≡ seat.shape = ap (λ (h : Held Body). h.shape) same in
     let all : total_of (settled given f xs) + lens given (λ r. value_at r seat.lots) ≡ total_of xs + lens given (λ r. value_at r last.lots) =
@@ -148,24 +146,21 @@ settled_place seat last rs ys given back room cap total total' state {notes} ali
           (λ n. settled_other q given f xs n ∙ is.same q ∙ sym (ap item_at (others q n)));
       blocks = λ q k a. dite (dec_among given q)
           (λ b. came.good q k b a)
-          (λ n. subst (λ (s : Family). IsBlock s q k) (sym (ap family_of same)) (is.blocks q k (sym (others q n) ∙ a)));
+          (λ n. subst (λ (s : RecordsOf). IsBlock s q k) (sym (ap records_of same)) (is.blocks q k (sym (others q n) ∙ a)));
       distinct = distinct_settled given f xs is.distinct;
       sum = omega arith;
       room = subst (λ s. (length s.names * s.records ≤ room) × (length s.names ≤ 8)) (sym shape) is.room;
       quiet = quiet_alive state (settled given f xs) alive;
-      lines = subst (λ (h : Held Body). AreOnLines h.lines notes) (sym same) is.lines;
     }) (items ∙ sym numbers) caps refl
 
 -- the same where the end e did something
-module _ {seat last : Held Body} (rs : List ℕ) {ys given back : List ℕ} {room cap total total' : ℕ} {state : Status} {notes : List (Option LineTelling)} {e : ℕ} {l m : LotOf Body}
-    (alive : is_over state ≡ true → ⊥)
-    (is : IsPlace notes seat (shown seat.lots rs) room total state) (at : value_at e seat.lots ≡ Some l) (good : IsBlock (family_of seat) e m) (len : m.len ≡ l.len)
-    (now : value_at e last.lots ≡ Some m)
-    (d : Distinct given) (apart : Among given e → ⊥) (held : (r : ℕ) → Among given r → (k : LotOf Body) × (value_at r seat.lots ≡ Some k) × IsBlock (family_of seat) r k)
+module _ {seat last : Held Body} (rs : List ℕ) {ys given back : List ℕ} {room cap total total' : ℕ} {state : Status} {e : ℕ} {l m : LotOf Body} (alive : is_over state ≡ true → ⊥)
+    (is : IsPlace seat (shown seat.lots rs) room total state) (at : value_at e seat.lots ≡ Some l) (good : IsBlock (records_of seat) e m) (len : m.len ≡ l.len) (now : value_at e last.lots ≡ Some m)
+    (d : Distinct given) (apart : Among given e → ⊥) (held : (r : ℕ) → Among given r → (k : LotOf Body) × (value_at r seat.lots ≡ Some k) × IsBlock (records_of seat) r k)
     (same : HasNow seat last.lots last) (others : (q : ℕ) → (Among given q → ⊥) → e ≢ q → value_at q last.lots ≡ value_at q seat.lots) (came : AreBack given back last)
     (items : ys ≡ less_all given (λ r. list_any (λ q. q == r) back) rs) (caps : cap ≡ room)
     (sum : total' + lens given (λ r. value_at r seat.lots) ≡ total + lens given (λ r. value_at r last.lots)) where
-  pub given_place : IsNow notes seat rs state last ys cap total' (λ (xs : List (ℕ × Item)). settled given (λ r. item_at (value_at r last.lots)) (put e (item_of m) xs))
+  pub given_place : IsNow seat rs state last ys cap total' (λ (xs : List (ℕ × Item)). settled given (λ r. item_at (value_at r last.lots)) (put e (item_of m) xs))
   given_place =
       let mid : Held Body = with_lots seat (put e m seat.lots) in
       let turn = turned rs is mid at refl good len in
@@ -253,14 +248,14 @@ accepting_none d given seat back new none once = subst (λ (l : List ℕ). IsAcc
 pub accepting : (d : ℕ) (given more : List ℕ) (r bytes n : ℕ) (old seat last : Held Body) (back new : List ℕ) → Distinct given → Among given r → IsAccepting d given (r ∷ more) old seat back bytes
     → CameBack d r seat last back new n → IsAccepting d given more old last new (bytes + n)
 accepting d given more r bytes n old seat last back new once among is came = ⊎_elim
-    (λ h. let lots : last.lots ≡ seat.lots = ap (λ (k : Held Body). k.lots) h.1 in let home : family_of seat ≡ family_of last = sym (ap family_of h.1) in
+    (λ h. let lots : last.lots ≡ seat.lots = ap (λ (k : Held Body). k.lots) h.1 in let home : records_of seat ≡ records_of last = sym (ap records_of h.1) in
     let sum : bytes + n ≡ bytes = (let z : n ≡ 0 = h.2 in omega arith) in
     subst (λ (z : List ℕ). IsAccepting d given more old last z (bytes + n)) (sym h.0) (
       own_lots (with_done (accepted_on old.process d back) old) last _ (h.1 ∙ is.0),
       record {
         here = λ q a. is.1.here q a ∙ ap (λ (l : List (ℕ × LotOf Body)). is_some (value_at q l)) (sym lots);
         only = is.1.only;
-        good = λ q m a f. subst (λ (s : Family). IsBlock s q m) home (is.1.good q m a (ap (value_at q) (sym lots) ∙ f));
+        good = λ q m a f. subst (λ (s : RecordsOf). IsBlock s q m) home (is.1.good q m a (ap (value_at q) (sym lots) ∙ f));
       },
       (λ q a. ap (value_at q) lots ∙ is.2 q (inr a)),
       (λ q o. ap (value_at q) lots ∙ is.3 q o),
@@ -276,7 +271,7 @@ accepting d given more r bytes n old seat last back new once among is came = ⊎
     let mine : value_at r last.lots ≡ Some l = ap (value_at r) lots ∙ last_at r l seat.lots h.2 in
     let at : (q : ℕ) → r ≢ q → value_at q last.lots ≡ value_at q seat.lots = λ q o. ap (value_at q) lots ∙ last_other q r l seat.lots o in
     let any : (q : ℕ) → list_any (λ z. z == q) new ≡ (list_any (λ z. z == q) back || (r == q || false)) = λ q. ap (list_any (λ z. z == q)) h.1 ∙ list_any-append (λ z. z == q) back (r ∷ []) in
-    let home : family_of seat ≡ family_of last = sym (ap family_of h.3) in
+    let home : records_of seat ≡ records_of last = sym (ap records_of h.3) in
     let more_bytes : lens given (λ q. value_at q last.lots) ≡ lens given (λ q. value_at q seat.lots) + (item_in (value_at r last.lots)).len =
     lens_one given r (λ q. value_at q seat.lots) (λ q. value_at q last.lots) once among none at in
     let len : (item_in (value_at r last.lots)).len ≡ l.len = ap (λ (o : Option (LotOf Body)). (item_in o).len) mine in let told : n ≡ l.len = h.5 in
@@ -291,8 +286,8 @@ accepting d given more r bytes n old seat last back new once among is came = ⊎
             (among_either back (r ∷ []) q (subst (λ (ks : List ℕ). Among ks q) h.1 a));
         good = λ q m a f. dite (ℕ_discrete r q)
             (λ e. let two : Some l ≡ Some m = sym mine ∙ ap (λ (z : ℕ). value_at z last.lots) e ∙ f in let one : l ≡ m = cc in
-            subst (λ (z : ℕ × LotOf Body). IsBlock (family_of last) z.0 z.1) (λ i. (e i, one i)) (subst (λ (s : Family). IsBlock s r l) home h.4))
-            (λ o. subst (λ (s : Family). IsBlock s q m) home (is.1.good q m a (sym (at q o) ∙ f)));
+            subst (λ (z : ℕ × LotOf Body). IsBlock (records_of last) z.0 z.1) (λ i. (e i, one i)) (subst (λ (s : RecordsOf). IsBlock s r l) home h.4))
+            (λ o. subst (λ (s : RecordsOf). IsBlock s q m) home (is.1.good q m a (sym (at q o) ∙ f)));
       },
       (λ q a. at q (λ e. is.4.0 (subst (λ (z : ℕ). Among more z) (sym e) a)) ∙ is.2 q (inr a)),
       (λ q o. at q (λ e. o (subst (λ (z : ℕ). Among given z) e among)) ∙ is.3 q o),

@@ -3,7 +3,6 @@ pub mod Common
 pub mod Listing
 pub mod Steps
 pub mod Seeing
-pub mod Heard
 pub mod Moves
 pub mod Gained
 pub mod Counted
@@ -13,4 +12,3 @@ pub mod Found
 pub mod Parted
 pub mod Ends
 pub mod Drained
-pub mod Unpacked

@@ -1,6 +1,5 @@
 -- What a seat passed and accepted, and what its place shows of it.
-use Rattle.xh_place.proofs.Words.{Option, LineTelling, map, map-append, keys_append, ◌≡◌, ℕ, List, [], ◌∷◌, ◌++◌, append_assoc, append-nil, refl, sym, ap, ◌∙◌, LotOf, Status, Event, Claim, Vacate}
-use Rattle.xh_place.proofs.Words.{Pass, Accept, keys}
+use Rattle.xh_place.proofs.Words.{map, map-append, keys_append, ◌≡◌, ℕ, List, [], ◌∷◌, ◌++◌, append_assoc, append-nil, refl, sym, ap, ◌∙◌, LotOf, Status, Event, Claim, Vacate, Pass, Accept, keys}
 use Rattle.xh_place.proofs.Words.{Advances, Held, did, seen, with_lots, Body, moves, accepted_on, passed_on, there_and_back, HasNow, bare, with_done, IsPlace, Item, PlaceOf, with_moved, with_more}
 use Rattle.xh_place.proofs.Steps.{view_of}
 
@@ -52,9 +51,8 @@ moved_twice old mid last es fs one two =
 
 -- ---- a place whose seat did more
 
-pub heard : (es : List Event) {seat : Held Body} {xs : List (ℕ × Item)} {room total : ℕ} {state : Status} {notes : List (Option LineTelling)} → IsPlace notes seat xs room total state
-    → IsPlace notes (with_done es seat) xs room total state
-heard es {seat} {xs} {room} {total} {state} {notes} is = record { same = is.same; blocks = is.blocks; distinct = is.distinct; sum = is.sum; room = is.room; quiet = is.quiet; lines = is.lines }
+pub heard : (es : List Event) {seat : Held Body} {xs : List (ℕ × Item)} {room total : ℕ} {state : Status} → IsPlace seat xs room total state → IsPlace (with_done es seat) xs room total state
+heard es {seat} {xs} {room} {total} {state} is = record { same = is.same; blocks = is.blocks; distinct = is.distinct; sum = is.sum; room = is.room; quiet = is.quiet }
 
 pub heard_shows : (es : List Event) (seat : Held Body) {xs : List (ℕ × Item)} {state : Status} {p : PlaceOf} → moves es ≡ es → view_of seat xs state ≡ p
     → view_of (with_done es seat) xs state ≡ with_moved p es

@@ -1,9 +1,8 @@
 -- A block cut in two, and one in which some bytes were overwritten.
-use Rattle.xh_place.proofs.Words.{Option, LineTelling, ◌≡◌, ◌≢◌, ℕ, ◌+◌, ◌-◌, ◌/◌, ◌<◌, ◌≤◌, List, [], ◌∷◌, ◌++◌, length, drop, take, true, refl, sym, ap, ◌∙◌, subst, arith, rules, length-take-le}
-use Rattle.xh_place.proofs.Words.{length-drop, Some}
+use Rattle.xh_place.proofs.Words.{◌≡◌, ◌≢◌, ℕ, ◌+◌, ◌-◌, ◌/◌, ◌<◌, ◌≤◌, List, [], ◌∷◌, ◌++◌, length, drop, take, true, refl, sym, ap, ◌∙◌, subst, arith, rules, length-take-le, length-drop, Some}
 use Rattle.xh_place.proofs.Words.{None, LotOf, start, Tests, first_refusal, is_running, is_over, Status, Running, Among, keys, value_at, put, at_key, front_at, keys_push, last_put, put_keys}
 use Rattle.xh_place.proofs.Words.{IsLotOf, Held, IsRecord, IsSeatOf, with_lots, HasNow, IsCut, IsData, bare, Body, Nothing, Data, End, bytes, content_of, fits_in, front, kind_of, rest}
-use Rattle.xh_place.proofs.Words.{Family, RecordsOf, family_of, Item, item_at, item_of, shown, total_of, IsBlock, IsPlace, length-append, patched}
+use Rattle.xh_place.proofs.Words.{RecordsOf, records_of, Item, item_at, item_of, shown, total_of, IsBlock, IsPlace, length-append, patched}
 use Rattle.xh_model.specs.Arena.{IsGoodCut}
 use Rattle.xh_place.proofs.Listing.{put_front, shown_keys, total_put}
 use Rattle.xh_place.proofs.Gained.{bytes_own, fits_bytes, has}
@@ -35,16 +34,15 @@ data_of (Data v) n k e = (v.items, refl, search rules, search rules)
 data_of (End p) n k e = absurd (cc)
 
 -- the list and its place after the cut
-module _ {seat : Held Body} (last : Held Body) (rs : List ℕ) {ys : List ℕ} {room cap total : ℕ} {state : Status} {notes : List (Option LineTelling)} {r t : ℕ} {l h m : LotOf Body}
-    (alive : is_over state ≡ true → ⊥)
-    (is : IsPlace notes seat (shown seat.lots rs) room total state) (at : value_at r seat.lots ≡ Some l) (head : IsBlock (family_of seat) r h) (tail : IsBlock (family_of seat) t m)
+module _ {seat : Held Body} (last : Held Body) (rs : List ℕ) {ys : List ℕ} {room cap total : ℕ} {state : Status} {r t : ℕ} {l h m : LotOf Body} (alive : is_over state ≡ true → ⊥)
+    (is : IsPlace seat (shown seat.lots rs) room total state) (at : value_at r seat.lots ≡ Some l) (head : IsBlock (records_of seat) r h) (tail : IsBlock (records_of seat) t m)
     (fresh : Among (keys seat.lots) t → ⊥)
     (new : HasNow seat (put r h seat.lots ++ (t, m) ∷ []) last) (lens : h.len + m.len ≡ l.len) (items : ys ≡ rs ++ t ∷ []) (caps : cap ≡ room) where
-  pub parted : IsNow notes seat rs state last ys cap total (λ (es : List (ℕ × Item)). put r (item_of h) es ++ (t, item_of m) ∷ [])
+  pub parted : IsNow seat rs state last ys cap total (λ (es : List (ℕ × Item)). put r (item_of h) es ++ (t, item_of m) ∷ [])
   parted =
       let xs : List (ℕ × Item) = shown seat.lots rs in let xs1 : List (ℕ × Item) = put r (item_of h) xs in
       let seat1 : Held Body = with_lots seat (put r h seat.lots) in
-      let is1 : IsPlace notes seat1 xs1 room (total_of xs1) state = changes is seat1 r l h at refl head in
+      let is1 : IsPlace seat1 xs1 room (total_of xs1) state = changes is seat1 r l h at refl head in
       let moved : total_of xs1 + l.len ≡ total_of xs + h.len = total_put xs r (item_of l) (item_of h) (is.same r ∙ ap item_at at) in
       let all : total ≡ total_of xs = is.sum in let sum : total ≡ total_of xs1 + m.len = omega arith in
       is_now seat rs state last (put r h seat.lots ++ (t, m) ∷ []) ys room (total_of xs1 + m.len) cap total (λ (es : List (ℕ × Item)). put r (item_of h) es ++ (t, item_of m) ∷ []) new
@@ -63,7 +61,7 @@ pub record Cutting (all : RecordsOf) (seat mid : Held Body) (r t : ℕ) (l l0 : 
   pub exist : IsRecord all.shape r × IsRecord all.shape t
   pub is : HasNow seat (seat.lots ++ (t, l0) ∷ []) mid
 
-pub cutting : (all : RecordsOf) (seat mid : Held Body) (r t : ℕ) (l l0 : LotOf Body) → IsSeatOf all seat → value_at r seat.lots ≡ Some l → IsBlock (family_of seat) r l → IsRecord all.shape t
+pub cutting : (all : RecordsOf) (seat mid : Held Body) (r t : ℕ) (l l0 : LotOf Body) → IsSeatOf all seat → value_at r seat.lots ≡ Some l → IsBlock (records_of seat) r l → IsRecord all.shape t
     → IsLotOf seat.shape t l0
     → (Among (keys seat.lots) t → ⊥) → HasNow seat (seat.lots ++ (t, l0) ∷ []) mid → Cutting all seat mid r t l l0
 cutting all seat mid r t l l0 own at block exists lot fresh is = record {
@@ -79,7 +77,7 @@ cutting all seat mid r t l l0 own at block exists lot fresh is = record {
 }
 
 pub is_cut : (all : RecordsOf) (seat mid last : Held Body) (r t k : ℕ) (l l0 h m : LotOf Body) (b : Body) → Cutting all seat mid r t l l0 → (Among (keys seat.lots) t → ⊥)
-    → IsBlock (family_of seat) r l
+    → IsBlock (records_of seat) r l
     → IsLotOf seat.shape t l0 → IsRecord seat.shape t → IsData l → IsGoodCut k l.len → t / 256 ≡ r / 256
     → h ≡ record l { len = k; body = h.body } → content_of h.body ≡ front k (content_of l.body) → m ≡ record l0 { len = l.len - k; body = b } → content_of b ≡ rest k (content_of l.body)
     → last ≡ with_lots mid (put t m (put r h mid.lots)) → IsCut seat last r k l t
@@ -101,14 +99,14 @@ is_cut all seat mid last r t k l l0 h m b c fresh block lot exists held good are
         lot = (ap (λ (z : LotOf Body). z.index) head ∙ block.lot.0, block.lot.1 ∙ ap (λ (z : LotOf Body). Some z.id) (sym head));
         full =
             (omega arith, fits_bytes h.body (take k xs) h.len h_bytes h_long (omega arith) (omega arith));
-        own = bytes_own (family_of seat) h (take k xs) h_bytes;
+        own = bytes_own seat.table h (take k xs) h_bytes;
       },
       record {
         exists = exists;
         lot = (ap (λ (z : LotOf Body). z.index) tail ∙ lot.0, lot.1 ∙ ap (λ (z : LotOf Body). Some z.id) (sym tail));
         full =
             (omega arith, fits_bytes m.body (drop k xs) m.len m_bytes m_long (omega arith) (omega arith));
-        own = bytes_own (family_of seat) m (drop k xs) m_bytes;
+        own = bytes_own seat.table m (drop k xs) m_bytes;
       },
       h_len,
       omega arith,
@@ -146,7 +144,7 @@ patch_long at ys xs fits =
     let d : length (take at xs ++ (ys ++ drop (at + length ys) xs)) ≡ length (take at xs) + length (ys ++ drop (at + length ys) xs) = length-append (take at xs) (ys ++ drop (at + length ys) xs) in
     omega arith
 
-is_patched : {all : Family} {r : ℕ} (at : ℕ) (ys : List ℕ) {l m : LotOf Body} {x : Item} → IsBlock all r l → item_of l ≡ x → kind_of x.content ≡ kind.Data → at + length ys ≤ x.len
+is_patched : {all : RecordsOf} {r : ℕ} (at : ℕ) (ys : List ℕ) {l m : LotOf Body} {x : Item} → IsBlock all r l → item_of l ≡ x → kind_of x.content ≡ kind.Data → at + length ys ≤ x.len
     → m ≡ record l { body = m.body } → content_of m.body ≡ patched at ys (content_of l.body)
     → IsBlock all r m × (m.len ≡ l.len) × (item_of m ≡ record x { content = patched at ys x.content })
 is_patched {all} {r} at ys {l} {m} {x} block same data_kind fits lot content =
@@ -161,20 +159,19 @@ is_patched {all} {r} at ys {l} {m} {x} block same data_kind fits lot content =
         lot = (ap (λ (z : LotOf Body). z.index) lot ∙ block.lot.0, block.lot.1 ∙ ap (λ (z : LotOf Body). Some z.id) (sym lot));
         full =
             (omega arith, fits_bytes m.body (take at xs ++ (ys ++ drop (at + length ys) xs)) m.len new new_long (omega arith) (omega arith));
-        own = bytes_own all m (take at xs ++ (ys ++ drop (at + length ys) xs)) new;
+        own = bytes_own all.table m (take at xs ++ (ys ++ drop (at + length ys) xs)) new;
       },
       len,
       (λ i. record { len = (len ∙ x_len) i; content = (content ∙ ap (λ (z : Item). patched at ys z.content) same) i }),
     )
 
 -- what a write leaves: the bytes stand in the block, or the seat is as it was
-pub overwritten : {seat : Held Body} (last : Held Body) (rs : List ℕ) {room total : ℕ} {state : Status} {notes : List (Option LineTelling)} {r : ℕ} {l : LotOf Body} {x : Item} {A : Type 0} (at : ℕ)
-    (ys : List ℕ)
-    (result : Result A Refused) → IsPlace notes seat (shown seat.lots rs) room total state → value_at r seat.lots ≡ Some l → IsBlock (family_of seat) r l → item_of l ≡ x
+pub overwritten : {seat : Held Body} (last : Held Body) (rs : List ℕ) {room total : ℕ} {state : Status} {r : ℕ} {l : LotOf Body} {x : Item} {A : Type 0} (at : ℕ) (ys : List ℕ)
+    (result : Result A Refused) → IsPlace seat (shown seat.lots rs) room total state → value_at r seat.lots ≡ Some l → IsBlock (records_of seat) r l → item_of l ≡ x
     → Tested (range_tests (Some (header_of (item_of l))) at (length ys)) result (λ _. IsData l × (at + length ys ≤ l.len)
     × ((m : LotOf Body) × (m ≡ record l { body = m.body }) × (content_of m.body ≡ patched at ys (content_of l.body)) × (last ≡ with_lots seat (put r m seat.lots))))
     → OnErr result (last ≡ seat)
-    → (f : List (ℕ × Item) → List (ℕ × Item)) × IsNow notes seat rs state last rs room total f
+    → (f : List (ℕ × Item) → List (ℕ × Item)) × IsNow seat rs state last rs room total f
     × Tested (range_tests (Some (header_of (item_of l))) at (length ys)) result (λ _. f ≡ put r (record x { content = patched at ys x.content }))
     × OnErr result (f ≡ (λ (es : List (ℕ × Item)). es)) × (last.front ≡ seat.front)
 overwritten {seat} last rs {room} {total} {state} {r} {l} {x} at ys (Ok a) is held block same (fine, (kinds, fits, (m, lot, content, new))) none =

@@ -1,10 +1,9 @@
 -- A place's list against what its seat holds, at each change.
-use Rattle.xh_place.proofs.Words.{AreOnLines, LineTelling, ◌≡◌, ℕ, ◌+◌, ◌-◌, ◌*◌, ◌/◌, ◌%◌, ◌<◌, ◌≤◌, ⊎_elim, inl, inr, List, [], ◌∷◌, ◌++◌, length, map, refl, sym, ap, ◌∙◌, subst, Bool, true, false}
-use Rattle.xh_place.proofs.Words.{arith, rules}
+use Rattle.xh_place.proofs.Words.{◌≡◌, ℕ, ◌+◌, ◌-◌, ◌*◌, ◌/◌, ◌%◌, ◌<◌, ◌≤◌, ⊎_elim, inl, inr, List, [], ◌∷◌, ◌++◌, length, map, refl, sym, ap, ◌∙◌, subst, Bool, true, false, arith, rules}
 use Rattle.xh_place.proofs.Words.{length-map, Some, None, Option, MatchBool, is_some, number_of, dite, ℕ_discrete, LotOf, Status, Vacant, Running, Ending, Ended, index_of, Shape, Among, Distinct}
 use Rattle.xh_place.proofs.Words.{keys, value_at, put, without, at_key, distinct_push, distinct_without, here_first, keys_push, length-keys, last_at, last_other, no_key, none_at, not_here, put_at}
 use Rattle.xh_place.proofs.Words.{put_keys, put_other, without_at, without_other, Held, IsRecord, with_lots, moves, HasNow, Body, Nothing, fits_in, is_over, is_running, Item, PlaceOf, with_blocks}
-use Rattle.xh_place.proofs.Words.{Family, family_of, item_of, item_in, item_at, shown, total_of, IsBlock, IsQuiet, IsPlace, less, suc, nat_tests, absent, alone, last}
+use Rattle.xh_place.proofs.Words.{RecordsOf, records_of, item_of, item_in, item_at, shown, total_of, IsBlock, IsQuiet, IsPlace, less, suc, nat_tests, absent, alone, last}
 use Rattle.std.proofs.Math.Nat.{mul_comm}
 use Rattle.std.proofs.lemmas.Nat.{mul-add-lt}
 use Rattle.xh_model.proofs.Words.{number_back}
@@ -13,7 +12,7 @@ use Rattle.xh_records.proofs.Lists.{few}
 use Rattle.xh_place.proofs.Listing.{as_shown, keys_without, shown_keys, shown_long, total_last, total_put, total_without}
 
 abbrev pub view_of : Held Body → List (ℕ × Item) → Status → PlaceOf
-view_of seat xs state = record { table = seat.table; shape = seat.shape; lines = seat.lines; process = seat.process; blocks = xs; state = state; moved = moves seat.done }
+view_of seat xs state = record { table = seat.table; shape = seat.shape; process = seat.process; blocks = xs; state = state; moved = moves seat.done }
 
 -- there is room for one more, and no sum is too large
 slot_below : (a n r : ℕ) → r / 256 < a → r % 256 < n → index_of n r < a * n
@@ -49,7 +48,7 @@ fit_small : (b : Body) (n : ℕ) → fits_in b n ≡ true → n ≤ 1048576
 fit_small Nothing n e = search rules
 fit_small b n e = search rules
 
-pub block_small : {all : Family} {r : ℕ} {l : LotOf Body} → IsBlock all r l → l.len ≤ 1048576
+pub block_small : {all : RecordsOf} {r : ℕ} {l : LotOf Body} → IsBlock all r l → l.len ≤ 1048576
 block_small {all} {r} {l} is = fit_small l.body l.len is.full.1
 
 pub quiet_alive : (s : Status) (xs : List (ℕ × Item)) → (is_over s ≡ true → ⊥) → IsQuiet s xs
@@ -63,23 +62,21 @@ still_quiet Ending f xs e q = tt
 still_quiet s f xs e q = ap f q ∙ e
 
 -- what a place's type keeps says nothing of its seat's events
-pub kept : (seat last : Held Body) (xs : List (ℕ × Item)) (room total : ℕ) (state : Status) {notes : List (Option LineTelling)} → HasNow seat seat.lots last → IsPlace notes seat xs room total state
-    → IsPlace notes last xs room total state
-kept seat last xs room total state {notes} e is = record {
+pub kept : (seat last : Held Body) (xs : List (ℕ × Item)) (room total : ℕ) (state : Status) → HasNow seat seat.lots last → IsPlace seat xs room total state → IsPlace last xs room total state
+kept seat last xs room total state e is = record {
   same = λ r. is.same r ∙ ap (λ (h : Held Body). item_at (value_at r h.lots)) (sym e);
-  blocks = λ r l at. subst (λ (h : Held Body). IsBlock (family_of h) r l) (sym e) (is.blocks r l (ap (λ (h : Held Body). value_at r h.lots) (sym e) ∙ at));
+  blocks = λ r l at. subst (λ (h : Held Body). IsBlock (records_of h) r l) (sym e) (is.blocks r l (ap (λ (h : Held Body). value_at r h.lots) (sym e) ∙ at));
   distinct = is.distinct;
   sum = is.sum;
   room = subst (λ (h : Held Body). (length h.shape.names * h.shape.records ≤ room) × (length h.shape.names ≤ 8)) (sym e) is.room;
   quiet = is.quiet;
-  lines = subst (λ (h : Held Body). AreOnLines h.lines notes) (sym e) is.lines;
 }
 
 -- the place's blocks are what f makes of them
 pub shows : (p : PlaceOf) (seat last : Held Body) (xs ys : List (ℕ × Item)) (state : Status) (lots : List (ℕ × LotOf Body)) (f : List (ℕ × Item) → List (ℕ × Item)) → view_of seat xs state ≡ p
     → HasNow seat lots last → ys ≡ f xs → view_of last ys state ≡ with_blocks p (f p.blocks)
 shows p seat last xs ys state lots f is new blocks =
-    (λ i. record { table = (new i).table; shape = (new i).shape; lines = (new i).lines; process = (new i).process; blocks = blocks i; state = state; moved = (new i).done })
+    (λ i. record { table = (new i).table; shape = (new i).shape; process = (new i).process; blocks = blocks i; state = state; moved = (new i).done })
     ∙ ap (λ (q : PlaceOf). with_blocks q (f q.blocks)) is
 
 -- what a lot is as a block
@@ -87,9 +84,9 @@ item_one : (o : Option (LotOf Body)) (x : Item) → Some x ≡ item_at o → (l 
 item_one None x e = absurd (cc)
 item_one (Some l) x e = let f : x ≡ item_of l = cc in (l, refl, f)
 
-module _ {seat : Held Body} {xs : List (ℕ × Item)} {room total : ℕ} {state : Status} {notes : List (Option LineTelling)} (is : IsPlace notes seat xs room total state) where
+module _ {seat : Held Body} {xs : List (ℕ × Item)} {room total : ℕ} {state : Status} (is : IsPlace seat xs room total state) where
   -- a record of the list has its lot in the seat, and a lot its record
-  pub lot_of : (r : ℕ) (x : Item) → value_at r xs ≡ Some x → (l : LotOf Body) × (value_at r seat.lots ≡ Some l) × (x ≡ item_of l) × IsBlock (family_of seat) r l
+  pub lot_of : (r : ℕ) (x : Item) → value_at r xs ≡ Some x → (l : LotOf Body) × (value_at r seat.lots ≡ Some l) × (x ≡ item_of l) × IsBlock (records_of seat) r l
   lot_of r x e = let t = item_one (value_at r seat.lots) x (sym e ∙ is.same r) in (t.0, t.1, t.2, is.blocks r t.0 t.1)
 
   -- so the list of numbers is what shows it
@@ -146,8 +143,8 @@ module _ {seat : Held Body} {xs : List (ℕ × Item)} {room total : ℕ} {state 
   total_bound = let a : length xs ≤ 2048 = count_bound in let b : total ≤ length xs * 1048576 = small in omega arith
 
   -- a record more
-  module _ (last : Held Body) (r : ℕ) (l : LotOf Body) (fresh : Among (keys seat.lots) r → ⊥) (new : HasNow seat (seat.lots ++ (r, l) ∷ []) last) (good : IsBlock (family_of seat) r l) where
-    pub gains : IsQuiet state (xs ++ (r, item_of l) ∷ []) → IsPlace notes last (xs ++ (r, item_of l) ∷ []) room (total + l.len) state
+  module _ (last : Held Body) (r : ℕ) (l : LotOf Body) (fresh : Among (keys seat.lots) r → ⊥) (new : HasNow seat (seat.lots ++ (r, l) ∷ []) last) (good : IsBlock (records_of seat) r l) where
+    pub gains : IsQuiet state (xs ++ (r, item_of l) ∷ []) → IsPlace last (xs ++ (r, item_of l) ∷ []) room (total + l.len) state
     gains quiet = kept (with_lots seat (seat.lots ++ (r, l) ∷ [])) last (xs ++ (r, item_of l) ∷ []) room (total + l.len) state new record {
       same = λ q. dite (ℕ_discrete r q)
           (λ e. subst (λ (z : ℕ). value_at z (xs ++ (r, item_of l) ∷ []) ≡ item_at (value_at z (seat.lots ++ (r, l) ∷ []))) e
@@ -155,13 +152,12 @@ module _ {seat : Held Body} {xs : List (ℕ × Item)} {room total : ℕ} {state 
           (λ n. last_other q r (item_of l) xs n ∙ is.same q ∙ sym (ap item_at (last_other q r l seat.lots n)));
       blocks = λ q m. dite (ℕ_discrete r q)
           (λ e at. let same : Some l ≡ Some m = sym (last_at r l seat.lots fresh) ∙ ap (λ (z : ℕ). value_at z (seat.lots ++ (r, l) ∷ [])) e ∙ at in let one : l ≡ m = cc in
-          subst (λ (z : ℕ × LotOf Body). IsBlock (family_of seat) z.0 z.1) (λ i. (e i, one i)) good)
+          subst (λ (z : ℕ × LotOf Body). IsBlock (records_of seat) z.0 z.1) (λ i. (e i, one i)) good)
           (λ n at. is.blocks q m (sym (last_other q r l seat.lots n) ∙ at));
       distinct = subst Distinct (sym (keys_push xs (r, item_of l))) (distinct_push (keys xs) r is.distinct (not_listed r fresh));
       sum = ap (λ (z : ℕ). z + l.len) is.sum ∙ sym (total_last xs r (item_of l));
       room = is.room;
       quiet = quiet;
-      lines = is.lines;
     }
 
   pub enough : (r : ℕ) (s : Item) → value_at r xs ≡ Some s → s.len ≤ total
@@ -178,7 +174,7 @@ module _ {seat : Held Body} {xs : List (ℕ × Item)} {room total : ℕ} {state 
         (λ e. subst (λ (z : ℕ). value_at z (without r xs) ≡ item_at (value_at z (without r seat.lots))) e (without_at r xs ∙ sym (ap item_at (without_at r seat.lots))))
         (λ n. without_other q r xs n ∙ is.same q ∙ sym (ap item_at (without_other q r seat.lots n)))
 
-    pub loses : IsPlace notes last (without r xs) room (total - s.len) state
+    pub loses : IsPlace last (without r xs) room (total - s.len) state
     loses = kept (with_lots seat (without r seat.lots)) last (without r xs) room (total - s.len) state new
         (let u : total_of xs ≡ total_of (without r xs) + s.len = total_without xs r s is.distinct at in let t : total ≡ total_of xs = is.sum in let now : total - s.len ≡ total_of (without r xs) =
         omega arith in record {
@@ -190,15 +186,14 @@ module _ {seat : Held Body} {xs : List (ℕ × Item)} {room total : ℕ} {state 
           sum = now;
           room = is.room;
           quiet = still_quiet state (without r) xs refl is.quiet;
-          lines = is.lines;
         })
 
   -- another lot in the place of one
-  module _ (last : Held Body) (r : ℕ) (l m : LotOf Body) (at : value_at r seat.lots ≡ Some l) (new : HasNow seat (put r m seat.lots) last) (good : IsBlock (family_of seat) r m) where
+  module _ (last : Held Body) (r : ℕ) (l m : LotOf Body) (at : value_at r seat.lots ≡ Some l) (new : HasNow seat (put r m seat.lots) last) (good : IsBlock (records_of seat) r m) where
     was : value_at r xs ≡ Some (item_of l)
     was = is.same r ∙ ap item_at at
 
-    pub changes : IsPlace notes last (put r (item_of m) xs) room (total_of (put r (item_of m) xs)) state
+    pub changes : IsPlace last (put r (item_of m) xs) room (total_of (put r (item_of m) xs)) state
     changes = kept (with_lots seat (put r m seat.lots)) last (put r (item_of m) xs) room (total_of (put r (item_of m) xs)) state new record {
       same = λ q. dite (ℕ_discrete r q)
           (λ e. subst (λ (z : ℕ). value_at z (put r (item_of m) xs) ≡ item_at (value_at z (put r m seat.lots))) e
@@ -206,13 +201,12 @@ module _ {seat : Held Body} {xs : List (ℕ × Item)} {room total : ℕ} {state 
           (λ n. put_other q r (item_of m) xs n ∙ is.same q ∙ sym (ap item_at (put_other q r m seat.lots n)));
       blocks = λ q k. dite (ℕ_discrete r q)
           (λ e a. let same : Some m ≡ Some k = sym (put_at r m l seat.lots at) ∙ ap (λ (z : ℕ). value_at z (put r m seat.lots)) e ∙ a in let one : m ≡ k = cc in
-          subst (λ (z : ℕ × LotOf Body). IsBlock (family_of seat) z.0 z.1) (λ i. (e i, one i)) good)
+          subst (λ (z : ℕ × LotOf Body). IsBlock (records_of seat) z.0 z.1) (λ i. (e i, one i)) good)
           (λ n a. is.blocks q k (sym (put_other q r m seat.lots n) ∙ a));
       distinct = subst Distinct (sym (put_keys r (item_of m) xs)) is.distinct;
       sum = refl;
       room = is.room;
       quiet = still_quiet state (put r (item_of m)) xs refl is.quiet;
-      lines = is.lines;
     }
 
     -- of the same length
@@ -237,25 +231,24 @@ module _ {seat : Held Body} {xs : List (ℕ × Item)} {room total : ℕ} {state 
 -- ---- the same, as the fields have it: the list has numbers alone
 
 -- the place has the blocks that f makes of those that it had, and so many bytes
-abbrev pub IsNow : List (Option LineTelling) → Held Body → List ℕ → Status → Held Body → List ℕ → ℕ → ℕ → (List (ℕ × Item) → List (ℕ × Item)) → Type 0
-IsNow notes seat rs state last ys room total f = IsPlace notes last (shown last.lots ys) room total state
+abbrev pub IsNow : Held Body → List ℕ → Status → Held Body → List ℕ → ℕ → ℕ → (List (ℕ × Item) → List (ℕ × Item)) → Type 0
+IsNow seat rs state last ys room total f = IsPlace last (shown last.lots ys) room total state
     × ((p : PlaceOf) → view_of seat (shown seat.lots rs) state ≡ p → view_of last (shown last.lots ys) state ≡ with_blocks p (f p.blocks))
 
-pub is_now : (seat : Held Body) (rs : List ℕ) (state : Status) {notes : List (Option LineTelling)} (last : Held Body) (lots : List (ℕ
-    × LotOf Body)) (ys : List ℕ) (room total room' total' : ℕ) (f : List (ℕ × Item) → List (ℕ × Item))
-    → HasNow seat lots last → IsPlace notes last (f (shown seat.lots rs)) room total state → ys ≡ keys (f (shown seat.lots rs)) → room' ≡ room → total' ≡ total
-    → IsNow notes seat rs state last ys room' total' f
-is_now seat rs state {notes} last lots ys room total room' total' f new is items same sum =
+pub is_now : (seat : Held Body) (rs : List ℕ) (state : Status) (last : Held Body) (lots : List (ℕ × LotOf Body)) (ys : List ℕ) (room total room' total' : ℕ) (f : List (ℕ × Item) → List (ℕ × Item))
+    → HasNow seat lots last → IsPlace last (f (shown seat.lots rs)) room total state → ys ≡ keys (f (shown seat.lots rs)) → room' ≡ room → total' ≡ total
+    → IsNow seat rs state last ys room' total' f
+is_now seat rs state last lots ys room total room' total' f new is items same sum =
     let one : shown last.lots ys ≡ f (shown seat.lots rs) = listed_as is ys items in (
-      subst (λ (z : List (ℕ × Item) × ℕ × ℕ). IsPlace notes last z.0 z.1 z.2 state) (λ i. (sym one i, sym same i, sym sum i)) is,
+      subst (λ (z : List (ℕ × Item) × ℕ × ℕ). IsPlace last z.0 z.1 z.2 state) (λ i. (sym one i, sym same i, sym sum i)) is,
       λ p e. shows p seat last (shown seat.lots rs) (shown last.lots ys) state lots f e new one,
     )
 
-module _ {seat : Held Body} (rs : List ℕ) {room total : ℕ} {state : Status} {notes : List (Option LineTelling)} (is : IsPlace notes seat (shown seat.lots rs) room total state) where
+module _ {seat : Held Body} (rs : List ℕ) {room total : ℕ} {state : Status} (is : IsPlace seat (shown seat.lots rs) room total state) where
   abbrev xs : List (ℕ × Item)
   xs = shown seat.lots rs
 
-  pub list_room : {r : ℕ} {l : LotOf Body} → IsBlock (family_of seat) r l → (Among (keys seat.lots) r → ⊥) → length rs < room
+  pub list_room : {r : ℕ} {l : LotOf Body} → IsBlock (records_of seat) r l → (Among (keys seat.lots) r → ⊥) → length rs < room
   list_room {r} {l} good fresh = subst (λ (n : ℕ). n < room) (shown_long seat.lots rs) (has_room is r good.exists fresh)
 
   pub list_few : length rs ≤ 2048
@@ -265,28 +258,28 @@ module _ {seat : Held Body} (rs : List ℕ) {room total : ℕ} {state : Status} 
   list_distinct = subst Distinct (shown_keys seat.lots rs) is.distinct
 
   pub lost : (last : Held Body) (r : ℕ) {x : Item} {ys : List ℕ} {room' n : ℕ} → value_at r xs ≡ Some x → HasNow seat (without r seat.lots) last → ys ≡ less r rs → room' ≡ room → n ≡ x.len
-      → IsNow notes seat rs state last ys room' (total - n) (without r)
+      → IsNow seat rs state last ys room' (total - n) (without r)
   lost last r {x} {ys} {room'} {n} at new items same len =
       is_now seat rs state last (without r seat.lots) ys room (total - x.len) room' (total - n) (without r) new (loses is last r x at new)
       (items ∙ ap (less r) (sym (shown_keys seat.lots rs)) ∙ sym (keys_without r xs)) same (ap (λ (z : ℕ). total - z) len)
 
   pub won : (last : Held Body) {r : ℕ} {l : LotOf Body} {ys : List ℕ} {room' n : ℕ} → (Among (keys seat.lots) r → ⊥) → HasNow seat (seat.lots ++ (r, l) ∷ []) last
-      → IsBlock (family_of seat) r l → (is_over state ≡ true → ⊥) → ys ≡ rs ++ r ∷ [] → room' ≡ room → n ≡ l.len
-      → IsNow notes seat rs state last ys room' (total + n) (λ (es : List (ℕ × Item)). es ++ (r, item_of l) ∷ [])
+      → IsBlock (records_of seat) r l → (is_over state ≡ true → ⊥) → ys ≡ rs ++ r ∷ [] → room' ≡ room → n ≡ l.len
+      → IsNow seat rs state last ys room' (total + n) (λ (es : List (ℕ × Item)). es ++ (r, item_of l) ∷ [])
   won last {r} {l} {ys} {room'} {n} fresh new good alive items same len =
       is_now seat rs state last (seat.lots ++ (r, l) ∷ []) ys room (total + l.len) room' (total + n) (λ (es : List (ℕ × Item)). es ++ (r, item_of l) ∷ []) new
       (gains is last r l fresh new good (quiet_alive state (xs ++ (r, item_of l) ∷ []) alive))
       (items ∙ ap (λ (z : List ℕ). z ++ r ∷ []) (sym (shown_keys seat.lots rs)) ∙ sym (keys_push xs (r, item_of l))) same (ap (λ (z : ℕ). total + z) len)
 
   -- its list does not move where one of its lots does
-  pub turned : (last : Held Body) {r : ℕ} {l m : LotOf Body} → value_at r seat.lots ≡ Some l → HasNow seat (put r m seat.lots) last → IsBlock (family_of seat) r m → m.len ≡ l.len
-      → IsNow notes seat rs state last rs room total (put r (item_of m))
+  pub turned : (last : Held Body) {r : ℕ} {l m : LotOf Body} → value_at r seat.lots ≡ Some l → HasNow seat (put r m seat.lots) last → IsBlock (records_of seat) r m → m.len ≡ l.len
+      → IsNow seat rs state last rs room total (put r (item_of m))
   turned last {r} {l} {m} at new good len =
       is_now seat rs state last (put r m seat.lots) rs room (total_of (put r (item_of m) xs)) room total (put r (item_of m)) new (changes is last r l m at new good)
       (sym (shown_keys seat.lots rs) ∙ sym (put_keys r (item_of m) xs)) refl (sym (same_total is last r l m at new good len))
 
   -- nor where its seat did what moves nothing
-  pub stays : (last : Held Body) → HasNow seat seat.lots last → IsNow notes seat rs state last rs room total (λ (es : List (ℕ × Item)). es)
+  pub stays : (last : Held Body) → HasNow seat seat.lots last → IsNow seat rs state last rs room total (λ (es : List (ℕ × Item)). es)
   stays last new = is_now seat rs state last seat.lots rs room total room total (λ (es : List (ℕ × Item)). es) new (kept seat last xs room total state new is) (sym (shown_keys seat.lots rs)) refl refl
 
 pub over_running : (s : Status) → is_running s ≡ true → is_over s ≡ true → ⊥
@@ -299,13 +292,12 @@ pub without_long : {X : Type 0} (r : ℕ) (y : X) (xs : List (ℕ × X)) → Dis
 without_long r y [] d = λ e. absurd (cc)
 without_long r y (x ∷ xs) d = λ e. let a = λ (same : x.0 ≡ r). absent r xs (λ h. d.0 (subst (λ (z : ℕ). Among (keys xs) z) (sym same) h)) in grind (arith, nat_tests, a, without_long r y xs d.1)
 
-module _ {seat : Held Body} {xs : List (ℕ × Item)} {room total : ℕ} {state : Status} {notes : List (Option LineTelling)} (is : IsPlace notes seat xs room total state) (alive : is_over state ≡ true
-    → ⊥) (r : ℕ) {x : Item}
+module _ {seat : Held Body} {xs : List (ℕ × Item)} {room total : ℕ} {state : Status} (is : IsPlace seat xs room total state) (alive : is_over state ≡ true → ⊥) (r : ℕ) {x : Item}
     (at : value_at r xs ≡ Some x) where
   not_left : Among (keys (without r xs)) r → ⊥
   not_left = no_key r (without r xs) (without_at r xs)
 
-  pub moved : IsPlace notes seat (without r xs ++ (r, x) ∷ []) room total state
+  pub moved : IsPlace seat (without r xs ++ (r, x) ∷ []) room total state
   moved = record {
     same = λ q. dite (ℕ_discrete r q)
         (λ e. subst (λ (z : ℕ). value_at z (without r xs ++ (r, x) ∷ []) ≡ item_at (value_at z seat.lots)) e (last_at r x (without r xs) not_left ∙ sym at ∙ is.same r))
@@ -315,12 +307,10 @@ module _ {seat : Held Body} {xs : List (ℕ × Item)} {room total : ℕ} {state 
     sum = is.sum ∙ total_without xs r x is.distinct at ∙ sym (total_last (without r xs) r x);
     room = is.room;
     quiet = quiet_alive state (without r xs ++ (r, x) ∷ []) alive;
-    lines = is.lines;
   }
 
 -- a place that lists a block is not over
-pub alive_if : {seat : Held Body} {xs : List (ℕ × Item)} {room total : ℕ} {state : Status} {notes : List (Option LineTelling)} → IsPlace notes seat xs room total state → (r : ℕ) {x : Item}
-    → value_at r xs ≡ Some x → is_over state ≡ true → ⊥
+pub alive_if : {seat : Held Body} {xs : List (ℕ × Item)} {room total : ℕ} {state : Status} → IsPlace seat xs room total state → (r : ℕ) {x : Item} → value_at r xs ≡ Some x → is_over state ≡ true → ⊥
 alive_if {seat} {xs} {room} {total} {state} is r {x} at = go state is.quiet where
   none : xs ≡ [] → ⊥
   none e = let f : None ≡ Some x = sym (ap (value_at r) e) ∙ at in absurd (cc)
@@ -331,12 +321,12 @@ alive_if {seat} {xs} {room} {total} {state} is r {x} at = go state is.quiet wher
   go t q e = absurd (cc)
 
 -- the same, as the fields have it
-pub moved_last : {seat : Held Body} (rs : List ℕ) {room total : ℕ} {state : Status} {notes : List (Option LineTelling)} → IsPlace notes seat (shown seat.lots rs) room total state → (r : ℕ) {x : Item}
-    → value_at r (shown seat.lots rs) ≡ Some x → {ys : List ℕ} {room' : ℕ} → ys ≡ less r rs ++ r ∷ [] → room' ≡ room → IsNow notes seat rs state seat ys room' total (last r)
-moved_last {seat} rs {room} {total} {state} {notes} is r {x} at {ys} {room'} items same =
+pub moved_last : {seat : Held Body} (rs : List ℕ) {room total : ℕ} {state : Status} → IsPlace seat (shown seat.lots rs) room total state → (r : ℕ) {x : Item}
+    → value_at r (shown seat.lots rs) ≡ Some x → {ys : List ℕ} {room' : ℕ} → ys ≡ less r rs ++ r ∷ [] → room' ≡ room → IsNow seat rs state seat ys room' total (last r)
+moved_last {seat} rs {room} {total} {state} is r {x} at {ys} {room'} items same =
     let xs : List (ℕ × Item) = shown seat.lots rs in
     let ends : without r xs ++ (r, x) ∷ [] ≡ last r xs = ap (λ (o : Option Item). without r xs ++ alone r o) (sym at) in
     let numbers : keys (without r xs ++ (r, x) ∷ []) ≡ less r rs ++ r ∷ [] = keys_push (without r xs) (r, x)
     ∙ ap (λ (l : List ℕ). l ++ r ∷ []) (keys_without r xs ∙ ap (less r) (shown_keys seat.lots rs)) in
     is_now seat rs state seat seat.lots ys room total room' total (last r) refl
-    (subst (λ (l : List (ℕ × Item)). IsPlace notes seat l room total state) ends (moved is (alive_if is r at) r at)) (items ∙ sym numbers ∙ ap keys ends) same refl
+    (subst (λ (l : List (ℕ × Item)). IsPlace seat l room total state) ends (moved is (alive_if is r at) r at)) (items ∙ sym numbers ∙ ap keys ends) same refl

@@ -3,7 +3,7 @@ use Rattle.xh_place.proofs.Words.{◌≡◌, ℕ, zero, suc, ◌+◌, ◌-◌, �
 use Rattle.xh_place.proofs.Words.{take-append-drop, Option, None, Result, Err, MatchOption, TallyOf, Refused, reclaimed, Tests, first_refusal, Status, Ending, Ended, true, MAX_BUDGET, is_over}
 use Rattle.xh_place.proofs.Words.{HasGivenBack, IsSwept, ending, RefusedOr, IsTooLate, ending_again, IsSweptLate, Item, PlaceOf, total_of, with_list, with_more, append_assoc, append-nil, Some}
 use Rattle.xh_place.proofs.Words.{drop-append-le, drop_at, drop-drop, length-drop, length-take-le, take-append-le, take_at, Event, nat_tests, Among, Distinct, keys, put, value_at, without}
-use Rattle.xh_place.proofs.Words.{PlaceSeen, keys_append, absent, here_first, not_here, put_keys, put_without, toward, accepted_on, AreEnded, IsSweptBy, back_of, EndsWith, Clears, with_blocks, gave}
+use Rattle.xh_place.proofs.Words.{Noted, keys_append, absent, here_first, not_here, put_keys, put_without, toward, accepted_on, AreEnded, IsSweptBy, back_of, EndsWith, Clears, with_blocks, gave}
 use Rattle.std.proofs.Math.Seq.{drop-append_seam, take-append_seam, take-add}
 use Rattle.xh_place.proofs.Listing.{total_both, total_last, total_put}
 
@@ -12,9 +12,9 @@ again_same Ended xs none = ap (λ (l : List (ℕ × Item)). ending_again Ended (
 again_same s xs none = refl
 
 -- a sweep says nothing of how far the process has come
-any_state : (before after : PlaceSeen) (from budget bytes left : ℕ) (old new : PlaceOf) (s t : Status) → IsSwept before after from budget old new bytes left
-    → IsSwept before after from budget (record old { state = s }) (record new { state = t }) bytes left
-any_state before after from budget bytes left old new s t is = let by = is.by in record {
+any_state : (saw : Option Noted → ℕ → ℕ → Type 0) (from budget bytes left : ℕ) (old new : PlaceOf) (s t : Status) → IsSwept saw from budget old new bytes left
+    → IsSwept saw from budget (record old { state = s }) (record new { state = t }) bytes left
+any_state saw from budget bytes left old new s t is = let by = is.by in record {
   count = is.count;
   by = record { accepted = by.accepted; log = by.log; there = by.there; list = by.list; moved = by.moved; ended = by.ended; sum = by.sum };
   within = is.within;
@@ -23,21 +23,20 @@ any_state before after from budget bytes left old new s t is = let by = is.by in
 }
 
 -- a stop: the process is ending while the list is swept, and then is as far as the blocks that are left say
-pub stopped : (before after : PlaceSeen) (budget bytes left count : ℕ) (old mid swept new : PlaceOf) (result : Result ℕ Refused) → mid ≡ record old { state = Ending }
-    → IsSwept before after 0 budget mid swept bytes left → swept ≡ with_list mid swept → count ≡ length swept.blocks - 0 → new ≡ record swept { state = ending count } → result ≡ reclaimed bytes count
-    → IsSwept before after 0 budget old new bytes (length new.blocks) × (new ≡ record (with_list old new) { state = ending (length new.blocks) }) × (result ≡ reclaimed bytes (length new.blocks))
-stopped before after budget bytes left count old mid swept new result start is list counted end told =
-    let begun : IsSwept before after 0 budget (record old { state = Ending }) swept bytes left = subst (λ (p : PlaceOf). IsSwept before after 0 budget p swept bytes left) start is in
-    let by : IsSwept before after 0 budget old new bytes left =
-    subst (λ (p : PlaceOf). IsSwept before after 0 budget old p bytes left) (sym end)
-    (any_state before after 0 budget bytes left (record old { state = Ending }) swept old.state (ending count) begun) in
+pub stopped : (saw : Option Noted → ℕ → ℕ → Type 0) (budget bytes left count : ℕ) (old mid swept new : PlaceOf) (result : Result ℕ Refused) → mid ≡ record old { state = Ending }
+    → IsSwept saw 0 budget mid swept bytes left → swept ≡ with_list mid swept → count ≡ length swept.blocks - 0 → new ≡ record swept { state = ending count } → result ≡ reclaimed bytes count
+    → IsSwept saw 0 budget old new bytes (length new.blocks) × (new ≡ record (with_list old new) { state = ending (length new.blocks) }) × (result ≡ reclaimed bytes (length new.blocks))
+stopped saw budget bytes left count old mid swept new result start is list counted end told =
+    let begun : IsSwept saw 0 budget (record old { state = Ending }) swept bytes left = subst (λ (p : PlaceOf). IsSwept saw 0 budget p swept bytes left) start is in
+    let by : IsSwept saw 0 budget old new bytes left =
+    subst (λ (p : PlaceOf). IsSwept saw 0 budget old p bytes left) (sym end) (any_state saw 0 budget bytes left (record old { state = Ending }) swept old.state (ending count) begun) in
     let blocks : length new.blocks ≡ length swept.blocks = ap (λ (p : PlaceOf). length p.blocks) end in
     let all : count ≡ length new.blocks = omega (arith, counted, blocks) in
     let rest : left ≡ length new.blocks = omega (arith, by.rest) in
     let same : new ≡ record (with_list old new) { state = ending count } =
     end ∙ ap (λ (p : PlaceOf). record p { state = ending count }) (list ∙ ap (λ (p : PlaceOf). with_list p swept) start)
     ∙ sym (ap (λ (p : PlaceOf). record (with_list old p) { state = ending count }) end) in (
-      subst (λ (n : ℕ). IsSwept before after 0 budget old new bytes n) rest by,
+      subst (λ (n : ℕ). IsSwept saw 0 budget old new bytes n) rest by,
       same ∙ ap (λ (n : ℕ). record (with_list old new) { state = ending n }) all,
       told ∙ ap (reclaimed bytes) all,
     )
@@ -56,9 +55,9 @@ total_left : (k : ℕ) (xs : List (ℕ × Item)) → total_of (drop k xs) ≤ to
 total_left k xs = omega (arith, total_both (take k xs) (drop k xs), ap total_of (take-append-drop k xs))
 
 -- what a sweep from the last record on gave back is no less than its length
-pub last_bytes : (before after : PlaceSeen) (front : List (ℕ × Item)) (r : ℕ) (x : Item) (old new : PlaceOf) (bytes left : ℕ) → old.blocks ≡ front ++ (r, x) ∷ []
-    → IsSwept before after (length front) MAX_BUDGET old new bytes left → x.len ≤ bytes
-last_bytes before after front r x old new bytes left whole is = go is.count refl is.by.accepted is.by.list is.by.sum where
+pub last_bytes : (saw : Option Noted → ℕ → ℕ → Type 0) (front : List (ℕ × Item)) (r : ℕ) (x : Item) (old new : PlaceOf) (bytes left : ℕ) → old.blocks ≡ front ++ (r, x) ∷ []
+    → IsSwept saw (length front) MAX_BUDGET old new bytes left → x.len ≤ bytes
+last_bytes saw front r x old new bytes left whole is = go is.count refl is.by.accepted is.by.list is.by.sum where
   from : ℕ
   from = length front
 
@@ -79,12 +78,12 @@ last_bytes before after front r x old new bytes left whole is = go is.count refl
       let less : total_of (drop k accepted) ≤ total_of accepted = total_left k accepted in omega (arith, here, less, sum, all)
 
 -- an endpoint came, or none did, and the place is as far as it was, or ending again; `none` is what is known where none did
-pub turned : (before after : PlaceSeen) (none : Type 0) (d r n : ℕ) (old mid swept new : PlaceOf) (told now : List TallyOf) → (is_over old.state ≡ true → old.blocks ≡ [])
+pub turned : (saw : Option Noted → ℕ → ℕ → Type 0) (none : Type 0) (d r n : ℕ) (old mid swept new : PlaceOf) (told now : List TallyOf) → (is_over old.state ≡ true → old.blocks ≡ [])
     → mid ≡ record old { state = Ending }
-    → ((swept ≡ mid) × (now ≡ told) × none) ⊎ ((sum : ℕ) × IsSweptLate before after d r mid swept sum × HasGivenBack sum told now)
+    → ((swept ≡ mid) × (now ≡ told) × none) ⊎ ((sum : ℕ) × IsSweptLate saw d r mid swept sum × HasGivenBack sum told now)
     → n ≡ length swept.blocks - 0 → new ≡ record swept { state = ending_again old.state n }
-    → ((new ≡ old) × (now ≡ told) × none) ⊎ ((sum : ℕ) × IsTooLate before after d r old new sum × HasGivenBack sum told now)
-turned before after none d r n old mid swept new told now quiet woken came left last =
+    → ((new ≡ old) × (now ≡ told) × none) ⊎ ((sum : ℕ) × IsTooLate saw d r old new sum × HasGivenBack sum told now)
+turned saw none d r n old mid swept new told now quiet woken came left last =
     let all : n ≡ length swept.blocks = omega arith in
     let state : Status = ending_again old.state (length swept.blocks) in
     let then : new ≡ record swept { state = state } = last ∙ ap (λ (k : ℕ). record swept { state = ending_again old.state k }) all in
@@ -98,40 +97,40 @@ turned before after none d r n old mid swept new told now quiet woken came left 
     ))
     (λ h. let late = h.1 in
     let awoken : PlaceOf = record old { state = Ending } in
-    let begun : IsSwept before after (length old.blocks) MAX_BUDGET (with_more d ((r, late.0) ∷ []) awoken) swept h.0 late.1 =
-    subst (λ (p : PlaceOf). IsSwept before after (length p.blocks) MAX_BUDGET (with_more d ((r, late.0) ∷ []) p) swept h.0 late.1) woken late.2 in
-    let by : IsSwept before after (length old.blocks) MAX_BUDGET (with_more d ((r, late.0) ∷ []) old) new h.0 late.1 =
-    subst (λ (p : PlaceOf). IsSwept before after (length old.blocks) MAX_BUDGET (with_more d ((r, late.0) ∷ []) old) p h.0 late.1) (sym then)
-    (any_state before after (length old.blocks) MAX_BUDGET h.0 late.1 (with_more d ((r, late.0) ∷ []) awoken) swept old.state state begun) in
+    let begun : IsSwept saw (length old.blocks) MAX_BUDGET (with_more d ((r, late.0) ∷ []) awoken) swept h.0 late.1 =
+    subst (λ (p : PlaceOf). IsSwept saw (length p.blocks) MAX_BUDGET (with_more d ((r, late.0) ∷ []) p) swept h.0 late.1) woken late.2 in
+    let by : IsSwept saw (length old.blocks) MAX_BUDGET (with_more d ((r, late.0) ∷ []) old) new h.0 late.1 =
+    subst (λ (p : PlaceOf). IsSwept saw (length old.blocks) MAX_BUDGET (with_more d ((r, late.0) ∷ []) old) p h.0 late.1) (sym then)
+    (any_state saw (length old.blocks) MAX_BUDGET h.0 late.1 (with_more d ((r, late.0) ∷ []) awoken) swept old.state state begun) in
     let whole : new ≡ record (with_list old new) { state = ending_again old.state (length new.blocks) } =
     then ∙ ap (λ (p : PlaceOf). record p { state = state }) (late.3 ∙ ap (λ (p : PlaceOf). with_list p swept) woken)
     ∙ sym (ap (λ (p : PlaceOf). record (with_list old p) { state = ending_again old.state (length p.blocks) }) then) in
-    inr (h.0, (late.0, late.1, by, whole, late.4, last_bytes before after old.blocks r late.0 (with_more d ((r, late.0) ∷ []) old) new h.0 late.1 refl by), h.2))
+    inr (h.0, (late.0, late.1, by, whole, late.4, last_bytes saw old.blocks r late.0 (with_more d ((r, late.0) ∷ []) old) new h.0 late.1 refl by), h.2))
     came
 
 -- ---- sweeps one after another, and what a worker gave back
 
 -- ---- the blocks that went
 
-ended_both : (before after : PlaceSeen) (p : ℕ) (gone more ys zs : List (ℕ × Item)) (es fs : List Event) → AreEnded before after p gone ys es → AreEnded before after p more zs fs
-    → AreEnded before after p (gone ++ more) (ys ++ zs) (es ++ fs)
-ended_both before after p [] more ys zs es fs one two =
-    subst (λ (z : List (ℕ × Item) × List Event). AreEnded before after p more (z.0 ++ zs) (z.1 ++ fs)) (λ i. (sym one.0 i, sym one.1 i)) two
-ended_both before after p (y ∷ gone) more ys zs es fs one two = (
+ended_both : (saw : Option Noted → ℕ → ℕ → Type 0) (p : ℕ) (gone more ys zs : List (ℕ × Item)) (es fs : List Event) → AreEnded saw p gone ys es → AreEnded saw p more zs fs
+    → AreEnded saw p (gone ++ more) (ys ++ zs) (es ++ fs)
+ended_both saw p [] more ys zs es fs one two =
+    subst (λ (z : List (ℕ × Item) × List Event). AreEnded saw p more (z.0 ++ zs) (z.1 ++ fs)) (λ i. (sym one.0 i, sym one.1 i)) two
+ended_both saw p (y ∷ gone) more ys zs es fs one two = (
   one.0,
   one.1 ++ zs,
   one.2 ++ fs,
   ap (λ (l : List (ℕ × Item)). l ++ zs) one.3 ∙ append_assoc one.0 one.1 zs,
   ap (λ (l : List Event). l ++ fs) one.4 ∙ append_assoc (accepted_on p (toward y.1.content) (keys one.0)) one.2 fs,
   one.5,
-  ended_both before after p gone more one.1 zs one.2 fs one.6 two,
+  ended_both saw p gone more one.1 zs one.2 fs one.6 two,
 )
 
 -- one sweep after another from the same place
-pub swept_more : (before after : PlaceSeen) (from u k a b : ℕ) (old mid new : PlaceOf) → from ≤ length old.blocks → mid.process ≡ old.process → IsSweptBy before after from u old mid a
-    → IsSweptBy before after from k mid new b
-    → IsSweptBy before after from (u + k) old new (a + b)
-swept_more before after from u k a b old mid new inside whose one two =
+pub swept_more : (saw : Option Noted → ℕ → ℕ → Type 0) (from u k a b : ℕ) (old mid new : PlaceOf) → from ≤ length old.blocks → mid.process ≡ old.process → IsSweptBy saw from u old mid a
+    → IsSweptBy saw from k mid new b
+    → IsSweptBy saw from (u + k) old new (a + b)
+swept_more saw from u k a b old mid new inside whose one two =
     let w : List (ℕ × Item) = drop from old.blocks ++ one.accepted in
     let both : List (ℕ × Item) = one.accepted ++ two.accepted in
     let ahead : take from mid.blocks ≡ take from old.blocks = ap (take from) one.list ∙ take_at (take from old.blocks) (drop u w) from (length-take-le from old.blocks inside) in
@@ -145,8 +144,8 @@ swept_more before after from u k a b old mid new inside whose one two =
     let sums : total_of both ≡ total_of one.accepted + total_of two.accepted = total_both one.accepted two.accepted in
     let first : a + total_of mid.blocks ≡ total_of old.blocks + total_of one.accepted = one.sum in
     let second : b + total_of new.blocks ≡ total_of mid.blocks + total_of two.accepted = two.sum in
-    let later : AreEnded before after old.process (take k (drop u w ++ two.accepted)) two.accepted two.log =
-    subst (λ (z : ℕ × List (ℕ × Item)). AreEnded before after z.0 (take k (z.1 ++ two.accepted)) two.accepted two.log) (λ i. (whose i, rest i)) two.ended in
+    let later : AreEnded saw old.process (take k (drop u w ++ two.accepted)) two.accepted two.log =
+    subst (λ (z : ℕ × List (ℕ × Item)). AreEnded saw z.0 (take k (z.1 ++ two.accepted)) two.accepted two.log) (λ i. (whose i, rest i)) two.ended in
     let ends : take (u + k) (drop from old.blocks ++ both) ≡ take u w ++ take k (drop u w ++ two.accepted) =
     ap (take (u + k)) (sym all) ∙ take-add u k (w ++ two.accepted) ∙ (λ i. take-append-le u w two.accepted one.there i ++ take k (drop-append-le u w two.accepted one.there i)) in
     record {
@@ -155,8 +154,8 @@ swept_more before after from u k a b old mid new inside whose one two =
       there = omega (arith, long, length-drop u w, one.there, fits);
       list = two.list ∙ (λ i. ahead i ++ same i);
       moved = two.moved ∙ ap (λ (l : List Event). l ++ two.log) one.moved ∙ append_assoc old.moved one.log two.log;
-      ended = subst (λ (l : List (ℕ × Item)). AreEnded before after old.process l both (one.log ++ two.log)) (sym ends)
-          (ended_both before after old.process (take u w) (take k (drop u w ++ two.accepted)) one.accepted two.accepted one.log two.log one.ended later);
+      ended = subst (λ (l : List (ℕ × Item)). AreEnded saw old.process l both (one.log ++ two.log)) (sym ends)
+          (ended_both saw old.process (take u w) (take k (drop u w ++ two.accepted)) one.accepted two.accepted one.log two.log one.ended later);
       sum = omega (arith, sums, first, second);
     }
 
@@ -173,12 +172,12 @@ cut_out (suc from) r x more (y ∷ w) d e =
       among_drop (suc k) q (z ∷ w) h = inr (among_drop k q w h)
 
 -- some came to an end at `from`, and then it went
-swept_one : (before after : PlaceSeen) (from r bytes d : ℕ) (x : Item) (more : List (ℕ × Item)) (old mid new : PlaceOf) (ys : List (ℕ × Item)) → from ≤ length old.blocks
+swept_one : (saw : Option Noted → ℕ → ℕ → Type 0) (from r bytes d : ℕ) (x : Item) (more : List (ℕ × Item)) (old mid new : PlaceOf) (ys : List (ℕ × Item)) → from ≤ length old.blocks
     → drop from old.blocks ≡ (r, x) ∷ more
-    → mid ≡ with_more d ys old → Distinct (keys mid.blocks) → AreEnded before after old.process ((r, x) ∷ []) ys (accepted_on old.process d (keys ys))
+    → mid ≡ with_more d ys old → Distinct (keys mid.blocks) → AreEnded saw old.process ((r, x) ∷ []) ys (accepted_on old.process d (keys ys))
     → new ≡ with_blocks mid (without r mid.blocks)
-    → bytes + total_of new.blocks ≡ total_of mid.blocks → IsSweptBy before after from 1 old new bytes
-swept_one before after from r bytes d x more old mid new ys inside first came once ends is sum =
+    → bytes + total_of new.blocks ≡ total_of mid.blocks → IsSweptBy saw from 1 old new bytes
+swept_one saw from r bytes d x more old mid new ys inside first came once ends is sum =
     let list : mid.blocks ≡ old.blocks ++ ys = ap (λ (p : PlaceOf). p.blocks) came in
     let ahead : take from mid.blocks ≡ take from old.blocks = ap (take from) list ∙ take-append-le from old.blocks ys inside in
     let rest : drop from mid.blocks ≡ (r, x) ∷ (more ++ ys) = ap (drop from) list ∙ drop-append-le from old.blocks ys inside ∙ ap (λ (l : List (ℕ × Item)). l ++ ys) first in
@@ -191,7 +190,7 @@ swept_one before after from r bytes d x more old mid new ys inside first came on
       there = omega (arith, long);
       list = ap (λ (p : PlaceOf). p.blocks) is ∙ cut_out from r x (more ++ ys) mid.blocks once rest ∙ (λ i. ahead i ++ drop 1 (sym whole i));
       moved = ap (λ (p : PlaceOf). p.moved) is ∙ ap (λ (p : PlaceOf). p.moved) came;
-      ended = subst (λ (l : List (ℕ × Item)). AreEnded before after old.process (take 1 l) ys (accepted_on old.process d (keys ys))) (sym whole) ends;
+      ended = subst (λ (l : List (ℕ × Item)). AreEnded saw old.process (take 1 l) ys (accepted_on old.process d (keys ys))) (sym whole) ends;
       sum = sum ∙ all;
     }
 
@@ -200,11 +199,10 @@ without_both r [] ys = refl
 without_both r (x ∷ xs) ys = grind (arith, nat_tests, without_both r xs ys)
 
 -- the block at `from` went, an endpoint after it was shut and drained
-pub swept_clear : (before after : PlaceSeen) (from r bytes : ℕ) (x : Item) (more : List (ℕ × Item)) (old mid new : PlaceOf) → from ≤ length old.blocks → drop from old.blocks ≡ (r, x) ∷ more
+pub swept_clear : (saw : Option Noted → ℕ → ℕ → Type 0) (from r bytes : ℕ) (x : Item) (more : List (ℕ × Item)) (old mid new : PlaceOf) → from ≤ length old.blocks → drop from old.blocks ≡ (r, x) ∷ more
     → value_at r old.blocks ≡ Some x
-    → Clears before after r old mid → Distinct (keys mid.blocks) → new ≡ with_blocks mid (without r mid.blocks) → bytes + total_of new.blocks ≡ total_of mid.blocks
-    → IsSweptBy before after from 1 old new bytes
-swept_clear before after from r bytes x more old mid new inside first at clear once is sum =
+    → Clears saw r old mid → Distinct (keys mid.blocks) → new ≡ with_blocks mid (without r mid.blocks) → bytes + total_of new.blocks ≡ total_of mid.blocks → IsSweptBy saw from 1 old new bytes
+swept_clear saw from r bytes x more old mid new inside first at clear once is sum =
     let z : Item = clear.0 in let y : Item = clear.1 in let ys : List (ℕ × Item) = clear.2 in let xs : List (ℕ × Item) = old.blocks in
     let both : Some z ≡ Some x = sym clear.3 ∙ at in let one : z ≡ x = cc in
     let d : ℕ = toward x.content in let log : List Event = accepted_on old.process d (keys ys) in
@@ -218,8 +216,8 @@ swept_clear before after from r bytes x more old mid new inside first at clear o
     let one_total : total_of mid.blocks ≡ total_of (put r y xs) + total_of ys = ap total_of list ∙ total_both (put r y xs) ys in
     let two_total : total_of (xs ++ ys) ≡ total_of xs + total_of ys = total_both xs ys in
     let total : total_of mid.blocks ≡ total_of (xs ++ ys) = omega (arith, long, sizes, one_total, two_total) in
-    swept_one before after from r bytes d x more old (with_more d ys old) new ys inside first refl (subst Distinct names once)
-    (ys, [], [], sym (append-nil ys), sym (append-nil log), subst (λ (w : Item). EndsWith before after w.content ys) one clear.5, (refl, refl))
+    swept_one saw from r bytes d x more old (with_more d ys old) new ys inside first refl (subst Distinct names once)
+    (ys, [], [], sym (append-nil ys), sym (append-nil log), subst (λ (w : Item). EndsWith saw w.content ys) one clear.5, (refl, refl))
     (is ∙ (λ i. with_blocks (came i) (less i))) (sum ∙ total)
 
 -- ---- what a worker gave back

@@ -9,10 +9,7 @@ pub use Rattle.std.proofs.lemmas.List.{drop-append-le, drop-drop, drop_at, drop_
 pub use Rattle.std.proofs.lemmas.Result.{on_err_weaker, on_ok_weaker}
 pub use Rattle.std.specs.List.{list_all, list_any}
 pub use Rattle.std.specs.Prelude.{is_err}
-pub use Rattle.xh_arena.specs.declared.family.Family.{Family}
 pub use Rattle.xh_arena.specs.Views.{LotOf, TallyOf}
-pub use Rattle.xh_channel.specs.LineNotes.{AreOnLines, GoesOn, IsOnItsLine, line_at, telling_of, told_at}
-pub use Rattle.xh_channel.specs.LineSeats.{IsLaterNote, LineTelling}
 pub use Rattle.xh_channel.specs.Queues.{IsSameEnd, KeepsItsMessages, Posted, TakesAs}
 pub use Rattle.xh_channel.specs.Beside.{IsOf}
 pub use Rattle.xh_channel.specs.declared.laid.Laid.{Laid}
@@ -32,8 +29,8 @@ pub use Rattle.xh_model.specs.Words.{number_of, word_of}
 pub use Rattle.xh_model.specs.declared.event.Event.{Event}
 pub use Rattle.xh_model.specs.declared.event.Event.TheVariants.{Accept, Claim, Pass, Vacate}
 pub use Rattle.xh_model.specs.declared.event.Holder.TheVariants.{Process}
-pub use Rattle.xh_model.specs.declared.limits.TheConstants.{CHANNELS, END_BYTES, MAX_BUDGET}
-pub use Rattle.xh_place.specs.Bodies.{IsOnLine, Content, away, bytes, content_of, endpoint, fits_in, front, kind_of, log_of, part, patched, rest, toward}
+pub use Rattle.xh_model.specs.declared.limits.TheConstants.{END_BYTES, MAX_BUDGET}
+pub use Rattle.xh_place.specs.Bodies.{Content, away, bytes, content_of, endpoint, fits_in, front, kind_of, log_of, part, patched, rest, toward}
 pub use Rattle.xh_place.specs.Desk.{IsSameDesk, IsSeatAt}
 pub use Rattle.xh_place.specs.Ending.{AreEnded, HasGivenBack, IsClosed, IsSwept, IsSweptBy, alone, back_of, ending, last}
 pub use Rattle.xh_place.specs.Endpoints.{AreGot, AreUnpacked, EndsWith, IsDrained, IsGot, IsUnpacked, Puts, Shuts, Takes, TakesEach, TakesNone, TakesOne, carrying, hearing, record_of}
@@ -41,17 +38,12 @@ pub use Rattle.xh_place.specs.Ends.{EndDoes, IsTooLate, RefusedOr, at_home, away
 pub use Rattle.xh_place.specs.Messages.{Answers, IsSent, IsTaken, IsUntaken, Unpacks, is_listed, settle, settled}
 pub use Rattle.xh_place.specs.Moves.{accepted_on, moves, passed_on, there_and_back}
 pub use Rattle.xh_place.specs.Places.{AreBlocks, Fits, IsBlock, IsPlace, IsPlaceOf, IsQuiet, IsWhole, Item, Lists, PlaceOf, entry_of, found as found_at, header_of, item_at, item_in, item_of}
-pub use Rattle.xh_place.specs.Places.{shown}
-pub use Rattle.xh_records.specs.Seats.{family_of}
+pub use Rattle.xh_place.specs.Places.{records_of, shown}
 pub use Rattle.xh_place.specs.Places.{total_of, with_blocks, with_list, with_more, with_moved}
-pub use Rattle.xh_place.specs.Seen.{Came, HasHeard, HasLeft, HearsMore, IsElsewhere, IsKnown, IsSamePlace, IsSeen, Passed, PlaceSeen, Saw, SawAfter, SawAt, SawFrom, SawFull, SawWord, SeesMore, Stays}
-pub use Rattle.xh_place.specs.Seen.{told}
-pub use Rattle.xh_place.specs.Receipts.{AllReceived, IsPaired, IsReceipt, own_of, shape_of}
-pub use Rattle.xh_place.specs.Looks.{Knew}
+pub use Rattle.xh_place.specs.Seen.{Came, HasHeard, HasLeft, IsElsewhere, IsSamePlace, IsSeen, Passed, PlaceSeen, Saw, SawAfter, SawAt, SawFrom, SawFull, SawWord, SeesMore, Stays, told}
 pub use Rattle.xh_place.specs.Starts.{start, stop}
 pub use Rattle.xh_place.specs.Tallies.{gave, ids_of, took}
 pub use Rattle.xh_place.specs.declared.body.Body.{Body}
-pub use Rattle.xh_place.specs.declared.body.EndBlock.{EndBlock}
 pub use Rattle.xh_place.specs.declared.body.Body.TheVariants.{Data, End, Nothing}
 pub use Rattle.xh_place.specs.declared.got.Got.{Got}
 pub use Rattle.xh_place.specs.declared.got.Taken.{Taken}

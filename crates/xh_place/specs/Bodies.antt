@@ -1,7 +1,6 @@
 -- What contracts see of what a block carries.
-use Rattle.std.specs.Prelude.{◌≡◌, ◌≤◌, ℕ, Bool, true, ◌==◌, ◌&&◌, nat_le, nat_lt, ◌+◌, ◌-◌, ◌*◌, List, [], ◌++◌, take, drop, length, Option, Some, None}
+use Rattle.std.specs.Prelude.{◌≡◌, ℕ, Bool, ◌==◌, ◌&&◌, nat_le, nat_lt, ◌+◌, ◌-◌, ◌*◌, List, [], ◌++◌, take, drop, length, Option, Some, None}
 use Rattle.atomic_table.specs.Seated.{TableId}
-use Rattle.xh_channel.specs.LineNotes.{line_at}
 use Rattle.xh_channel.specs.Queues.{Posted}
 use Rattle.xh_model.specs.declared.limits.TheConstants.{DIRECTIONS, END_BYTES, MAX_BYTES}
 use Rattle.xh_place.specs.declared.body.Body.{Body}
@@ -17,7 +16,7 @@ pub data Content : Type 0 where
 abbrev pub content_of : Body → Content
 content_of Nothing = bytes []
 content_of (Data v) = bytes v.items
-content_of (End b) = endpoint b.end
+content_of (End e) = endpoint e
 
 abbrev pub kind_of : Content → Kind
 kind_of (bytes xs) = kind.Data
@@ -33,7 +32,7 @@ fits_in (End e) n = n == END_BYTES
 abbrev pub log_of : Body → Option TableId
 log_of Nothing = None
 log_of (Data v) = None
-log_of (End b) = Some b.end.log
+log_of (End e) = Some e.log
 
 -- the direction toward an endpoint, and that toward its peer
 abbrev pub toward : Content → ℕ
@@ -48,11 +47,6 @@ away (endpoint e) = 2 * e.channel + 1 - e.side
 abbrev pub IsEndAt : Content → ℕ → ℕ → Type 0
 IsEndAt (bytes xs) channel side = ⊥
 IsEndAt (endpoint e) channel side = (e.channel ≡ channel) × (e.side ≡ side)
-
--- an end with a contract is one of the two on its channel's line, where these are the lines of all channels
-abbrev pub IsOnLine : List TableId → Content → Type 0
-IsOnLine lines (bytes xs) = Unit {0}
-IsOnLine lines (endpoint e) = e.has_contract ≡ true → (e.side ≤ 1) × (e.line ≡ line_at lines e.channel)
 
 -- its n bytes from `at` on, and what it is with these bytes there
 abbrev pub part : ℕ → ℕ → Content → List ℕ

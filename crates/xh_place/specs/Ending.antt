@@ -8,19 +8,20 @@ use Rattle.xh_model.specs.declared.event.Event.{Event}
 use Rattle.xh_model.specs.Keyed.{keys, value_at, without}
 use Rattle.xh_core.specs.Calls.{reclaimed}
 use Rattle.xh_model.specs.declared.limits.TheConstants.{MAX_BUDGET}
+use Rattle.xh_records.specs.Seats.{Noted}
 use Rattle.xh_place.specs.Bodies.{toward}
 use Rattle.xh_place.specs.Endpoints.{EndsWith}
 use Rattle.xh_place.specs.Moves.{accepted_on}
 use Rattle.xh_place.specs.Places.{Item, PlaceOf, with_blocks, with_list, total_of}
-use Rattle.xh_place.specs.Seen.{PlaceSeen}
+use Rattle.xh_place.specs.Seen.{IsSeen, PlaceSeen}
 
--- from the call's begin to its end the place was seen so
-module _ (before after : PlaceSeen) where
+-- `saw note r word` says that this word was seen at the record r, once the note was heard
+module _ (saw : Option Noted → ℕ → ℕ → Type 0) where
   -- These went, one after another, each as it ends. What was accepted is what came with each, in their order, which the process accepted on the direction toward it.
   abbrev pub AreEnded : ℕ → List (ℕ × Item) → List (ℕ × Item) → List Event → Type 0
   AreEnded p [] accepted log = (accepted ≡ []) × (log ≡ [])
   AreEnded p (y ∷ ys) accepted log = (came : List (ℕ × Item)) × (more : List (ℕ × Item)) × (later : List Event) × (accepted ≡ came ++ more)
-      × (log ≡ accepted_on p (toward y.1.content) (keys came) ++ later) × EndsWith before after y.1.content came × AreEnded p ys more later
+      × (log ≡ accepted_on p (toward y.1.content) (keys came) ++ later) × EndsWith saw y.1.content came × AreEnded p ys more later
 
   -- So many blocks were reclaimed: the list from `from` on is the old one from there, followed by what was accepted, without its first blocks.
   -- Those were bytes, or endpoints that were shut and took all that they found; what was accepted came with their messages.
@@ -63,7 +64,7 @@ ending left = cond (left == 0) Ended Ending
 
 -- the whole list is swept
 abbrev pub IsStopped : ℕ → PlaceSeen → PlaceSeen → ℕ → Result ℕ Refused → Type 0
-IsStopped budget old new bytes result = IsSwept old new 0 budget old.place new.place bytes (length new.place.blocks)
+IsStopped budget old new bytes result = IsSwept (IsSeen old new) 0 budget old.place new.place bytes (length new.place.blocks)
     × (new.place ≡ record (with_list old.place new.place) { state = ending (length new.place.blocks) }) × (result ≡ reclaimed bytes (length new.place.blocks))
 
 -- ---- close
@@ -79,5 +80,5 @@ last r xs = without r xs ++ alone r (value_at r xs)
 
 -- the endpoint goes to the end of the list, and the list is swept from there
 abbrev pub IsClosed : ℕ → PlaceSeen → PlaceSeen → ℕ → Result ℕ Refused → Type 0
-IsClosed e old new bytes result = (left : ℕ) × IsSwept old new (length (without e old.place.blocks)) MAX_BUDGET (with_blocks old.place (last e old.place.blocks)) new.place bytes left
+IsClosed e old new bytes result = (left : ℕ) × IsSwept (IsSeen old new) (length (without e old.place.blocks)) MAX_BUDGET (with_blocks old.place (last e old.place.blocks)) new.place bytes left
     × (new.place ≡ with_list old.place new.place) × (result ≡ reclaimed bytes left)

@@ -12,8 +12,7 @@ use Rattle.xh_place.specs.Bodies.{Content, bytes, endpoint, toward}
 use Rattle.xh_place.specs.declared.got.Got.{Got}
 use Rattle.xh_place.specs.declared.got.Got.TheVariants.{Here, Missing}
 use Rattle.xh_place.specs.Places.{Item}
-use Rattle.xh_place.specs.Receipts.{AllReceived}
-use Rattle.xh_place.specs.Seen.{IsElsewhere, IsKnown, IsSeen, Knows, PlaceSeen}
+use Rattle.xh_place.specs.Seen.{IsElsewhere}
 
 -- this note is to lie beside the message that it puts next
 abbrev pub carrying : Noted → Posted → Posted
@@ -89,10 +88,9 @@ module _ (saw : Option Noted → ℕ → ℕ → Type 0) where
   AreUnpacked d [] came = came ≡ []
   AreUnpacked d (x ∷ xs) came = (here : List (ℕ × Item)) × (more : List (ℕ × Item)) × (came ≡ here ++ more) × IsUnpacked d x here × AreUnpacked d xs more
 
--- From the call's begin to its end the place was seen so. Bytes, with which nothing came, or an endpoint that was shut and then took all that it found, and the blocks of its messages came.
--- With a contract it is drained then: it took all that its peer ever puts, and nothing waits for it from then on.
--- With or without a contract, of all that it ever took the place knows by the end of the call that each block was elsewhere; with one it has heard all that the end did
-abbrev pub EndsWith : (before after : PlaceSeen) → Content → List (ℕ × Item) → Type 0
-EndsWith before after (bytes xs) came = came ≡ []
-EndsWith before after (endpoint e) came = (ms : List Laid) × (shut : Posted) × (last : Posted) × Shuts e shut × IsDrained ms shut last × AreUnpacked (IsSeen before after) (toward (endpoint e)) ms came
-    × (e.has_contract ≡ true → last.drained ≡ true) × AllReceived (IsKnown before after) last × (e.has_contract ≡ true → Knows after last)
+  -- Bytes, with which nothing came, or an endpoint that was shut and then took all that it found, and the blocks of its messages came.
+  -- With a contract it is drained then: it took all that its peer ever puts, and nothing waits for it from then on
+  abbrev pub EndsWith : Content → List (ℕ × Item) → Type 0
+  EndsWith (bytes xs) came = came ≡ []
+  EndsWith (endpoint e) came = (ms : List Laid) × (shut : Posted) × (last : Posted) × Shuts e shut × IsDrained ms shut last × AreUnpacked (toward (endpoint e)) ms came
+      × (e.has_contract ≡ true → last.drained ≡ true)

@@ -12,13 +12,13 @@ use Rattle.xh_model.specs.declared.limits.TheConstants.{DIRECTIONS, END_BYTES, M
 use Rattle.xh_core.specs.Refusing.{Tests, first_refusal}
 use Rattle.xh_core.specs.Statuses.{is_running}
 use Rattle.xh_model.specs.Keyed.{put, value_at}
-use Rattle.xh_records.specs.Seats.{IsRecord}
+use Rattle.xh_records.specs.Seats.{IsRecord, Noted}
 use Rattle.xh_place.specs.Bodies.{away, endpoint, toward}
 use Rattle.xh_arena.specs.Views.{TallyOf}
 use Rattle.xh_place.specs.declared.opening.Unopened.{Unopened}
 use Rattle.xh_place.specs.Tallies.{took}
 use Rattle.xh_place.specs.Places.{IsWhole, Item, PlaceOf, with_blocks, with_list, with_more}
-use Rattle.xh_place.specs.Seen.{IsElsewhere, PlaceSeen, SawWord}
+use Rattle.xh_place.specs.Seen.{IsElsewhere, IsSeen, PlaceSeen, SawWord}
 use Rattle.xh_place.specs.Ending.{HasGivenBack, IsSwept}
 
 -- the call answers the first refusal whose test is true, and then these stay as they were; where none is, it does what is said
@@ -82,8 +82,8 @@ ending_again status.Running left = status.Running
 ending_again status.Ending left = status.Ending
 
 -- An endpoint came that nobody is here for: so it was swept, and no fewer bytes than it has were given back.
-abbrev pub IsTooLate : (before after : PlaceSeen) → ℕ → ℕ → PlaceOf → PlaceOf → ℕ → Type 0
-IsTooLate before after d r old new sum = (x : Item) × (left : ℕ) × IsSwept before after (length old.blocks) MAX_BUDGET (with_more d ((r, x) ∷ []) old) new sum left
+abbrev pub IsTooLate : (Option Noted → ℕ → ℕ → Type 0) → ℕ → ℕ → PlaceOf → PlaceOf → ℕ → Type 0
+IsTooLate saw d r old new sum = (x : Item) × (left : ℕ) × IsSwept saw (length old.blocks) MAX_BUDGET (with_more d ((r, x) ∷ []) old) new sum left
     × (new ≡ record (with_list old new) { state = ending_again old.state (length new.blocks) }) × IsWhole x × (x.len ≤ sum)
 
 -- It came on the direction to the end of the list of the process, which runs here; or the process doesn't, and then it came too late;
@@ -93,4 +93,4 @@ pub record Accepts (process r direction : ℕ) (old new : PlaceSeen) (told talli
       × (tallies ≡ told))
   pub away : IfErr result (λ e. (e ≡ Ended) × (((new.place ≡ old.place) × (tallies ≡ told) × ((old.place.state ≡ status.Vacant) ⊎ IsElsewhere (SawWord old new) direction r))
       ⊎ ((is_here old.place process ≡ false) × (old.place.state ≢ status.Vacant)
-      × ((bytes : ℕ) × IsTooLate old new direction r old.place new.place bytes × HasGivenBack bytes told tallies))))
+      × ((bytes : ℕ) × IsTooLate (IsSeen old new) direction r old.place new.place bytes × HasGivenBack bytes told tallies))))

@@ -1,7 +1,5 @@
 pub mod Vaults
 pub mod Bodies
-pub mod Looks
-pub mod Receipts
 pub mod Endpoints
 pub mod Moves
 pub mod Places

@@ -1,5 +1,5 @@
 -- Give and take: what they do to the place.
-use Rattle.std.specs.Prelude.{true, ◌≡◌, ℕ, Bool, List, [], ◌∷◌, Option, Some, None, is_some, map, Result, Ok, Err, MatchResult, OnErr}
+use Rattle.std.specs.Prelude.{◌≡◌, ℕ, Bool, List, [], ◌∷◌, Option, Some, None, is_some, map, Result, Ok, Err, MatchResult, OnErr}
 use Rattle.arrayvec.specs.ArrayVec.{ArrayVec}
 use Rattle.xh_channel.specs.Beside.{IsOf}
 use Rattle.xh_channel.specs.declared.laid.Laid.{Laid}
@@ -17,8 +17,7 @@ use Rattle.xh_place.specs.Ends.{EndDoes, away_in, toward_in}
 use Rattle.xh_place.specs.Moves.{there_and_back}
 use Rattle.xh_place.specs.declared.got.Taken.{Taken}
 use Rattle.xh_place.specs.Places.{Item, PlaceOf, with_blocks, with_moved, with_more}
-use Rattle.xh_place.specs.Receipts.{IsPaired}
-use Rattle.xh_place.specs.Seen.{HasLeft, IsSeen, Knows, Passed, PlaceSeen}
+use Rattle.xh_place.specs.Seen.{HasLeft, IsSeen, Passed, PlaceSeen}
 
 -- ---- give
 
@@ -55,7 +54,6 @@ GoesOrReturns d given back old new = (new ≡ with_moved (with_blocks old (settl
 -- The endpoint put the blocks with the tag, each of a record that there is, they went or came back, and the answer is that of the put.
 -- Beside the message went a note of the records' log, and in what it tells each of the blocks was passed in this call.
 -- Where it was refused, each given block, also one that came back, had another word than "in flight on the direction", which was seen after the block was passed there.
--- Whatever was answered, the place has heard all that the endpoint did, where its channel has a contract.
 pub record IsSent (e tag : ℕ) (given : List ℕ) (old new : PlaceSeen) (result : Result ℕ Refused) : Type 0 where
   pub mid : PlaceOf
   pub blocks : ArrayVec ℕ
@@ -69,8 +67,6 @@ pub record IsSent (e tag : ℕ) (given : List ℕ) (old new : PlaceSeen) (result
   pub moved : GoesOrReturns (away_in (value_at e old.place.blocks)) given back mid new.place
   pub lost : OnErr answered ((r : ℕ) → Among given r → HasLeft old new (away_in (value_at e old.place.blocks)) r)
   pub answer : Answers (keys back) answered result
-  pub knows : made.1.has_contract ≡ true → Knows new made.1
-  pub paired : IsPaired made.1
 
 -- ---- take
 

@@ -1,10 +1,7 @@
 -- What contracts see of a place, and what its type keeps.
 use Rattle.std.specs.Prelude.{◌≡◌, ℕ, ◌+◌, ◌*◌, ◌<◌, ◌≤◌, List, [], ◌∷◌, ◌++◌, length, Option, Some, None}
 use Rattle.atomic_table.specs.Seated.{TableId}
-use Rattle.xh_arena.specs.declared.family.Family.{Family}
 use Rattle.xh_arena.specs.Views.{LotOf}
-use Rattle.xh_channel.specs.LineNotes.{AreOnLines}
-use Rattle.xh_channel.specs.LineSeats.{LineTelling}
 use Rattle.xh_core.specs.declared.glance.Glance.{Glance}
 use Rattle.xh_core.specs.declared.ledger.PlaceLine.{PlaceLine}
 use Rattle.xh_core.specs.declared.status.Status.{Status}
@@ -15,11 +12,10 @@ use Rattle.xh_model.specs.declared.limits.TheConstants.{END_BYTES, MAX_ARENAS, M
 use Rattle.xh_records.specs.declared.shape.Shape.{Shape}
 use Rattle.xh_records.specs.Showing.{IsLotOf, IsFull, IsOwn}
 use Rattle.xh_model.specs.Keyed.{Distinct, keys, value_at, without}
-use Rattle.xh_records.specs.Seats.{RecordsOf, Held, IsRecord, family_of}
+use Rattle.xh_records.specs.Seats.{RecordsOf, Held, IsRecord}
 use Rattle.xh_place.specs.declared.body.Body.{Body}
 use Rattle.xh_core.specs.declared.header.Header.{Header}
-use Rattle.xh_place.specs.Bodies.{Content, bytes, endpoint, content_of, kind_of, fits_in}
-use Rattle.xh_place.specs.Receipts.{own_of, shape_of}
+use Rattle.xh_place.specs.Bodies.{Content, bytes, endpoint, content_of, kind_of, fits_in, log_of}
 use Rattle.xh_place.specs.Moves.{accepted_on, passed_on}
 
 -- a block: its length, and what it carries
@@ -27,13 +23,11 @@ pub record Item : Type 0 where
   pub len : ℕ
   pub content : Content
 
--- A place: the table and its shape, the lines of the channels whose ends may lie there, by channel, the number of its process, the blocks by their records in the order gained, and how far the
--- process has come;
+-- A place: the table and its shape, the number of its process, the blocks by their records in the order gained, and how far the process has come;
 -- and the passes and accepts that its processes did, in their order, each of which tells the direction that a record left or came on.
 pub record PlaceOf : Type 0 where
   pub table : TableId
   pub shape : Shape
-  pub lines : List TableId
   pub process : ℕ
   pub blocks : List (ℕ × Item)
   pub state : Status
@@ -140,12 +134,16 @@ next_process Ending p = p
 abbrev pub started : PlaceOf → PlaceOf
 started p = record p { process = next_process p.state p.process; state = Running }
 
--- the lot of a record that a process owns, well formed, and of the family of its table's lots
-pub record IsBlock (all : Family) (r : ℕ) (l : LotOf Body) : Type 0 where
-  pub exists : IsRecord (shape_of all) r
-  pub lot : IsLotOf (shape_of all) r l
+-- the table of a seat
+abbrev pub records_of : Held Body → RecordsOf
+records_of seat = record { table = seat.table; shape = seat.shape }
+
+-- the lot of a record that a process owns, well formed; where it is an endpoint, notes of these records' log lie beside its messages
+pub record IsBlock (all : RecordsOf) (r : ℕ) (l : LotOf Body) : Type 0 where
+  pub exists : IsRecord all.shape r
+  pub lot : IsLotOf all.shape r l
   pub full : IsFull fits_in l
-  pub own : IsOwn own_of all l
+  pub own : IsOwn log_of all.table l
 
 -- a place that nobody has, or whose process has ended, has no block
 abbrev pub IsQuiet : Status → List (ℕ × Item) → Type 0
@@ -154,13 +152,11 @@ IsQuiet Ended xs = xs ≡ []
 IsQuiet Running xs = Unit {0}
 IsQuiet Ending xs = Unit {0}
 
--- what a place's type keeps: its blocks are exactly what its seat holds, each record once, all well formed, and its total is the sum;
--- and what was heard of an end is of its channel's line
-pub record IsPlace (ends : List (Option LineTelling)) (seat : Held Body) (xs : List (ℕ × Item)) (capacity total : ℕ) (state : Status) : Type 0 where
+-- what a place's type keeps: its blocks are exactly what its seat holds, each record once, all well formed, and its total is the sum
+pub record IsPlace (seat : Held Body) (xs : List (ℕ × Item)) (capacity total : ℕ) (state : Status) : Type 0 where
   pub same : (r : ℕ) → value_at r xs ≡ item_at (value_at r seat.lots)
-  pub blocks : (r : ℕ) (l : LotOf Body) → value_at r seat.lots ≡ Some l → IsBlock (family_of seat) r l
+  pub blocks : (r : ℕ) (l : LotOf Body) → value_at r seat.lots ≡ Some l → IsBlock (records_of seat) r l
   pub distinct : Distinct (keys xs)
   pub sum : total ≡ total_of xs
   pub room : (length seat.shape.names * seat.shape.records ≤ capacity) × (length seat.shape.names ≤ MAX_ARENAS)
   pub quiet : IsQuiet state xs
-  pub lines : AreOnLines seat.lines ends

@@ -1,38 +1,22 @@
 -- What a place has seen of the one log of all record events, and the words that a call of it found at a step.
-use Rattle.std.specs.Prelude.{◌≡◌, ◌≢◌, ◌⊎◌, ℕ, ◌+◌, ◌*◌, ◌<◌, ◌++◌, ◌≤◌, List, length, slice_index, Option, Some}
-use Rattle.xh_channel.specs.LineNotes.{number_of, telling_of, told_at}
-use Rattle.xh_channel.specs.LineSeats.{IsLaterNote, LineTelling}
-use Rattle.xh_channel.specs.Queues.{Posted}
+use Rattle.std.specs.Prelude.{◌≡◌, ◌≢◌, ◌⊎◌, ℕ, ◌+◌, ◌*◌, ◌<◌, ◌++◌, List, [], length, slice_index, Option, None, Some}
 use Rattle.xh_model.specs.declared.event.Event.{Event}
-use Rattle.xh_model.specs.declared.limits.TheConstants.{CHANNELS}
 use Rattle.xh_model.specs.declared.event.Event.TheVariants.{Pass}
 use Rattle.xh_model.specs.Keyed.{Among}
 use Rattle.xh_model.specs.Slots.{index_of}
 use Rattle.xh_records.specs.declared.shape.Shape.{Shape}
-use Rattle.xh_records.specs.History.{StartsWith}
+use Rattle.xh_records.specs.History.{StartsWith, TellsWord}
 use Rattle.xh_records.specs.Seats.{IsRecord, Noted}
-pub use Rattle.xh_place.specs.Looks.{IsElsewhere, Knew, SawAt, SawFrom, told}
 use Rattle.xh_place.specs.Places.{PlaceOf}
 
--- a place, and its seat's front: the beginning of the one log of all record events that it has seen;
--- and of each end of a channel with a contract what the place has last heard of it, if anything: at 2 * channel + side
+-- a place, and its seat's front: the beginning of the one log of all record events that it has seen
 pub record PlaceSeen : Type 0 where
   pub place : PlaceOf
   pub front : List Event
-  pub ends : List (Option LineTelling)
 
--- what was heard of each end goes on
-pub record HearsMore (new old : List (Option LineTelling)) : Type 0 where
-  pub later : (d : ℕ) (n : LineTelling) → told_at old d ≡ Some n → (m : LineTelling) × (told_at new d ≡ Some m) × IsLaterNote n m × (m.table ≡ n.table)
-
--- what was seen stays seen, and what was heard goes on
-pub record SeesMore (old new : PlaceSeen) : Type 0 where
-  pub front : StartsWith new.front old.front
-  pub ends : HearsMore new.ends old.ends
-
--- the place has heard of the endpoint all that it did, or more
-abbrev pub Knows : PlaceSeen → Posted → Type 0
-Knows p e = (n : LineTelling) × (told_at p.ends (number_of e) ≡ Some n) × IsLaterNote (telling_of e) n × (n.table ≡ e.line) × ((e.channel < CHANNELS) × (e.side ≤ 1))
+-- what was seen stays seen
+abbrev pub SeesMore : PlaceSeen → PlaceSeen → Type 0
+SeesMore old new = StartsWith new.front old.front
 
 -- it is this place now
 abbrev pub Becomes : PlaceOf → PlaceSeen → PlaceSeen → Type 0
@@ -42,11 +26,19 @@ Becomes p old new = (new.place ≡ p) × SeesMore old new
 abbrev pub Stays : PlaceSeen → PlaceSeen → Type 0
 Stays old new = Becomes old.place old new
 
--- the same place, and the same process; the same channels' ends may lie there
+-- the same place, and the same process
 abbrev pub IsSamePlace : PlaceSeen → PlaceSeen → Type 0
-IsSamePlace old new = (new.place.table ≡ old.place.table) × (new.place.shape ≡ old.place.shape) × (new.place.lines ≡ old.place.lines) × (new.place.process ≡ old.place.process) × SeesMore old new
+IsSamePlace old new = (new.place.table ≡ old.place.table) × (new.place.shape ≡ old.place.shape) × (new.place.process ≡ old.place.process) × SeesMore old new
 
 -- ---- looks
+
+-- from the one front to the other there was a step at which the word at the index k was this: that of the record's holder then
+abbrev pub SawAt : Shape → List Event → List Event → ℕ → ℕ → Type 0
+SawAt s from to k word = (front : List Event) × StartsWith front from × StartsWith to front × TellsWord s.records front k word
+
+-- the same, from a front on of which this holds
+abbrev pub SawFrom : (List Event → Type 0) → Shape → List Event → ℕ → ℕ → Type 0
+SawFrom P s to k word = (from : List Event) × P from × SawAt s from to k word
 
 -- the place saw this word at the record r at a step of this call
 abbrev pub SawWord : PlaceSeen → PlaceSeen → ℕ → ℕ → Type 0
@@ -56,6 +48,11 @@ SawWord old new r word = SawAt old.place.shape old.front new.front (index_of old
 abbrev pub Saw : PlaceSeen → PlaceSeen → ℕ → ℕ → Type 0
 Saw old new r word = SawWord old new r word ⊎ ((IsRecord old.place.shape r → ⊥) × (word ≡ 0))
 
+-- what a note tells that its seat had seen: nothing where there is none
+abbrev pub told : Option Noted → List Event
+told None = []
+told (Some n) = n.front
+
 -- in it is the one front, and all that the note tells
 abbrev pub HasHeard : List Event → Option Noted → List Event → Type 0
 HasHeard front note from = StartsWith from front × StartsWith from (told note)
@@ -63,10 +60,6 @@ HasHeard front note from = StartsWith from front × StartsWith from (told note)
 -- the place saw this word at the record r at a step of this call, once it had heard the note; or there is no such record
 abbrev pub IsSeen : PlaceSeen → PlaceSeen → Option Noted → ℕ → ℕ → Type 0
 IsSeen old new note r word = SawFrom (HasHeard old.front note) old.place.shape new.front (index_of old.place.shape.records r) word ⊎ ((IsRecord old.place.shape r → ⊥) × (word ≡ 0))
-
--- the place knows by the end of the call that this word was at the record r past what the note tells; or there is no such record
-abbrev pub IsKnown : PlaceSeen → PlaceSeen → Option Noted → ℕ → ℕ → Type 0
-IsKnown old new = Knew old.place.shape new.front
 
 -- from the one front to the other this event came
 abbrev pub Came : Event → List Event → List Event → Type 0
@@ -88,6 +81,10 @@ SawFull s from to arena = (words : List ℕ) × (length words ≡ s.records)
 -- the place saw that no record of the arena was free
 abbrev pub FindsFull : PlaceSeen → PlaceSeen → ℕ → Type 0
 FindsFull old new arena = SawFull old.place.shape old.front new.front arena
+
+-- `saw r word` says that this word was seen at the record r. Here it was another one than "in flight on the direction".
+abbrev pub IsElsewhere : (ℕ → ℕ → Type 0) → ℕ → ℕ → Type 0
+IsElsewhere saw d r = (word : ℕ) × (word ≢ 2 + 4 * d) × saw r word
 
 -- the call passed the record r on the direction, and saw after that that it was in flight there no more
 abbrev pub HasLeft : PlaceSeen → PlaceSeen → ℕ → ℕ → Type 0

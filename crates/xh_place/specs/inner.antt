@@ -3,6 +3,4 @@ pub mod Lots
 pub mod Lists
 pub mod Opening
 pub mod Reclaiming
-pub mod Taking
-pub mod Hearing
 pub mod Answers

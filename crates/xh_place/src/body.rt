@@ -2,15 +2,6 @@
 use xh_arena::Fits;
 use xh_channel::Endpoint;
 use xh_model::limits::{END_BYTES, MAX_BYTES};
-use xh_records::Note;
-
-/// An end of a channel as its block carries it, and its receipt: in what the note tells, the blocks of all messages that
-/// the end ever took were seen elsewhere.
-#[derive(Drop)]
-pub struct EndBlock {
-    pub(crate) end: Endpoint,
-    pub(crate) seen: Option<Note>,
-}
 
 /// What travels with a record.
 #[derive(Drop)]
@@ -19,7 +10,7 @@ pub enum Body {
     /// The bytes of a data block: a buffer of its length, at most 1,048,576.
     Data(Vec<u8>),
     /// An end of a channel. Its block has 32 bytes.
-    End(EndBlock),
+    End(Endpoint),
 }
 
 impl Default for Body {
@@ -34,12 +25,11 @@ impl Default for Body {
 }
 
 impl Fits for Body {
-    ghost use Rattle.xh_place.specs.Bodies.{fits_in};
-    ghost use Rattle.xh_place.specs.Receipts.{own_of};
+    ghost use Rattle.xh_place.specs.Bodies.{fits_in, log_of};
 
     ghost is_fit = { fits_in };
 
-    ghost own = { own_of };
+    ghost log = { log_of };
 
     fn fits(&self, len: u32) -> bool {
         match self {

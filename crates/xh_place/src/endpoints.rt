@@ -5,14 +5,14 @@ ghost use Rattle.xh_arena.specs.Views.{LotOf};
 ghost use Rattle.xh_model.specs.Keyed.{value_at, put};
 ghost use Rattle.xh_model.specs.declared.limits.TheConstants.{CHANNELS, DIRECTIONS};
 ghost use Rattle.xh_channel.specs.Beside.{IsOf};
-ghost use Rattle.xh_place.specs.Bodies.{IsEndAt, content_of, endpoint, log_of, toward};
+ghost use Rattle.xh_place.specs.Bodies.{IsEndAt, content_of, log_of, toward};
 ghost use Rattle.xh_place.specs.Endpoints.{Puts, Shuts, Takes, carrying};
 ghost use Rattle.xh_place.specs.declared.body.Body.{Body};
-ghost use Rattle.xh_place.specs.inner.Lots.{ByEnd, IsEnd, LotDoes};
+ghost use Rattle.xh_place.specs.inner.Lots.{IsEnd, LotDoes};
 ghost use Rattle.xh_records.specs.Seats.{IsSeatOf, IsRecord, Noted, with_lots};
 ghost use Rattle.xh_records.specs.Showing.{IsLotOf};
 
-use crate::body::{Body, EndBlock};
+use crate::body::Body;
 use crate::desk::Desk;
 use arrayvec::ArrayVec;
 use std::sync::Wait;
@@ -37,10 +37,10 @@ pub(crate) fn spot_at(records: &Records<Body>, seat: &mut Seat<Body>, e: u16) ->
             ensures same { lot.new ≡ lot.old }
             ensures spot { IsEndAt (content_of lot.old.body) result.channel result.side × (result.channel < CHANNELS) × (result.side < 2) }
         {
-            let Body::End(block) = lot.body() else {
+            let Body::End(end) = lot.body() else {
                 unreachable!()
             };
-            block.end.spot()
+            end.spot()
         },
     )
 }
@@ -65,22 +65,6 @@ fn carry(end: &mut Endpoint, note: &mut Option<Note>)
     end.carry(note);
 }
 
-// An end as a block, which carries a note, puts a message, its tag and its blocks.
-fn put_by<R: Wait>(
-    rt: &R,
-    channels: &Channels,
-    block: &mut EndBlock,
-    message: (u16, ArrayVec<u16, 8>),
-    note: &mut Option<Note>,
-) -> Result<u64, Unsent>
-    requires { (n : Noted) × (note.old ≡ Some n) × (n.table ≡ block.old.end.log) }
-    ensures { (n : Noted) → note.old ≡ Some n → ByEnd (Puts n message.0 message.1 result) block.old block.new }
-{
-    let (tag, blocks) = message;
-    carry(&mut block.end, note);
-    channels.put(rt, &mut block.end, tag, blocks)
-}
-
 // Puts a message by the endpoint, its tag and its blocks, with the note beside it.
 pub(crate) fn put_at<R: Wait, V, G>(
     desk: &Desk<'_, R, V, G>,
@@ -92,7 +76,7 @@ pub(crate) fn put_at<R: Wait, V, G>(
     requires own { IsSeatOf desk.now.records.now seat.old × IsRecord desk.now.records.now.shape e }
     requires held { (l : LotOf Body) × (value_at e seat.old.lots ≡ Some l) × IsLotOf seat.old.shape e l × IsEnd l × (log_of l.body ≡ Some note.table) }
     ensures { (l : LotOf Body) → value_at e seat.old.lots ≡ Some l → (m : LotOf Body)
-        × LotDoes (ByEnd (Puts note message.entry.0 message.entry.1.now result)) l m × (seat.new ≡ with_lots seat.old (put e m seat.old.lots)) }
+        × LotDoes (Puts note message.entry.0 message.entry.1.now result) l m × (seat.new ≡ with_lots seat.old (put e m seat.old.lots)) }
 {
     let (rt, channels) = (desk.rt, desk.channels);
     let (tag, given) = message;
@@ -102,12 +86,13 @@ pub(crate) fn put_at<R: Wait, V, G>(
         e,
         &mut |lot: &mut Lot<Body>|
             requires { IsEnd lot.old × ((n : Noted) × (carried ≡ Some n) × (log_of lot.old.body ≡ Some n.table)) }
-            ensures { (n : Noted) → carried.entry ≡ Some n → LotDoes (ByEnd (Puts n tag given.entry.now result)) lot.old lot.new }
+            ensures { (n : Noted) → carried.entry ≡ Some n → LotDoes (Puts n tag given.entry.now result) lot.old lot.new }
         {
-            let Body::End(block) = lot.body_mut() else {
+            let Body::End(end) = lot.body_mut() else {
                 unreachable!()
             };
-            put_by(rt, channels, block, (tag, copy_of(given)), &mut carried)
+            carry(end, &mut carried);
+            channels.put(rt, end, tag, copy_of(given))
         },
     )
 }
@@ -132,23 +117,6 @@ fn take_from<R: Wait>(
     taken
 }
 
-// The same by an end as a block. It answers the direction.
-fn take_by<R: Wait>(
-    rt: &R,
-    channels: &Channels,
-    block: &mut EndBlock,
-    taken: &mut Result<Message, Untaken>,
-    note: &mut Option<Note>,
-) -> u8
-    ensures took { ByEnd (Takes note.new taken.new) block.old block.new }
-    ensures log { IsOf block.old.end.log note.new }
-    ensures direction { (result ≡ toward (endpoint block.old.end)) × (result < DIRECTIONS) }
-{
-    let spot = block.end.spot();
-    *taken = take_from(rt, channels, &mut block.end, note);
-    2 * spot.channel + spot.side
-}
-
 // Takes the message at the front for the endpoint. With the answer go the direction and what lay beside the
 // message. The answer is large: it is put where the caller lends room, and in a function of its own, since
 // each move of it costs.
@@ -161,7 +129,7 @@ pub(crate) fn take_at<R: Wait, V, G>(
     requires own { IsSeatOf desk.now.records.now seat.old × IsRecord desk.now.records.now.shape e }
     requires held { (l : LotOf Body) × (value_at e seat.old.lots ≡ Some l) × IsLotOf seat.old.shape e l × IsEnd l }
     ensures seat { (l : LotOf Body) → value_at e seat.old.lots ≡ Some l → (result.1 ≡ toward (content_of l.body))
-        × ((m : LotOf Body) × LotDoes (ByEnd (Takes result.2 result.0)) l m × (seat.new ≡ with_lots seat.old (put e m seat.old.lots))) }
+        × ((m : LotOf Body) × LotDoes (Takes result.2 result.0) l m × (seat.new ≡ with_lots seat.old (put e m seat.old.lots))) }
     ensures log { (t : TableId) → (l : LotOf Body) → value_at e seat.old.lots ≡ Some l → log_of l.body ≡ Some t → IsOf t result.2 }
     ensures small { result.1 < DIRECTIONS }
 {
@@ -173,31 +141,26 @@ pub(crate) fn take_at<R: Wait, V, G>(
         e,
         &mut |lot: &mut Lot<Body>| -> u8
             requires { IsEnd lot.old }
-            ensures lot { LotDoes (ByEnd (Takes note.exit taken.exit)) lot.old lot.new }
+            ensures lot { LotDoes (Takes note.exit taken.exit) lot.old lot.new }
             ensures log { (t : TableId) → log_of lot.old.body ≡ Some t → IsOf t note.exit }
             ensures direction { (result ≡ toward (content_of lot.old.body)) × (result < DIRECTIONS) }
         {
-            let Body::End(block) = lot.body_mut() else {
+            let Body::End(end) = lot.body_mut() else {
                 unreachable!()
             };
-            take_by(rt, channels, block, &mut taken, &mut note)
+            let spot = end.spot();
+            taken = take_from(rt, channels, end, &mut note);
+            2 * spot.channel + spot.side
         },
     );
     (taken, direction, note)
-}
-
-// An end as a block is shut.
-fn shut_by<R: Wait>(rt: &R, channels: &Channels, block: &mut EndBlock)
-    ensures { ByEnd Shuts block.old block.new }
-{
-    channels.shut(rt, &mut block.end);
 }
 
 // Shuts the endpoint.
 pub(crate) fn shut_at<R: Wait, V, G>(desk: &Desk<'_, R, V, G>, seat: &mut Seat<Body>, e: u16)
     requires own { IsSeatOf desk.now.records.now seat.old × IsRecord desk.now.records.now.shape e }
     requires held { (l : LotOf Body) × (value_at e seat.old.lots ≡ Some l) × IsLotOf seat.old.shape e l × IsEnd l }
-    ensures { (l : LotOf Body) → value_at e seat.old.lots ≡ Some l → (m : LotOf Body) × LotDoes (ByEnd Shuts) l m × (seat.new ≡ with_lots seat.old (put e m seat.old.lots)) }
+    ensures { (l : LotOf Body) → value_at e seat.old.lots ≡ Some l → (m : LotOf Body) × LotDoes Shuts l m × (seat.new ≡ with_lots seat.old (put e m seat.old.lots)) }
 {
     let (rt, channels) = (desk.rt, desk.channels);
     desk.records.with_lot(
@@ -205,12 +168,12 @@ pub(crate) fn shut_at<R: Wait, V, G>(desk: &Desk<'_, R, V, G>, seat: &mut Seat<B
         e,
         &mut |lot: &mut Lot<Body>|
             requires { IsEnd lot.old }
-            ensures { LotDoes (ByEnd Shuts) lot.old lot.new }
+            ensures { LotDoes Shuts lot.old lot.new }
         {
-            let Body::End(block) = lot.body_mut() else {
+            let Body::End(end) = lot.body_mut() else {
                 unreachable!()
             };
-            shut_by(rt, channels, block);
+            channels.shut(rt, end);
         },
     )
 }

@@ -5,8 +5,7 @@ ghost use Rattle.xh_model.specs.Keyed.{Among, Distinct, value_at};
 ghost use Rattle.xh_model.specs.declared.limits.TheConstants.{DIRECTIONS, MAX_BLOCKS};
 ghost use Rattle.xh_place.specs.Bodies.{away, content_of, kind_of};
 ghost use Rattle.xh_place.specs.Messages.{Answers};
-ghost use Rattle.xh_place.specs.Places.{IsBlock, item_in};
-ghost use Rattle.xh_records.specs.Seats.{family_of};
+ghost use Rattle.xh_place.specs.Places.{IsBlock, item_in, records_of};
 ghost use Rattle.xh_place.specs.Seen.{IsElsewhere};
 ghost use Rattle.xh_place.specs.declared.body.Body.{Body};
 ghost use Rattle.xh_place.specs.inner.Lots.{ArePassed, HasNow, LotPuts, SeatHasLeft, SeatSaw, SeatSeesMore, with_done};
@@ -37,7 +36,7 @@ pub(crate) fn pass_all(
     requires own { IsSeatOf records.now seat.old × (direction < DIRECTIONS) }
     requires distinct { Distinct given.now }
     requires few { length given.now ≤ MAX_BLOCKS }
-    requires held { (r : ℕ) → Among given.now r → (l : LotOf Body) × (value_at r seat.old.lots ≡ Some l) × IsBlock (family_of seat.old) r l }
+    requires held { (r : ℕ) → Among given.now r → (l : LotOf Body) × (value_at r seat.old.lots ≡ Some l) × IsBlock (records_of seat.old) r l }
     ensures passed { HasNow (with_done (passed_on seat.old.process direction given.now) seat.old) seat.new.lots seat.new }
     ensures seen { SeatSeesMore seat.old seat.new }
     ensures came { ArePassed direction given.now seat.old seat.new }
@@ -119,15 +118,15 @@ fn post<R: Wait, V, G: Gate>(
     given: &ArrayVec<u16, 8>,
 ) -> (Result<u64, Unsent>, u8, u64)
     requires own { IsSeatOf desk.now.records.now seat.old }
-    requires end { (l : LotOf Body) × (value_at e seat.old.lots ≡ Some l) × IsBlock (family_of seat.old) e l × (kind_of (content_of l.body) ≡ kind.End) }
+    requires end { (l : LotOf Body) × (value_at e seat.old.lots ≡ Some l) × IsBlock (records_of seat.old) e l × (kind_of (content_of l.body) ≡ kind.End) }
     requires distinct { Distinct given.now.items × (Among given.now.items e → ⊥) }
-    requires held { (r : ℕ) → Among given.now.items r → (l : LotOf Body) × (value_at r seat.old.lots ≡ Some l) × IsBlock (family_of seat.old) r l }
+    requires held { (r : ℕ) → Among given.now.items r → (l : LotOf Body) × (value_at r seat.old.lots ≡ Some l) × IsBlock (records_of seat.old) r l }
     ensures direction { (result.1 ≡ away (item_in (value_at e seat.old.lots)).content) × (result.1 < DIRECTIONS) }
     ensures passed { HasNow (with_done (passed_on seat.old.process result.1 given.now.items) seat.old) seat.new.lots seat.new }
     ensures seen { SeatSeesMore seat.old seat.new }
     ensures came { ArePassed result.1 given.now.items seat.old seat.new }
     ensures end { (l : LotOf Body) → value_at e seat.old.lots ≡ Some l → (m : LotOf Body) × (value_at e seat.new.lots ≡ Some m)
-        × LotPuts (away (item_in (value_at e seat.old.lots)).content) tag given.now result.0 seat.old l m × IsBlock (family_of seat.old) e m }
+        × LotPuts (away (item_in (value_at e seat.old.lots)).content) tag given.now result.0 seat.old l m × IsBlock (records_of seat.old) e m }
     ensures gone { (r : ℕ) → Among given.now.items r → value_at r seat.new.lots ≡ None }
     ensures others { (r : ℕ) → (Among given.now.items r → ⊥) → e ≢ r → value_at r seat.new.lots ≡ value_at r seat.old.lots }
     ensures bytes { result.2 ≡ lens given.now.items (λ r. value_at r seat.old.lots) }
@@ -151,12 +150,12 @@ pub(crate) fn give_all<R: Wait, V, G: Gate>(
     given: &ArrayVec<u16, 8>,
 ) -> Given
     requires own { IsSeatOf desk.now.records.now seat.old }
-    requires end { (l : LotOf Body) × (value_at e seat.old.lots ≡ Some l) × IsBlock (family_of seat.old) e l × (kind_of (content_of l.body) ≡ kind.End) }
+    requires end { (l : LotOf Body) × (value_at e seat.old.lots ≡ Some l) × IsBlock (records_of seat.old) e l × (kind_of (content_of l.body) ≡ kind.End) }
     requires distinct { Distinct given.now.items × (Among given.now.items e → ⊥) }
-    requires held { (r : ℕ) → Among given.now.items r → (l : LotOf Body) × (value_at r seat.old.lots ≡ Some l) × IsBlock (family_of seat.old) r l }
+    requires held { (r : ℕ) → Among given.now.items r → (l : LotOf Body) × (value_at r seat.old.lots ≡ Some l) × IsBlock (records_of seat.old) r l }
     ensures moved { HasNow (with_done (there_and_back seat.old.process (away (item_in (value_at e seat.old.lots)).content) given.now.items result.back.items) seat.old) seat.new.lots seat.new }
     ensures end { (l : LotOf Body) → value_at e seat.old.lots ≡ Some l → (m : LotOf Body) × (value_at e seat.new.lots ≡ Some m)
-        × LotPuts (away (item_in (value_at e seat.old.lots)).content) tag given.now result.put seat.old l m × IsBlock (family_of seat.old) e m }
+        × LotPuts (away (item_in (value_at e seat.old.lots)).content) tag given.now result.put seat.old l m × IsBlock (records_of seat.old) e m }
     ensures others { (r : ℕ) → (Among given.now.items r → ⊥) → e ≢ r → value_at r seat.new.lots ≡ value_at r seat.old.lots }
     ensures back { AreBack given.now.items result.back.items seat.new }
     ensures lost { result.lost ≡ lens given.now.items (λ r. value_at r seat.old.lots) }

@@ -8,16 +8,13 @@ mod endpoints;
 mod gate;
 mod giving;
 mod got;
-mod hearing;
 mod list;
 mod lots;
 mod opening;
 mod place;
-mod receipts;
-mod taking;
 mod vaults;
 
-pub use body::{Body, EndBlock};
+pub use body::Body;
 pub use desk::Desk;
 pub use gate::{Gate, OpenGate, Point};
 pub use got::{Got, Taken};

@@ -1,11 +1,10 @@
 // What opening does to the seat: two records get 32 bytes each, and the two ends of a channel.
 ghost use Rattle.std.specs.Prelude.{◌≡◌, ◌≢◌, ◌+◌, ◌*◌, ◌/◌, ◌<◌, ◌≤◌, length, Some, IfOk, IfErr, OnOk, OnErr, MatchOption, slice_get};
 ghost use Rattle.xh_arena.specs.Views.{LotOf};
-ghost use Rattle.xh_channel.specs.Pairs.{IsUnused};
 ghost use Rattle.xh_channel.specs.Queues.{Posted};
 ghost use Rattle.xh_model.specs.Keyed.{put, value_at, without};
 ghost use Rattle.xh_model.specs.declared.limits.TheConstants.{END_BYTES, MAX_RECORDS};
-ghost use Rattle.xh_place.specs.Bodies.{IsOnLine, endpoint, fits_in};
+ghost use Rattle.xh_place.specs.Bodies.{fits_in};
 ghost use Rattle.xh_place.specs.Desk.{IsSameDesk, IsSeatAt};
 ghost use Rattle.xh_place.specs.Ends.{end_block};
 ghost use Rattle.xh_place.specs.Places.{item_of};
@@ -16,9 +15,9 @@ ghost use Rattle.xh_place.specs.inner.Lots.{HasNow, SeatFull, SeatSeesMore};
 ghost use Rattle.xh_records.specs.Seats.{IsRecord, IsSeatOf, with_lots};
 ghost use Rattle.xh_records.specs.Showing.{IsEmpty};
 ghost use Rattle.xh_place.specs.declared.body.Body.TheVariants.{End};
-ghost use Rattle.xh_place.specs.inner.Opening.{AreClaimed, AreEmpty, AreMade, fresh};
+ghost use Rattle.xh_place.specs.inner.Opening.{AreClaimed, AreEmpty, AreMade};
 
-use crate::body::{Body, EndBlock};
+use crate::body::Body;
 use crate::desk::Desk;
 use crate::gate::{Gate, Point};
 use crate::lots::{place_of, reason};
@@ -119,23 +118,13 @@ fn vacate_two(records: &Records<Body>, seat: &mut Seat<Body>, r: u16, t: u16)
     records.vacate(seat, r);
 }
 
-// What an endpoint that took nothing carries as a block.
-fn new_block(end: Endpoint) -> EndBlock
-    ensures { result ≡ fresh end }
-{
-    EndBlock { end, seen: None }
-}
-
 // The endpoint that a body is.
 fn end_in(body: Body) -> Endpoint
-    requires { (p : Posted) × (body ≡ End (fresh p)) }
-    ensures { body ≡ End (fresh result) }
+    requires { (p : Posted) × (body ≡ End p) }
+    ensures { body ≡ End result }
 {
     match body {
-        Body::End(block) => {
-            let EndBlock { end, seen: _ } = block;
-            end
-        }
+        Body::End(end) => end,
         Body::Nothing => unreachable!(),
         Body::Data(_bytes) => unreachable!(),
     }
@@ -153,7 +142,7 @@ fn fit_ends<R, V: Vaults, G>(
     requires held { (l m : LotOf Body) × AreEmpty seat.old pair.0 pair.1 l m }
     ensures same { IsSameDesk V.names V.extent desk.old desk.new }
     ensures fitted { OnOk result ((l m : LotOf Body) → value_at pair.0 seat.old.lots ≡ Some l → value_at pair.1 seat.old.lots ≡ Some m
-        → seat.new ≡ with_lots seat.old (put pair.1 (record m { len = END_BYTES; body = End (fresh high) }) (put pair.0 (record l { len = END_BYTES; body = End (fresh low) }) seat.old.lots))) }
+        → seat.new ≡ with_lots seat.old (put pair.1 (record m { len = END_BYTES; body = End high }) (put pair.0 (record l { len = END_BYTES; body = End low }) seat.old.lots))) }
     ensures taken { OnOk result (desk.new.tallies.now ≡ took (pair.0 / MAX_RECORDS) (2 * END_BYTES) desk.old.tallies.now) }
     ensures refused { IfErr result (λ u. (seat.new ≡ seat.old) × (desk.new.tallies.now ≡ desk.old.tallies.now) × (u.low ≡ low) × (u.high ≡ high)) }
     ensures why { IfErr result (λ u. IsNoPair V.changes desk.old.vaults.now desk.new.vaults.now (pair.0 / MAX_RECORDS) (2 * END_BYTES) ⊥ (V.extent desk.old.vaults.now) u.why) }
@@ -162,8 +151,8 @@ fn fit_ends<R, V: Vaults, G>(
         let why = Reason::NoSpace;
         return Err(Unopened { why, low, high });
     }
-    let mut first = Body::End(new_block(low));
-    let mut second = Body::End(new_block(high));
+    let mut first = Body::End(low);
+    let mut second = Body::End(high);
     let halved = halve(desk, seat, pair, &mut first, &mut second);
     let Err(refused) = halved else {
         drop(first);
@@ -187,8 +176,6 @@ pub(crate) fn make_ends<R, V: Vaults, G: Gate>(
     requires at { IsSeatAt V.names desk.old seat.old }
     requires arena { arena < length seat.old.shape.names }
     requires log { (low.log ≡ seat.old.table) × (high.log ≡ seat.old.table) }
-    requires unused { IsUnused low × IsUnused high }
-    requires lines { IsOnLine seat.old.lines (endpoint low) × IsOnLine seat.old.lines (endpoint high) }
     ensures same { IsSameDesk V.names V.extent desk.old desk.new }
     ensures made { IfOk result (λ r. (l m : LotOf Body) × AreMade arena seat.old seat.new r.0 r.1 l m × (item_of l ≡ end_block low) × (item_of m ≡ end_block high)) }
     ensures taken { OnOk result (desk.new.tallies.now ≡ took arena (2 * END_BYTES) desk.old.tallies.now) }

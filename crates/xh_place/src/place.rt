@@ -1,9 +1,9 @@
 //! A process's place.
-ghost use Rattle.std.specs.Prelude.{◌≡◌, ◌⊎◌, ◌+◌, ◌*◌, ◌<◌, ◌≤◌, [], length, replicate, None, Some, IfOk, IfErr, false, true};
+ghost use Rattle.std.specs.Prelude.{◌≡◌, ◌⊎◌, ◌+◌, ◌*◌, ◌<◌, ◌≤◌, [], length, Some, IfOk, IfErr, false, true};
 ghost use Rattle.xh_core.specs.Refusing.{Tested};
 ghost use Rattle.xh_core.specs.Statuses.{is_over};
 ghost use Rattle.xh_model.specs.Keyed.{keys, value_at};
-ghost use Rattle.xh_model.specs.declared.limits.TheConstants.{CHANNELS, DIRECTIONS, GENERATIONS, MAX_ARENAS, MAX_RECORDS};
+ghost use Rattle.xh_model.specs.declared.limits.TheConstants.{GENERATIONS, MAX_ARENAS, MAX_RECORDS};
 ghost use Rattle.xh_place.specs.Messages.{is_listed};
 ghost use Rattle.xh_place.specs.Places.{AreBlocks, IsPlaceOf, Item, Lists, found, line, line_in, started, total_of};
 ghost use Rattle.xh_place.specs.Seen.{Stays};
@@ -15,26 +15,23 @@ ghost use Rattle.xh_core.specs.declared.status.Status.TheVariants as status;
 mod blocks;
 mod ending;
 mod ends;
-mod meeting;
 mod messages;
 
 use crate::body::Body;
 use crate::lots::{holds, look};
 use std::alloc::Global;
 use std::marker::Model;
-use xh_channel::LineNotes;
 use xh_core::{Glance, Header, PlaceLine, Refused, Status};
 use xh_records::{Records, Seat};
 
 /// A place: the seat that holds the lots of its blocks, the numbers of their records in the order
-/// gained, their total, how far its process has come, and what it heard of ends of channels.
+/// gained, their total and how far its process has come.
 #[derive(Drop)]
 pub struct Place {
     seat: Seat<Body>,
     list: Vec<u16>,
     total: u64,
     state: Status,
-    notes: LineNotes,
 }
 
 impl Model for Place {
@@ -46,20 +43,11 @@ impl Model for Place {
     ghost Value = { PlaceSeen };
 
     ghost view = { λ p. record {
-      place = record {
-        table = p.seat.table;
-        shape = p.seat.shape;
-        lines = p.seat.lines;
-        process = p.seat.process;
-        blocks = shown p.seat.lots p.list.items;
-        state = p.state;
-        moved = moves p.seat.done;
-      };
+      place = record { table = p.seat.table; shape = p.seat.shape; process = p.seat.process; blocks = shown p.seat.lots p.list.items; state = p.state; moved = moves p.seat.done };
       front = p.seat.front;
-      ends = p.notes;
     } };
 
-    ghost invariant = { λ p. IsPlace p.notes p.seat (shown p.seat.lots p.list.items) (vec_capacity p.list) p.total p.state };
+    ghost invariant = { λ p. IsPlace p.seat (shown p.seat.lots p.list.items) (vec_capacity p.list) p.total p.state };
 }
 
 // The first test of each call.
@@ -84,15 +72,14 @@ fn check_stop(state: Status) -> Result<(), Refused>
 
 impl Place {
     /// A place that nobody has yet, on a seat that holds nothing. `room` is the number of records of all
-    /// arenas, of which there are at most 8. Nothing was heard of ends. OutOfMemory where a growth was refused.
+    /// arenas, of which there are at most 8. OutOfMemory where a growth was refused.
     pub fn new(alloc: Global, seat: Seat<Body>, room: u16) -> Result<Place, Refused>
         requires empty { seat.lots ≡ [] }
         requires room { room ≡ length seat.shape.names * seat.shape.records }
         requires arenas { length seat.shape.names ≤ MAX_ARENAS }
         ensures place { IfOk result (λ p. p ≡ record {
-          place = record { table = seat.table; shape = seat.shape; lines = seat.lines; process = seat.process; blocks = []; state = status.Vacant; moved = moves seat.done };
+          place = record { table = seat.table; shape = seat.shape; process = seat.process; blocks = []; state = status.Vacant; moved = moves seat.done };
           front = seat.front;
-          ends = replicate DIRECTIONS None;
         }) }
         ensures refused { IfErr result (λ e. e ≡ Refused.OutOfMemory) }
     {
@@ -102,7 +89,6 @@ impl Place {
             list,
             total: 0,
             state: Status::Vacant,
-            notes: LineNotes::new(),
         })
     }
 
@@ -204,7 +190,6 @@ impl Place {
             list: _,
             total: _,
             state,
-            notes: _,
         } = self;
         match state {
             Status::Vacant => (seat, None),

@@ -1,7 +1,7 @@
 //! Places by their calls, over an arena that one thread has.
 ghost use Rattle.std.specs.Prelude.{◌≡◌, ◌<◌, ◌≤◌, [], ◌∷◌, length, slice_get, Some, IfSome};
 ghost use Rattle.xh_core.specs.declared.status.Status.TheVariants.{Vacant};
-ghost use Rattle.xh_model.specs.declared.limits.TheConstants.{CHANNELS, MAX_RECORDS};
+ghost use Rattle.xh_model.specs.declared.limits.TheConstants.{MAX_RECORDS};
 ghost use Rattle.xh_place.specs.Places.{IsPlaceOf};
 ghost use Rattle.xh_place.specs.Tallies.{ids_of};
 ghost use Rattle.xh_records.specs.Seats.{IsSeatOf};
@@ -20,7 +20,6 @@ mod without_memory;
 use notes::Notes;
 use std::alloc::Global;
 use std::collections::LinkedList;
-use std::marker::Brand;
 use vaults::Plain;
 use xh_arena::{Tally, Vault};
 use xh_channel::Channels;
@@ -44,7 +43,6 @@ struct Bench {
     first: Place,
     second: Place,
     ghost own: { IsPlaceOf records first.place × IsPlaceOf records second.place },
-    ghost lines: { (first.place.lines ≡ channels.lines.items) × (second.place.lines ≡ channels.lines.items) },
     ghost names: { vaults.vault.id ∷ [] ≡ records.shape.names },
     ghost ids: { ids_of tallies.items ≡ records.shape.names },
     ghost vacant: { second.place.state ≡ Vacant },
@@ -74,18 +72,16 @@ fn first_two<T: Drop>(mut items: Vec<T>) -> (T, T)
     (first, second)
 }
 
-/// The parts of a new arena of so many records, by which ends of these channels go, unless a growth was refused.
-fn make_parts(alloc: Global, count: u16, channels: &Channels) -> Option<Parts>
+/// The parts of a new arena of so many records, unless a growth was refused.
+fn make_parts(alloc: Global, count: u16) -> Option<Parts>
     requires { (0 < count) × (count ≤ MAX_RECORDS) }
-    ensures { IfSome result (λ p. (p.first.lines ≡ channels.now.lines.items) × (p.second.lines ≡ channels.now.lines.items)) }
 {
     let Ok((mut vault, lots, tallies)) = Vault::new::<Body>(alloc, SIZE, count, WEAR, 1) else {
         return None;
     };
     let mut names = LinkedList::new(alloc);
     names.push_back(vault.name()).ok()?;
-    let Ok((records, seats)) = Records::new::<Brand, _>(alloc, lots, names, count, 2, channels)
-    else {
+    let Ok((records, seats)) = Records::new(alloc, lots, names, count, 2) else {
         return None;
     };
     let (first, second) = first_two(seats);
@@ -103,7 +99,6 @@ fn place_on(alloc: Global, records: &Records<Body>, seat: Seat<Body>) -> Option<
     requires own { IsSeatOf records.now seat }
     requires bare { seat.lots ≡ [] }
     requires one { length records.now.shape.names ≡ 1 }
-    ensures lines { IfSome result (λ p. p.place.lines ≡ seat.lines) }
     ensures own { IfSome result (λ p. IsPlaceOf records.now p.place) }
     ensures vacant { IfSome result (λ p. p.place.state ≡ Vacant) }
 {
@@ -121,7 +116,7 @@ fn make_bench(alloc: Global, count: u16, depth: u8) -> Option<Bench>
         tallies,
         first,
         second,
-    } = make_parts(alloc, count, &channels)?;
+    } = make_parts(alloc, count)?;
     let first = place_on(alloc, &records, first);
     let second = place_on(alloc, &records, second);
     let (Some(mut first), Some(second)) = (first, second) else {

@@ -13,7 +13,6 @@ pub use Rattle.std.specs.Prelude.{None, Option, Some, slice_get, ◌==◌}
 pub use Rattle.std.specs.Slots.{slots_counts, slots_filled, slots_items, slots_len}
 pub use Rattle.std.specs.Vec.{vec_capacity, vec_len}
 pub use Rattle.xh_arena.specs.Views.{AreLots, LotOf}
-pub use Rattle.xh_arena.specs.declared.family.Family.{Family}
 pub use Rattle.xh_model.proofs.Keyed.{among_back, among_either, among_front, at_key, dec_among, distinct_push, distinct_split, here_first, keys_append, keys_push, length-keys, not_here, put_keys}
 pub use Rattle.xh_model.proofs.Keyed.{put_split, put_swap, put_twice, split_at_key, without_split}
 pub use Rattle.xh_model.proofs.Words.{arena_of_number, index_back, number_back, number_inside, place_of_number, word_injective}
@@ -28,10 +27,9 @@ pub use Rattle.xh_model.specs.declared.limits.TheConstants.{GENERATIONS, MAX_REC
 pub use Rattle.xh_records.specs.After.{IsAfter, Wants}
 pub use Rattle.xh_records.specs.Encoding.{holder_of}
 pub use Rattle.xh_records.specs.History.{Grows, IsOneLog, LeadsTo, StartsWith, TellsWord, all_free, by_place, process_of}
-pub use Rattle.xh_records.specs.Seats.{Advances, Ends, EndsAs, HasFound, HasGained, HasLooked, HasLost, HasSeen, Held, IsRecord, IsSeatOf, Knows, RecordsOf, SawTaken, did, family_at, family_of}
-pub use Rattle.xh_records.specs.Seats.{indices, lot_in, no_family}
+pub use Rattle.xh_records.specs.Seats.{Advances, Ends, EndsAs, HasFound, HasGained, HasLooked, HasLost, HasSeen, Held, IsRecord, IsSeatOf, Knows, RecordsOf, SawTaken, did, indices, lot_in, no_table}
 pub use Rattle.xh_records.specs.Seats.{owned_by, seen, view_of, with_lots}
-pub use Rattle.xh_records.specs.Showing.{HomeFits, IsEmpty, IsHistory, IsLotAt, IsLotOf, IsOwn, IsSmall, KeepsOwn, Owns, Shown, Shows, Sits, ViewFits, ViewTells}
+pub use Rattle.xh_records.specs.Showing.{HomeFits, IsEmpty, IsHistory, IsLotAt, IsLotOf, IsOwn, IsSmall, KeepsLog, Owns, Shown, Shows, Sits, ViewFits, ViewTells}
 pub use Rattle.xh_records.specs.declared.shape.Shape.{Shape}
 pub use Rattle.xh_records.specs.declared.view.View.{View}
 pub use Rattle.xh_records.specs.inner.Events.{IsAway, IsHomeLot, giving, taking}

@@ -7,7 +7,7 @@ use Rattle.xh_records.proofs.Common.{word_injective, index_back, number_inside, 
 use Rattle.xh_records.proofs.Common.{Knows}
 use Rattle.xh_records.proofs.Common.{taking, giving, IsAway, IsHomeLot, IsAlone, first_front, front_in, gained, head_of, heard, knowing, lost, untold, SeesMore, took, gave, looked, compared}
 use Rattle.xh_records.proofs.Common.{TellsWord}
-use Rattle.xh_records.proofs.Common.{Family, IsOwn, KeepsOwn, StartsWith, some-ne-none}
+use Rattle.xh_records.proofs.Common.{TableId, IsOwn, KeepsLog, StartsWith, some-ne-none}
 use mathlib.Core.Option as maybe
 use Rattle.xh_records.proofs.Named.{sets_home, sets_view}
 use lib.Seq.{map-set}
@@ -126,7 +126,7 @@ giving_is p n k away = grind (arith, nat_tests)
 pub same_place : (p q : ℕ) → word_of (Some (Process p)) ≡ word_of (Some (Process q)) → p ≡ q
 same_place p q e = omega arith
 
-module _ {B : Type 0} (fits : B → ℕ → Bool) (is_own : B → Family → Type 0) (s : Shape) where
+module _ {B : Type 0} (fits : B → ℕ → Bool) (names : B → Option TableId) (s : Shape) where
   abbrev S : Type 0
   S = Option (LotOf B)
 
@@ -147,8 +147,8 @@ module _ {B : Type 0} (fits : B → ℕ → Bool) (is_own : B → Family → Typ
       let found = nth_is t.words r 0 (word_of there.0) word in record { holder = there.0; held = there.1; found = found; word_at = word ∙ ap some (sym found) }
 
   -- a step that leaves all but what its seat has seen as it was
-  pub stays : (t : State S View) (id : ℕ) (me : M) (r : ℕ) (n : ℕ) (fronts : List (ℕ × List Event)) (holds : Shown fits is_own s t) → get_elem? t.views id ≡ some me.0 → get_elem? t.words r ≡ some n
-      → ViewTells holds.1.log (record me.0 { fronts = fronts }) → Shown fits is_own s (stepped t r n id me.1 (record me.0 { fronts = fronts }) keeps)
+  pub stays : (t : State S View) (id : ℕ) (me : M) (r : ℕ) (n : ℕ) (fronts : List (ℕ × List Event)) (holds : Shown fits names s t) → get_elem? t.views id ≡ some me.0 → get_elem? t.words r ≡ some n
+      → ViewTells holds.1.log (record me.0 { fronts = fronts }) → Shown fits names s (stepped t r n id me.1 (record me.0 { fronts = fronts }) keeps)
   stays t id me r n fronts holds here word tells =
       let o = holds.0 in let shown = holds.1 in let v : View = me.0 in let w : View = record v { fronts = fronts } in let fit = shown.views_fit id v here in (
         o,
@@ -160,7 +160,7 @@ module _ {B : Type 0} (fits : B → ℕ → Bool) (is_own : B → Family → Typ
             (λ j u there. either_way (at_set t.views id j w u there)
             (λ x. subst (λ (z : View). ViewFits s o z × ViewTells shown.log z) x.1 (record { is_owner = fit.is_owner; owns_all = fit.owns_all; knows = fit.knows; places = fit.places }, tells))
             (λ x. (shown.views_fit j u x.1, shown.history.tells j u x.1)))),
-        sets_view is_own t.homes t.views id v w here refl (λ p h. (p, h)) holds.2,
+        sets_view names t.homes t.views id v w here refl (λ p h. (p, h)) holds.2,
       )
 
   -- what a seat knows of the word of a record
@@ -194,9 +194,9 @@ module _ {B : Type 0} (fits : B → ℕ → Bool) (is_own : B → Family → Typ
   home_lot r (Some (Direction d)) x away home = home
 
   -- a look at the word of a record, with these of the view's fronts: the view afterwards, which has seen the whole log
-  a_look : (slots id : ℕ) (me : M) (r p : ℕ) (fronts : List (ℕ × List Event)) → r < slots → IsAlone (record me.0 { fronts = fronts }) p → (t : State S View) (holds : Shown fits is_own s t)
+  a_look : (slots id : ℕ) (me : M) (r p : ℕ) (fronts : List (ℕ × List Event)) → r < slots → IsAlone (record me.0 { fronts = fronts }) p → (t : State S View) (holds : Shown fits names s t)
       → ViewTells holds.1.log (record me.0 { fronts = fronts }) → length t.homes ≡ slots → get_elem? t.views id ≡ some me.0
-      → (w : View) × Shown fits is_own s (stepped t r (get_or t.words r 0) id me.1 w keeps) × SeesMore r (get_or t.words r 0) (record me.0 { fronts = fronts }, me.1) (w, me.1)
+      → (w : View) × Shown fits names s (stepped t r (get_or t.words r 0) id me.1 w keeps) × SeesMore r (get_or t.words r 0) (record me.0 { fronts = fronts }, me.1) (w, me.1)
       × (front_in w ≡ holds.1.log)
   a_look slots id me r p fronts inside alone t holds tells long seen =
       let o = holds.0 in let shown = holds.1 in let a : At t o r = at t o r slots shown long inside in let n : ℕ = get_or t.words r 0 in
@@ -221,7 +221,7 @@ module _ {B : Type 0} (fits : B → ℕ → Bool) (is_own : B → Family → Typ
 
   -- a compare that takes
   pub takes_lot : (slots id : ℕ) (me : M) (r old new p : ℕ) (h : Option Holder) (said : maybe.Option S) → old ≡ word_of h → new ≡ word_of (Some (Process p)) → IsAway h → r < slots → IsAlone me.0 p
-      → Allows (Shown fits is_own s) slots id me r (λ n. either (eqb n old) new n) (took fits is_own (step slots r old new said) me)
+      → Allows (Shown fits names s) slots id me r (λ n. either (eqb n old) new n) (took fits names (step slots r old new said) me)
   takes_lot slots id me r old new p h said is_old is_new free inside alone t holds long seen small =
       let mine : me.0.processes ≡ p ∷ [] = alone.0 in
       let o = holds.0 in let shown = holds.1 in let a : At t o r = at t o r slots shown long inside in let n : ℕ = get_or t.words r 0 in
@@ -235,10 +235,10 @@ module _ {B : Type 0} (fits : B → ℕ → Bool) (is_own : B → Family → Typ
         w,
         act,
         x.1 ∙ ap some l.1,
-        subst (λ (m : ℕ). Shown fits is_own s (stepped t r m id me.1 w act)) (sym (subst (λ (b : Bool). either b new n ≡ word_of (Some (Process p))) (sym (eq-eqb n old hit)) is_new)) (
+        subst (λ (m : ℕ). Shown fits names s (stepped t r m id me.1 w act)) (sym (subst (λ (b : Bool). either b new n ≡ word_of (Some (Process p))) (sym (eq-eqb n old hit)) is_new)) (
           set o r (Some (Process p)),
           moved fits s o t.words t.homes t.views shown id r me.0 w h (Some (Process p)) seen held change e by none good refl,
-          sets_home is_own t.homes (set t.views id w) r none (sets_view is_own t.homes t.views id me.0 w seen refl (λ q h. (q, h)) holds.2) (λ y e. absurd (some-ne-none (Some y) (sym e))),
+          sets_home names t.homes (set t.views id w) r none (sets_view names t.homes t.views id me.0 w seen refl (λ q h. (q, h)) holds.2) (λ y e. absurd (some-ne-none (Some y) (sym e))),
         ),
         (
           (λ _. (
@@ -251,7 +251,7 @@ module _ {B : Type 0} (fits : B → ℕ → Bool) (is_own : B → Family → Typ
             )),
             subst (λ (z : Shape). IsLotAt z r l.0) (sym (fit.knows p sits)) l.2,
             λ q owns. free q (one_holder o r h (Some (Process q)) held (fit.is_owner r q owns).0),
-            λ full. subst (is_own l.0.body) (sym (holds.2.named id p me.0 seen sits)) ((holds.2.own r l.0 (x.1 ∙ ap some l.1) full).1 full),
+            λ u full e. (holds.2.own r l.0 (x.1 ∙ ap some l.1) full).1 u full e ∙ sym (holds.2.named id p me.0 seen sits),
             tells_word (set o r (Some (Process p))) (shown.log ++ e ∷ []) w r new (Some (Process p))
                 (history fits s o t.words t.homes t.views shown id r me.0 w h (Some (Process p)) seen held change e by good).leads (fit.knows p sits) (ap first_front by.front)
                 (set_here o r (Some (Process p)) (in_range o r h held)) is_new,
@@ -263,7 +263,7 @@ module _ {B : Type 0} (fits : B → ℕ → Bool) (is_own : B → Family → Typ
         look.0,
         keeps,
         tt,
-        subst (λ (b : Bool). Shown fits is_own s (stepped t r (either b new n) id me.1 look.0 keeps)) (sym (ne_eqb n old miss)) look.1,
+        subst (λ (b : Bool). Shown fits names s (stepped t r (either b new n) id me.1 look.0 keeps)) (sym (ne_eqb n old miss)) look.1,
         ((λ hit. absurd (miss hit)), (λ _. look.2)),
       ))
 
@@ -274,8 +274,8 @@ module _ {B : Type 0} (fits : B → ℕ → Bool) (is_own : B → Family → Typ
 
   -- a store that gives
   pub gives_lot : (slots id : ℕ) (me : M) (r new p : ℕ) (k : Option Holder) (lot : LotOf B) (rest_of : List (ℕ × S)) → new ≡ word_of k → IsAway k → IsHolder k → me.1 ≡ (r, Some lot) ∷ rest_of
-      → IsAlone me.0 p → Owns me.0 r p → IsLotAt me.0.shape r lot → IsHomeLot fits k lot → 0 < me.0.family.table.words → IsOwn is_own me.0.family lot
-      → Allows (Shown fits is_own s) slots id me r (λ _. new) (λ _. gave (step slots r new 0 none) me new)
+      → IsAlone me.0 p → Owns me.0 r p → IsLotAt me.0.shape r lot → IsHomeLot fits k lot → 0 < me.0.log.words → IsOwn names me.0.log lot
+      → Allows (Shown fits names s) slots id me r (λ _. new) (λ _. gave (step slots r new 0 none) me new)
   gives_lot slots id me r new p k lot rest_of is_new free good front alone owns is_lot home there own t holds long seen small =
       let o = holds.0 in let shown = holds.1 in let fit = shown.views_fit id me.0 seen in let was = fit.is_owner r p owns in
       let new_to_it : Unseen shown.log me.0 p = unseen shown.log me.0 p (shown.history.tells id me.0 seen) alone in let w : View = lost me.0 r p k new_to_it.others in
@@ -290,10 +290,10 @@ module _ {B : Type 0} (fits : B → ℕ → Bool) (is_own : B → Family → Typ
               (moved fits s o t.words t.homes t.views shown id r me.0 w (Some (Process p)) k seen was.0 (gives_change o me.0 r p k new_to_it.others fit owns free) (giving p (number_of s.records r) k)
               (step_by shown.log me.0 w r p (Some (Process p)) k (λ n. giving p n k) (λ n. giving_is p n k free) shown.small (fit.knows p was.1) was.1 (new_to_it.now _)) y good
               (home_is r k lot (subst (λ (z : Shape). IsLotAt z r lot) (fit.knows p was.1) is_lot) home)),
-          subst (λ (hs : List (maybe.Option S)). KeepsOwn is_own hs (set t.views id w)) (ap (λ (c : List (ℕ × S)). put_back t.homes c) (sym front))
-              (sets_view is_own (set t.homes r y) t.views id me.0 w seen refl (λ q h. (q, h)) (sets_home is_own t.homes t.views r y holds.2
+          subst (λ (hs : List (maybe.Option S)). KeepsLog names hs (set t.views id w)) (ap (λ (c : List (ℕ × S)). put_back t.homes c) (sym front))
+              (sets_view names (set t.homes r y) t.views id me.0 w seen refl (λ q h. (q, h)) (sets_home names t.homes t.views r y holds.2
               (λ l e full. let f : Some lot ≡ Some l = some-injective (Some lot) (Some l) e in let is : lot ≡ l = cc in
-              subst (λ (z : Family × LotOf B). (0 < z.0.table.words) × IsOwn is_own z.0 z.1) (λ i. (holds.2.named id p me.0 seen was.1 i, is i)) (there, own)))),
+              subst (λ (z : TableId × LotOf B). (0 < z.0.words) × IsOwn names z.0 z.1) (λ i. (holds.2.named id p me.0 seen was.1 i, is i)) (there, own)))),
         ),
         (
           new_to_it.others,
@@ -303,7 +303,7 @@ module _ {B : Type 0} (fits : B → ℕ → Bool) (is_own : B → Family → Typ
       )
 
   -- a load
-  pub looks : (slots id : ℕ) (me : M) (r p : ℕ) → r < slots → IsAlone me.0 p → Allows (Shown fits is_own s) slots id me r (λ n. n) (looked (step slots r 0 0 none) me)
+  pub looks : (slots id : ℕ) (me : M) (r p : ℕ) → r < slots → IsAlone me.0 p → Allows (Shown fits names s) slots id me r (λ n. n) (looked (step slots r 0 0 none) me)
   looks slots id me r p inside alone t holds long seen small =
       let look = a_look slots id me r p me.0.fronts inside alone t holds (holds.1.history.tells id me.0 seen) long seen in (look.0, keeps, tt, look.1, look.2)
 
@@ -323,7 +323,7 @@ module _ {B : Type 0} (fits : B → ℕ → Bool) (is_own : B → Family → Typ
 
   -- a load by a seat that was told what another had seen
   pub compares : (slots id : ℕ) (me : M) (r : ℕ) (own note : ℕ × List Event) → r < slots → me.0.fronts ≡ own ∷ note ∷ []
-      → Allows (Shown fits is_own s) slots id me r (λ n. n) (compared (step slots r 0 0 none) me)
+      → Allows (Shown fits names s) slots id me r (λ n. n) (compared (step slots r 0 0 none) me)
   compares slots id me r own note inside two t holds long seen small =
       let a : At t holds.0 r = at t holds.0 r slots holds.1 long inside in let log : List Event = holds.1.log in let told = holds.1.history.tells id me.0 seen in (
         untold me.0,
@@ -335,7 +335,7 @@ module _ {B : Type 0} (fits : B → ℕ → Bool) (is_own : B → Family → Typ
 
   -- and a look by it
   pub hears : (slots id : ℕ) (me : M) (r p : ℕ) (own note : ℕ × List Event) → r < slots → me.0.fronts ≡ own ∷ note ∷ [] → IsAlone (untold me.0) p
-      → Allows (Shown fits is_own s) slots id me r (λ n. n) (heard (step slots r 0 0 none) me)
+      → Allows (Shown fits names s) slots id me r (λ n. n) (heard (step slots r 0 0 none) me)
   hears slots id me r p own note inside two alone t holds long seen small =
       let log : List Event = holds.1.log in let told = holds.1.history.tells id me.0 seen in
       let look = a_look slots id me r p (head_of me.0.fronts) inside alone t holds (forgets log me.0 own note two told) long seen in (

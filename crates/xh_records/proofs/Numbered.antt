@@ -1,7 +1,7 @@
 -- A seat's lots by the numbers of their records.
 use Rattle.xh_records.proofs.Common.{nat_tests, arith, ◌≡◌, ℕ, suc, length, ◌%◌, ◌<◌, ◌≤◌, List, [], ◌∷◌, ◌++◌, map, sym, refl, ap, ◌∙◌, subst, append-nil, Option, Some, None, Me, TableId, LotOf}
 use Rattle.xh_records.proofs.Common.{index_of, Event, number_of, place_of, word_of, number_inside, index_back, number_back, Among, keys, put, value_at, without, Shape, View, IsLotOf, IsLotAt, IsSmall}
-use Rattle.xh_records.proofs.Common.{Holder, Process, Direction, taking, giving, Advances, HasGained, HasLost, HasSeen, Held, Knows, family_of, seen, view_of, did, with_lots, IsRecord, adds, front_in}
+use Rattle.xh_records.proofs.Common.{Holder, Process, Direction, taking, giving, Advances, HasGained, HasLost, HasSeen, Held, Knows, seen, view_of, did, with_lots, IsRecord, adds, front_in}
 use Rattle.xh_records.proofs.Common.{IsOthers, SeesMore, Grows, TellsWord, by_place, in_slot, with_lot, numbered, AllLots, IsSeat}
 use Rattle.xh_records.proofs.Elements.{among_map, in_range, slice_elem}
 use Rattle.xh_records.proofs.History.{adds_one, by_place_append}
@@ -72,7 +72,6 @@ lost_by x y p r h e = grind (arith, nat_tests)
 abbrev pub held : {B : Type 0} → TableId → ℕ → ℕ → Me (Option (LotOf B)) View → Held B
 held t id process me = record {
   table = t;
-  lines = me.0.family.lines;
   id = id;
   shape = me.0.shape;
   process = process;
@@ -87,10 +86,6 @@ pub number_is : (n m slot r : ℕ) → n ≡ m → slot ≡ index_of m r → r %
 number_is n m slot r same at inside = (λ i. number_of (same i) (at i)) ∙ number_back m r inside
 
 module _ {B : Type 0} (x : Held B) (t : TableId) (id process : ℕ) (me : Me (Option (LotOf B)) View) (is : held t id process me ≡ x) where
-  -- the family of its table's lots, as its view knows it
-  pub family_is : (order : List ℕ) (capacity : ℕ) → IsSeat process order capacity t me → family_of x ≡ me.0.family
-  family_is order capacity seat = ap (λ (y : Held B). family_of y) (sym is) ∙ sym seat.family
-
   -- a seat's view
   pub views_are : (order : List ℕ) (capacity : ℕ) → IsSeat process order capacity t me → view_of x ≡ me.0
   views_are order capacity seat = grind (arith, nat_tests, indices_are)
@@ -120,7 +115,6 @@ module _ {B : Type 0} (x : Held B) (t : TableId) (id process : ℕ) (me : Me (Op
       → held t' id' process me' ≡ with_lots x ls
   held_same t' id' me' ls et en ev el = λ j. record {
     table = (et ∙ ap (λ (y : Held B). y.table) is) j;
-    lines = (ap (λ (v : View). v.family.lines) ev ∙ ap (λ (y : Held B). y.lines) is) j;
     id = (en ∙ ap (λ (y : Held B). y.id) is) j;
     shape = (ap (λ (v : View). v.shape) ev ∙ ap (λ (y : Held B). y.shape) is) j;
     process = (is j).process;
@@ -131,11 +125,10 @@ module _ {B : Type 0} (x : Held B) (t : TableId) (id process : ℕ) (me : Me (Op
 
   -- and after a step, with other lots, events of others that it saw, and its own
   pub held_as : (order : List ℕ) (capacity : ℕ) → IsSeat process order capacity t me → (t' : TableId) (id' : ℕ) (me' : Me (Option (LotOf B)) View) (ls : List (ℕ × LotOf B))
-      (others own done : List Event) → t' ≡ t → id' ≡ id → me'.0.family ≡ me.0.family → me'.0.shape ≡ me.0.shape → numbered me'.0.shape.records me'.1 ≡ ls
-      → me'.0.fronts ≡ adds (others ++ own) me.0.fronts → IsOthers me.0 others
+      (others own done : List Event) → t' ≡ t → id' ≡ id → me'.0.shape ≡ me.0.shape → numbered me'.0.shape.records me'.1 ≡ ls → me'.0.fronts ≡ adds (others ++ own) me.0.fronts → IsOthers me.0 others
       → by_place (place_of x.process) own ≡ own → x.done ++ own ≡ done
       → (held t' id' process me' ≡ seen (front_in me'.0) (record x { lots = ls; done = done })) × Grows (place_of x.process) own x.front (front_in me'.0)
-  held_as order capacity seat t' id' me' ls others own done et en eg es el ef of_others mine ed = grind (arith, nat_tests, adds_one, by_place_append)
+  held_as order capacity seat t' id' me' ls others own done et en es el ef of_others mine ed = grind (arith, nat_tests, adds_one, by_place_append)
 
   -- and after a look, which found a word
   pub held_seen : (order : List ℕ) (capacity : ℕ) (seat : IsSeat process order capacity t me) (t' : TableId) (id' : ℕ) (me' : Me (Option (LotOf B)) View) (slot r word : ℕ) → t' ≡ t
@@ -143,8 +136,7 @@ module _ {B : Type 0} (x : Held B) (t : TableId) (id process : ℕ) (me : Me (Op
       → slot ≡ index_of x.shape.records r → SeesMore slot word me me' → HasSeen r word x (held t' id' process me')
   held_seen order capacity seat t' id' me' slot r word et en at sees =
       let shape : me'.0.shape ≡ x.shape = ap (λ (m : Me (Option (LotOf B)) View). m.0.shape) sees.2 ∙ ap (λ (y : Held B). y.shape) is in
-      let after = held_as order capacity seat t' id' me' x.lots sees.0 [] x.done et en (ap (λ (m : Me (Option (LotOf B)) View). m.0.family) sees.2)
-      (ap (λ (m : Me (Option (LotOf B)) View). m.0.shape) sees.2)
+      let after = held_as order capacity seat t' id' me' x.lots sees.0 [] x.done et en (ap (λ (m : Me (Option (LotOf B)) View). m.0.shape) sees.2)
       (ap (λ (m : Me (Option (LotOf B)) View). numbered m.0.shape.records m.1) sees.2 ∙ ap (λ (y : Held B). y.lots) is)
       (ap (λ (m : Me (Option (LotOf B)) View). m.0.fronts) sees.2) sees.1 refl (append-nil x.done) in (
         (

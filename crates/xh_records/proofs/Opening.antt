@@ -3,7 +3,7 @@ use Rattle.xh_records.proofs.Common.{nat_tests, ◌≡◌, ℕ, zero, suc, ◌�
 use Rattle.xh_records.proofs.Common.{Some, None, some, some-injective, some-ne-none, get_elem?, opening, at_map, LotOf, Holder, Process, IsHeldBy, IsHolder, word_of, Shape, View, Event, by_place}
 use Rattle.xh_records.proofs.Common.{IsLotAt, IsEmpty, IsSmall, HomeFits, ViewFits, ViewTells, Shown, places_from, all_places}
 use Rattle.xh_records.proofs.Common.{◌+◌, ◌<◌, ◌%◌, Among, dite, ℕ_discrete, inl, inr}
-use Rattle.xh_records.proofs.Common.{State, Splits, Family, at_set, subst, set, KeepsOwn, Shows, Sits, named, no_family, place_of, spent}
+use Rattle.xh_records.proofs.Common.{State, Splits, TableId, at_set, subst, set, KeepsLog, Shows, Sits, named, no_table, place_of, spent}
 use Rattle.xh_records.proofs.Cuts.{Part, cuts, nothing}
 use Rattle.xh_records.proofs.Named.{empty_home}
 use Rattle.xh_records.proofs.History.{lists_back}
@@ -24,15 +24,15 @@ sits_from : (a k p : ℕ) → a ≤ p → p < a + k → Among (places_from a k) 
 sits_from a zero p lo hi = absurd (omega arith)
 sits_from a (suc k) p lo hi = dite (ℕ_discrete p a) (λ e. inl e) (λ n. inr (sits_from (suc a) k p (omega arith) (omega arith)))
 
-pub opens : {B : Type 0} (fits : B → ℕ → Bool) (is_own : B → Family → Type 0) (s : Shape) (n : ℕ) (words : List ℕ) (lots : List (LotOf B)) (slots : List (Option (LotOf B)))
+pub opens : {B : Type 0} (fits : B → ℕ → Bool) (log : B → Option TableId) (s : Shape) (n : ℕ) (words : List ℕ) (lots : List (LotOf B)) (slots : List (Option (LotOf B)))
     → s.places ≤ 32 → words ≡ replicate n 0 → slots ≡ map Some lots → length lots ≡ n → ((k : ℕ) (l : LotOf B) → get_elem? lots k ≡ some l → IsLotAt s k l × IsEmpty fits l) → IsSmall s
-    → Shown fits is_own s (opening words slots (all_places s))
-opens {B} fits is_own s n words lots slots few zeros wrapped long empty small = (
+    → Shown fits log s (opening words slots (all_places s))
+opens {B} fits log s n words lots slots few zeros wrapped long empty small = (
   replicate n None,
   shows,
   record {
-    family = no_family;
-    named = λ id p v there sits. ap (λ (z : View). z.family) (sym (only id v there).1);
+    table = no_table;
+    named = λ id p v there sits. ap (λ (z : View). z.log) (sym (only id v there).1);
     own = λ k l at full. absurd (let e = empty_home fits s (replicate n None) words (map some slots) (all_places s ∷ []) shows (none_there n) k l at in omega arith);
   },
 )
@@ -79,16 +79,16 @@ opens {B} fits is_own s n words lots slots few zeros wrapped long empty small = 
       };
     }
 
--- the first seat learns the family of the table's lots
-pub names_all : {B : Type 0} (fits : B → ℕ → Bool) (is_own : B → Family → Type 0) (s : Shape) (f : Family) (id : ℕ) → 0 < s.places → s.places ≤ 32
-    → Splits (Shown {B = B} fits is_own s) id (all_places s) (named f (all_places s)) spent
-names_all {B} fits is_own s f id some_place few = cuts fits is_own s id v l spent part (nothing v) (λ p h. inl h) (λ p h m. m) keeps
+-- the first seat learns which table it is at
+pub names_all : {B : Type 0} (fits : B → ℕ → Bool) (log : B → Option TableId) (s : Shape) (t : TableId) (id : ℕ) → 0 < s.places → s.places ≤ 32
+    → Splits (Shown {B = B} fits log s) id (all_places s) (named t (all_places s)) spent
+names_all {B} fits log s t id some_place few = cuts fits log s id v l spent part (nothing v) (λ p h. inl h) (λ p h m. m) logs
   where
     v : View
     v = all_places s
 
     l : View
-    l = named f v
+    l = named t v
 
     part : Part v l
     part = record {
@@ -100,15 +100,15 @@ names_all {B} fits is_own s f id some_place few = cuts fits is_own s id v l spen
       places = λ d. d;
     }
 
-    keeps : (st : State (Option (LotOf B)) View) → Shown fits is_own s st → get_elem? st.views id ≡ some v → KeepsOwn is_own st.homes (set st.views id l ++ spent ∷ [])
-    keeps st holds here = record {
-      family = f;
+    logs : (st : State (Option (LotOf B)) View) → Shown fits log s st → get_elem? st.views id ≡ some v → KeepsLog log st.homes (set st.views id l ++ spent ∷ [])
+    logs st holds here = record {
+      table = t;
       named = λ j p u at sits. either_way (snoc_at (set st.views id l) spent u j at)
-          (λ x. either_way (at_set st.views id j l u x) (λ y. ap (λ (z : View). z.family) (sym y.1)) (λ y. absurd (y.0 (one j p u y.1 sits))))
+          (λ x. either_way (at_set st.views id j l u x) (λ y. ap (λ (z : View). z.log) (sym y.1)) (λ y. absurd (y.0 (one j p u y.1 sits))))
           (λ x. absurd (subst (λ (z : View). Sits z p) (sym x.0) sits));
       own = λ k lot at full. absurd (
-          let a : 0 < holds.2.family.table.words = (holds.2.own k lot at full).0 in
-          let b : 0 ≡ holds.2.family.table.words = ap (λ (z : Family). z.table.words) (holds.2.named id 0 v here (sits_from 0 s.places 0 (omega arith) (omega arith))) in omega arith);
+          let a : 0 < holds.2.table.words = (holds.2.own k lot at full).0 in
+          let b : 0 ≡ holds.2.table.words = ap (λ (z : TableId). z.words) (holds.2.named id 0 v here (sits_from 0 s.places 0 (omega arith) (omega arith))) in omega arith);
     }
       where
         one : (j p : ℕ) (u : View) → get_elem? st.views j ≡ some u → Sits u p → j ≡ id

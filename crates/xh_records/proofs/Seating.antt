@@ -96,7 +96,7 @@ module _ {B : Type 0} (process : ℕ) (order : List ℕ) (capacity : ℕ) (table
         below = subst (AllBelow table.slots) (sym order_is) (below_split table.slots (keys a) i (keys b) (subst (AllBelow table.slots) same seat.below));
         room = seat.room;
         small = seat.small;
-        family = seat.family;
+        log = seat.log;
       }
 
   pub replaces : (i : ℕ) (y : LotOf B) → IsSeat process order capacity table me → IsLotAt me.0.shape i y → IsSeat process order capacity table (me.0, put i (Some y) me.1)

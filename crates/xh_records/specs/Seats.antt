@@ -2,7 +2,6 @@
 use Rattle.std.specs.Prelude.{◌≡◌, ℕ, ◌+◌, ◌*◌, ◌/◌, ◌%◌, ◌<◌, ◌≢◌, Bool, List, [], ◌∷◌, ◌++◌, map, length, slice_get, slice_index, Some, None, Option}
 use Rattle.atomic_table.specs.Seated.{TableId}
 use Rattle.xh_arena.specs.Views.{LotOf}
-use Rattle.xh_arena.specs.declared.family.Family.{Family}
 use Rattle.xh_model.specs.declared.event.Holder.{Holder}
 use Rattle.xh_model.specs.declared.event.Holder.TheVariants.{Process, Direction}
 use Rattle.xh_model.specs.declared.event.Event.{Event}
@@ -20,11 +19,10 @@ pub record RecordsOf : Type 0 where
   pub table : TableId
   pub shape : Shape
 
--- a seat: its table, the lines that the table's lots are of, its number there, the process that it stands for, the lots of the records that the process owns, each beside its record's number,
--- in the order gained, the events that the seat did, in their order, and its front: the beginning of the one log of all events that it has seen
+-- a seat: its table, its number there, the process that it stands for, the lots of the records that the process owns, each beside its record's number, in the order gained, the events that the
+-- seat did, in their order, and its front: the beginning of the one log of all events that it has seen
 pub record Held (B : Type 0) : Type 0 where
   pub table : TableId
-  pub lines : List TableId
   pub id : ℕ
   pub shape : Shape
   pub process : ℕ
@@ -44,16 +42,6 @@ IsSeatOf all x = (x.table ≡ all.table) × (x.shape ≡ all.shape)
 -- the name of no table
 abbrev pub no_table : TableId
 no_table = record { words = 0; slots = 0; views_name = 0; atom = 0; block = 0; offset = 0; slot_names = [] }
-
--- the family of a table's lots, of no lots, and of the lots of a seat's table
-abbrev pub family_at : TableId → List TableId → Shape → Family
-family_at t lines s = record { table = t; lines = lines; records = s.records; places = s.places; names = s.names }
-
-abbrev pub no_family : Family
-no_family = record { table = no_table; lines = []; records = 0; places = 0; names = [] }
-
-abbrev pub family_of : {B : Type 0} → Held B → Family
-family_of x = family_at x.table x.lines x.shape
 
 -- there is such a record
 abbrev pub IsRecord : Shape → ℕ → Type 0
@@ -101,7 +89,7 @@ owned_by p (k ∷ ks) = (k, p) ∷ owned_by p ks
 
 -- the seat's view
 abbrev pub view_of : {B : Type 0} → Held B → View
-view_of x = record { family = family_of x; shape = x.shape; processes = x.process ∷ []; records = owned_by x.process (indices x); fronts = (place_of x.process, x.front) ∷ [] }
+view_of x = record { log = x.table; shape = x.shape; processes = x.process ∷ []; records = owned_by x.process (indices x); fronts = (place_of x.process, x.front) ∷ [] }
 
 -- what a seat knows of a word that it found at the index k: it is a word, and it names a process that the seat stands for exactly where the seat has that record
 abbrev pub Knows : View → ℕ → ℕ → Type 0

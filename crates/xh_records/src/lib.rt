@@ -3,7 +3,6 @@
 
 mod closing;
 mod lending;
-mod lines;
 mod making;
 mod note;
 mod plays;
@@ -17,7 +16,6 @@ mod token;
 mod view;
 mod word;
 
-pub use lines::Lines;
 pub use note::Note;
 pub use records::Records;
 pub use refused::Refused;

@@ -5,7 +5,7 @@ ghost use lib.ListN.{get_elem?};
 ghost use Rattle.xh_arena.specs.Views.{LotOf};
 ghost use Rattle.xh_model.specs.declared.limits.TheConstants.{PLACES};
 ghost use Rattle.xh_records.specs.Showing.{IsEmpty, IsLotAt, IsSmall};
-ghost use Rattle.xh_records.specs.Seats.{Held, family_at};
+ghost use Rattle.xh_records.specs.Seats.{Held};
 ghost use Rattle.xh_records.specs.inner.Views.{all_places, dealer};
 
 use crate::plays::{Deal, Names, Of};
@@ -17,6 +17,7 @@ use crate::token::{Board, Token};
 use crate::view::View;
 use atomic_table::Table;
 use std::alloc::{AllocError, Global};
+use std::marker::Brand;
 use xh_arena::{Fits, Lot};
 
 /// The table itself, which its seats share.
@@ -31,11 +32,11 @@ fn homes_of<L: Drop>(alloc: Global, lots: Vec<L>) -> Result<(Vec<u64>, Vec<Optio
     Ok((words, slots))
 }
 
-// The token of a new table knows from now on what all lots there have in common.
-pub(crate) fn name_all<B: Fits, S: Of>(board: &Board<B>, all: &mut Token<B>)
-    requires own { (all.old.table_id ≡ board.now.table_id) × (0 < board.now.table_id.words) }
+// The token of a new table knows from now on which table it is at.
+fn name_all<B: Fits, S: Of>(board: &Board<B>, all: &mut Token<B>)
+    requires own { (all.old.table_id ≡ board.now.table_id) × (S.log ≡ board.now.table_id) × (0 < board.now.table_id.words) }
     requires new { (all.old.me.0 ≡ all_places board.now.key) × (0 < board.now.key.places) × (board.now.key.places ≤ PLACES) }
-    ensures { (all.new.table_id ≡ all.old.table_id) × (all.new.me.0 ≡ dealer S.family board.now.key 0 board.now.key.places) }
+    ensures { (all.new.table_id ≡ all.old.table_id) × (all.new.me.0 ≡ dealer board.now.table_id board.now.key 0 board.now.key.places) }
 {
     drop(board.split_seat::<Names<S>>(all));
 }
@@ -50,10 +51,16 @@ pub(crate) fn table_of<B: Fits + Drop>(
     requires some { (0 < length lots.items) × (0 < shape.now.places) }
     requires empty { (k : ℕ) (l : LotOf B) → get_elem? lots.items k ≡ some l → IsLotAt shape.now k l × IsEmpty B.is_fit l }
     ensures { IfOk result (λ t. (t.0.shared.table_id.words ≡ length lots.items) × (t.0.shared.table_id.slots ≡ length lots.items) × (t.0.shared.key ≡ shape.now)
-        × (t.1.table_id ≡ t.0.shared.table_id) × (t.1.me.0 ≡ all_places shape.now)) }
+        × (t.1.table_id ≡ t.0.shared.table_id) × (t.1.me.0 ≡ dealer t.0.shared.table_id shape.now 0 shape.now.places)) }
 {
     let (words, slots) = homes_of(alloc, lots)?;
-    Table::new(alloc, words.as_slice(), slots, shape).map_err(|_refused| Refused::OutOfMemory)
+    match Table::new(alloc, words.as_slice(), slots, shape) {
+        Ok((table, mut all)) => {
+            name_all::<B, Brand>(&table.shared, &mut all);
+            Ok((table, all))
+        }
+        Err(_refused) => Err(Refused::OutOfMemory),
+    }
 }
 
 // A seat for each of the places that the token stands for, with room for so many slots.
@@ -66,11 +73,11 @@ pub(crate) fn seats_of<B: Fits>(
 ) -> Result<Vec<Seat<B>>, AllocError>
     requires own { (all.old.table_id ≡ board.now.table_id) × (0 < board.now.table_id.words) }
     requires room { board.now.table_id.slots ≤ count }
-    requires view { all.old.me.0 ≡ dealer (family_at board.now.table_id all.old.me.0.family.lines board.now.key) board.now.key 0 places }
+    requires view { all.old.me.0 ≡ dealer board.now.table_id board.now.key 0 places }
     requires small { IsSmall board.now.key }
     ensures long { IfOk result (λ seats. length seats.items ≡ places) }
     ensures seats { IfOk result (λ seats. (k : ℕ) (x : Held B) → get_elem? seats.items k ≡ some x → (x.table ≡ board.now.table_id) × (x.shape ≡ board.now.key) × (x.process ≡ k)
-        × (x.lots ≡ []) × (x.done ≡ []) × (x.front ≡ []) × (x.lines ≡ all.old.me.0.family.lines)) }
+        × (x.lots ≡ []) × (x.done ≡ []) × (x.front ≡ [])) }
 {
     let mut seats = Vec::with_capacity(alloc, usize::from(places))?;
     for place in 0..places {

@@ -10,7 +10,7 @@ pub(crate) struct Takes;
 impl<B: Fits> Play<Option<Lot<B>>, View> for Takes {
     ghost use Rattle.xh_records.specs.inner.Steps.{took};
 
-    ghost then = { took B.is_fit B.own };
+    ghost then = { took B.is_fit B.log };
 }
 
 /// Pass, to in flight, or vacate, to free.
@@ -40,20 +40,20 @@ impl<B> Play<Option<Lot<B>>, View> for Renews {
     ghost then = { aged };
 }
 
-/// What all lots of the table have in common: the proof of a call names it.
+/// Which table it is: the proof of a call names it.
 pub(crate) trait Of {
-    ghost use Rattle.xh_arena.specs.declared.family.Family.{Family};
+    ghost use Rattle.atomic_table.specs.Seated.{TableId};
 
-    ghost family: { Family };
+    ghost log: { TableId };
 }
 
 impl Of for Brand {
-    ghost use Rattle.xh_records.specs.Seats.{no_family};
+    ghost use Rattle.xh_records.specs.Seats.{no_table};
 
-    ghost family = { no_family };
+    ghost log = { no_table };
 }
 
-/// The first seat knows from now on what all lots of the table have in common. The new seat stands for no place.
+/// The first seat knows from now on which table it is at. The new seat stands for no place.
 pub(crate) struct Names<S> {
     of: PhantomData<S>,
 }
@@ -61,7 +61,7 @@ pub(crate) struct Names<S> {
 impl<S: Of> Split<View> for Names<S> {
     ghost use Rattle.xh_records.specs.inner.Views.{named, spent};
 
-    ghost left = { named S.family };
+    ghost left = { named S.log };
 
     ghost right = { λ _. spent };
 }

@@ -10,11 +10,10 @@ ghost use Rattle.xh_model.specs.Keyed.{Among, keys, value_at, without};
 ghost use Rattle.xh_records.specs.Encoding.{holder_of};
 ghost use Rattle.xh_records.specs.Showing.{IsLotOf, IsEmpty, IsFull, IsOwn};
 ghost use Rattle.xh_records.specs.History.{IsOneLog, StartsWith};
-ghost use Rattle.xh_records.specs.Seats.{SawTaken, family_of};
+ghost use Rattle.xh_records.specs.Seats.{SawTaken};
 ghost use Rattle.xh_records.specs.inner.Events.{taking, giving, IsAway, IsHomeLot};
 
-use crate::lines::Lines;
-use crate::making::{Home, name_all, seats_of, table_of};
+use crate::making::{Home, seats_of, table_of};
 use crate::note::Note;
 use crate::plays::{Looks, Notes, Renews};
 use crate::refused::Refused;
@@ -26,7 +25,7 @@ use crate::word::OwnerWord;
 use arrayvec::ArrayVec;
 use std::alloc::Global;
 use std::collections::LinkedList;
-use std::marker::{Brand, Model};
+use std::marker::Model;
 use xh_arena::{Fits, Lot, Name};
 use xh_model::limits::{MAX_RECORDS, PLACES};
 
@@ -62,15 +61,13 @@ impl<B: Fits + Drop> Records<B> {
 
     /// A table over the empty lots of whole vaults, one after the other, each of `records` lots (1 to
     /// 256), which have these names; and a seat for each of the `places` (1 to 32) at its first
-    /// generation. Each record is free. The caller's proof says which lines the channels have whose ends may lie there, by what
-    /// is shown here. OutOfMemory where a growth was refused.
-    pub fn new<L: Lines, A>(
+    /// generation. Each record is free. OutOfMemory where a growth was refused.
+    pub fn new(
         alloc: Global,
         lots: Vec<Lot<B>>,
         names: LinkedList<Name>,
         records: u16,
         places: u8,
-        _shown: &A,
     ) -> Result<(Records<B>, Vec<Seat<B>>), Refused>
         requires limits { (0 < records) × (records ≤ MAX_RECORDS) × (0 < places) × (places ≤ PLACES) }
         requires few { length names ≤ MAX_ARENAS }
@@ -79,7 +76,7 @@ impl<B: Fits + Drop> Records<B> {
         ensures shape { IfOk result (λ r. r.0.shape ≡ record { records = records; places = places; names = names }) }
         ensures slots { IfOk result (λ r. r.0.table.slots ≡ length lots.items) }
         ensures seats { IfOk result (λ r. (length r.1.items ≡ places) × ((k : ℕ) (x : Held B) → slice_get r.1.items k ≡ Some x → IsSeatOf r.0 x
-            × (x.process ≡ k) × (x.lots ≡ []) × (x.done ≡ []) × (x.front ≡ []) × (x.lines ≡ L.lines))) }
+            × (x.process ≡ k) × (x.lots ≡ []) × (x.done ≡ []) × (x.front ≡ []))) }
     {
         let count = lots.len();
         let arenas = names.len();
@@ -89,7 +86,6 @@ impl<B: Fits + Drop> Records<B> {
             names,
         };
         let (table, mut dealer) = table_of(alloc, lots, &shape)?;
-        name_all::<B, Brand>(&table.shared, &mut dealer);
         let seats = seats_of(alloc, &table.shared, &mut dealer, count, places)?;
         let all = Records {
             table,
@@ -136,7 +132,7 @@ impl<B: Fits + Drop> Records<B> {
         requires away { IsAway (holder_of from) }
         ensures taken { OnOk result (HasGained (taking seat.old.process number (holder_of from)) (IsHomeLot B.is_fit (holder_of from)) seat.old seat.new) }
         ensures fresh { OnOk result (Among (keys seat.old.lots) number → ⊥) }
-        ensures family { OnOk result ((l : LotOf B) → value_at number seat.new.lots ≡ Some l → IsOwn B.own (family_of seat.new) l) }
+        ensures log { OnOk result ((l : LotOf B) → value_at number seat.new.lots ≡ Some l → IsOwn B.log self.now.table l) }
         ensures missed { IfErr result (λ word. HasMissed (holder_of from) number word seat.old seat.new) }
     {
         let slot = self.slot_of(number);
@@ -161,7 +157,7 @@ impl<B: Fits + Drop> Records<B> {
         requires exists { IsRecord self.now.shape number }
         requires away { IsAway (holder_of to) × IsHolder (holder_of to) }
         requires held { (l : LotOf B) × (value_at number seat.old.lots ≡ Some l) × IsHomeLot B.is_fit (holder_of to) l }
-        requires family { (l : LotOf B) → value_at number seat.old.lots ≡ Some l → IsOwn B.own (family_of seat.old) l }
+        requires log { (l : LotOf B) → value_at number seat.old.lots ≡ Some l → IsOwn B.log self.now.table l }
         ensures { HasLost (giving seat.old.process number (holder_of to)) seat.old seat.new }
     {
         let slot = self.slot_of(number);
@@ -227,19 +223,19 @@ impl<B: Fits + Drop> Records<B> {
         requires exists { IsRecord self.now.shape number × (direction < DIRECTIONS) }
         ensures accepted { OnOk result (HasGained (Accept seat.old.process number direction) (IsFull B.is_fit) seat.old seat.new) }
         ensures fresh { OnOk result (Among (keys seat.old.lots) number → ⊥) }
-        ensures family { OnOk result ((l : LotOf B) → value_at number seat.new.lots ≡ Some l → IsOwn B.own (family_of seat.new) l) }
+        ensures log { OnOk result ((l : LotOf B) → value_at number seat.new.lots ≡ Some l → IsOwn B.log self.now.table l) }
         ensures missed { IfErr result (λ word. HasMissed (Some (Direction direction)) number word seat.old seat.new) }
     {
         self.take(seat, number, OwnerWord::InFlight(direction))
     }
 
-    /// Puts a record that the seat holds, whose lot is well formed and of the table's family, in flight on the direction (0 to
+    /// Puts a record that the seat holds, whose lot is well formed and keeps notes of no other table, in flight on the direction (0 to
     /// 127).
     pub fn pass(&self, seat: &mut Seat<B>, number: u16, direction: u8)
         requires own { IsSeatOf self.now seat.old }
         requires exists { IsRecord self.now.shape number × (direction < DIRECTIONS) }
         requires held { (l : LotOf B) × (value_at number seat.old.lots ≡ Some l) × IsFull B.is_fit l }
-        requires family { (l : LotOf B) → value_at number seat.old.lots ≡ Some l → IsOwn B.own (family_of seat.old) l }
+        requires log { (l : LotOf B) → value_at number seat.old.lots ≡ Some l → IsOwn B.log self.now.table l }
         ensures passed { HasLost (Pass seat.old.process number direction) seat.old seat.new }
     {
         self.give(seat, number, OwnerWord::InFlight(direction));

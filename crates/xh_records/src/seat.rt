@@ -30,7 +30,6 @@ impl<B> Model for Seat<B> {
 
     ghost view = { λ s. record {
       table = s.token.table_id;
-      lines = s.token.me.0.family.lines;
       id = s.token.id;
       shape = s.token.me.0.shape;
       process = s.process;

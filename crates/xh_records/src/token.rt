@@ -137,7 +137,7 @@ pub(crate) fn take_slot<B: Fits>(
     ensures same { (token.new.table_id ≡ token.old.table_id) × (token.new.id ≡ token.old.id) }
     ensures taken { OnOk result ((l : LotOf B) × (others : List Event) × (token.new.me ≡ (gained token.old.me.0 slot process (holder_of from) others, token.old.me.1 ++ (slot, Some l) ∷ []))
         × IsOthers token.old.me.0 others × IsLotAt token.old.me.0.shape slot l × IsHomeLot B.is_fit (holder_of from) l × ((p : ℕ) → Owns token.old.me.0 slot p → ⊥)
-        × IsOwn B.own token.old.me.0.family l × TellsWord token.new.me.0.shape.records (front_in token.new.me.0) slot (word_of (Some (Process process)))) }
+        × IsOwn B.log token.old.me.0.log l × TellsWord token.new.me.0.shape.records (front_in token.new.me.0) slot (word_of (Some (Process process)))) }
     ensures missed { IfErr result (λ word. (word ≢ word_of (holder_of from)) × SeesMore slot word token.old.me token.new.me) }
 {
     let wanted = from.encode();
@@ -163,8 +163,8 @@ pub(crate) fn give_slot<B: Fits>(
     requires listed { IsListed order.now token.old.me.1 slot }
     requires away { IsAway (holder_of to) × IsHolder (holder_of to) }
     requires lot { (l : LotOf B) × (in_slot slot token.old.me.1 ≡ Some l) × IsLotAt token.old.me.0.shape slot l × IsHomeLot B.is_fit (holder_of to) l
-        × IsOwn B.own token.old.me.0.family l }
-    requires family { token.old.me.0.family.table ≡ board.now.table_id }
+        × IsOwn B.log token.old.me.0.log l }
+    requires log { token.old.me.0.log ≡ board.now.table_id }
     requires owned { (p : ℕ) × IsAlone token.old.me.0 p × Owns token.old.me.0 slot p }
     ensures token { (token.new.table_id ≡ token.old.table_id) × (token.new.id ≡ token.old.id) }
     ensures given { (others : List Event) × IsOthers token.old.me.0 others × (token.new.me ≡

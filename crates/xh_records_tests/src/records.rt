@@ -10,7 +10,6 @@ mod threads;
 use std::alloc::Global;
 use std::collections::LinkedList;
 use std::fmt::Debug;
-use std::marker::Brand;
 use std::process::Abort;
 use xh_arena::{Fits, Lot, Tally, Vault};
 use xh_records::{OwnerWord, Records, Refused, Seat};
@@ -20,11 +19,11 @@ use xh_records::{OwnerWord, Records, Refused, Seat};
 struct Any;
 
 impl Fits for Any {
-    ghost use Rattle.std.specs.Prelude.{true};
+    ghost use Rattle.std.specs.Prelude.{true, None};
 
     ghost is_fit = { λ _ _. true };
 
-    ghost own = { λ _ _. Unit {0} };
+    ghost log = { λ _. None };
 
     fn fits(&self, _len: u32) -> bool {
         true
@@ -71,7 +70,7 @@ fn make_bench(alloc: Global, size: u32, count: u16, wear: u64) -> Option<Bench>
     };
     let mut names = LinkedList::new(alloc);
     names.push_back(vault.name()).ok()?;
-    let Ok((records, seats)) = Records::new::<Brand, _>(alloc, lots, names, count, 2, &()) else {
+    let Ok((records, seats)) = Records::new(alloc, lots, names, count, 2) else {
         return None;
     };
     let (first, second) = first_two(seats);

@@ -1,7 +1,6 @@
--- The rule of a line's table: the line at home is as the two sides' accounts say, and so a drained side has taken all that the other put, also while the line is out.
--- One seat owns the account of a side, one at most holds the line, and what a seat was told is a beginning of what the side did.
--- The word behind the lock says whether the line is open: where it isn't, no seat owns anything, and nothing was put, taken or shut.
-use Rattle.std.specs.Prelude.{◌≡◌, ◌≢◌, ◌⊎◌, ℕ, zero, suc, ◌-◌, ◌≤◌, ◌==◌, true, false, ◌||◌, List, [], ◌∷◌, ◌++◌, length, map, take, Option, Some, None}
+-- The rule of a line's table: the line at home is as the two sides' accounts say, and so a drained side has taken all that the other put.
+-- One seat owns the account of a side, one at most holds the line, and what a seat was told is no more than the side did.
+use Rattle.std.specs.Prelude.{◌≡◌, ◌≢◌, ◌⊎◌, ℕ, zero, suc, ◌-◌, ◌≤◌, ◌==◌, max, true, false, ◌||◌, List, [], ◌∷◌, ◌++◌, length, map, take, Option, Some, None}
 use mathlib.Core.Option.{none, some}
 use mathlib.Core.Option as maybe
 use lib.ListN.{get_elem?}
@@ -15,7 +14,8 @@ use Rattle.xh_channel.specs.declared.line_end.LineEnd.{LineEnd}
 use Rattle.xh_channel.specs.declared.line_rule.Account.{Account}
 use Rattle.xh_channel.specs.declared.line_rule.Part.{Part}
 use Rattle.xh_channel.specs.Beside.{AllOf, message_of, note_of}
-use Rattle.xh_channel.specs.LineSeats.{IsStart, LineView, LineTelling}
+use Rattle.xh_channel.specs.Ends.{no_counts}
+use Rattle.xh_channel.specs.LineSeats.{LineView, LineTelling}
 use Rattle.xh_channel.specs.Lines.{Lined, beside, end_of, is_drained, waiting}
 use Rattle.xh_channel.specs.Numbers.{number}
 
@@ -30,27 +30,13 @@ no_account = record { rows = []; depth = 0; state = 0; sent = []; sent_notes = [
 abbrev pub counts_in : Account → Counts
 counts_in a = record { put = length a.sent; taken = length a.got; shut = a.shut }
 
--- The account is a beginning of the other: what was put and taken, with the notes beside it, was not less later, what was shut is, and what was drained is and got no more
-abbrev pub Begins : Account → Account → Type 0
-Begins a b = IsStart a.sent b.sent × IsStart a.sent_notes b.sent_notes × IsStart a.got b.got × IsStart a.got_notes b.got_notes × (a.shut ≡ true → b.shut ≡ true)
-    × (a.drained ≡ true → (b.drained ≡ true) × (b.got ≡ a.got) × (b.got_notes ≡ a.got_notes))
+-- so much was told of a side, which did that and may have done more
+abbrev pub IsTold : Counts → Account → Type 0
+IsTold told a = (told.put ≤ length a.sent) × (told.taken ≤ length a.got) × (told.shut ≡ true → a.shut ≡ true)
 
--- of two beginnings of one list the longer
-abbrev pub longer : {A : Type 0} → List A → List A → List A
-longer [] b = b
-longer (x ∷ a) [] = x ∷ a
-longer (x ∷ a) (y ∷ b) = x ∷ longer a b
-
--- of two beginnings of one account the longer, list by list
-abbrev pub longest : Account → Account → Account
-longest a b = record a {
-  sent = longer a.sent b.sent;
-  sent_notes = longer a.sent_notes b.sent_notes;
-  got = longer a.got b.got;
-  got_notes = longer a.got_notes b.got_notes;
-  shut = a.shut || b.shut;
-  drained = a.drained || b.drained;
-}
+-- an account goes on: no less was put and taken, and what was shut is
+abbrev pub Grows : Account → Account → Type 0
+Grows a b = (length a.sent ≤ length b.sent) × (length a.got ≤ length b.got) × (a.shut ≡ true → b.shut ≡ true)
 
 -- an end of the line is as its own account and its peer's say
 pub record IsEndBy (line : Lined) (end : LineEnd) (own peer : Account) : Type 0 where
@@ -76,36 +62,23 @@ abbrev pub IsNoted : TableId → Option Lined → Type 0
 IsNoted log None = Unit {0}
 IsNoted log (Some line) = AllOf log (beside line.left) × AllOf log (beside line.right)
 
--- the log, the word that says whether the line is open, the seats that own the accounts, the one that holds the line (0 for none, else its number plus 1), and the accounts
+-- the log, the seats that own the accounts, the one that holds the line (0 for none, else its number plus 1), and the accounts
 pub record Truth : Type 0 where
   pub log : TableId
-  pub opened : ℕ
   pub low_seat : ℕ
   pub high_seat : ℕ
   pub holder : ℕ
   pub low : Account
   pub high : Account
 
--- what the one side took is a beginning of what the other put, and all of it where that side is drained, which was shut then
-abbrev pub IsTaken : Account → Account → Type 0
-IsTaken from to = ((items : List Laid) × IsDirection number from.sent to.got (map message_of items) × (from.sent_notes ≡ to.got_notes ++ map note_of items))
-    × (to.drained ≡ true → (to.shut ≡ true) × (to.got ≡ from.sent) × (to.got_notes ≡ from.sent_notes))
-
--- nothing was put, taken or shut
-abbrev pub IsNothing : Account → Type 0
-IsNothing a = (a.sent ≡ []) × (a.sent_notes ≡ []) × (a.got ≡ []) × (a.got_notes ≡ []) × (a.shut ≡ false) × (a.drained ≡ false)
-
 abbrev pub IsHome : Truth → List ℕ → List (maybe.Option (Option Lined)) → Type 0
-IsHome t words homes = (others : List ℕ) × (line : Option Lined) × (words ≡ 0 ∷ t.opened ∷ others) × (homes ≡ some line ∷ []) × (t.holder ≡ 0) × Lies line t.low t.high × IsNoted t.log line
-    × (t.opened ≡ 0 → IsNothing t.low × IsNothing t.high)
+IsHome t words homes = (others : List ℕ) × (line : Option Lined) × (words ≡ 0 ∷ others) × (homes ≡ some line ∷ []) × (t.holder ≡ 0) × Lies line t.low t.high × IsNoted t.log line
 
 abbrev pub IsOut : Truth → List ℕ → List (maybe.Option (Option Lined)) → Type 0
-IsOut t words homes = (n : ℕ) × (others : List ℕ) × (side : ℕ) × (words ≡ suc n ∷ t.opened ∷ others) × (homes ≡ none ∷ []) × (t.holder ≡ suc (by side t.low_seat t.high_seat))
-    × IsTaken t.low t.high × IsTaken t.high t.low × (t.opened ≢ 0)
+IsOut t words homes = (n : ℕ) × (others : List ℕ) × (side : ℕ) × (words ≡ suc n ∷ others) × (homes ≡ none ∷ []) × (t.holder ≡ suc (by side t.low_seat t.high_seat))
 
--- the line is open, and the seat owns the account of its side, and where it owns both, that of its peer
+-- the seat owns the account of its side, and where it owns both, that of its peer
 pub record Owns (t : Truth) (id : ℕ) (v : Part) : Type 0 where
-  pub opened : t.opened ≢ 0
   pub log : v.log ≡ t.log
   pub peer_log : v.both ≡ true → v.peer_log ≡ t.log
   pub seat : by v.side t.low_seat t.high_seat ≡ id
@@ -115,17 +88,17 @@ pub record Owns (t : Truth) (id : ℕ) (v : Part) : Type 0 where
   pub both : v.both ≡ true → (by v.side t.high_seat t.low_seat ≡ id) × (by v.side t.high t.low ≡ v.peer)
 
 abbrev pub Fits : Truth → ℕ → Part → Type 0
-Fits t id v = (v.owns ≡ true → Owns t id v) × Begins v.told (by v.side t.high t.low) × Begins v.peer_told (by v.side t.low t.high)
+Fits t id v = (v.owns ≡ true → Owns t id v) × IsTold v.told (by v.side t.high t.low) × IsTold v.peer_told (by v.side t.low t.high)
 
 abbrev pub Kept : State (Option Lined) Part → Type 0
 Kept s = (t : Truth) × (IsHome t s.words s.homes ⊎ IsOut t s.words s.homes) × ((id : ℕ) (v : Part) → get_elem? s.views id ≡ some v → Fits t id v)
 
-abbrev pub no_part : Part
-no_part = record { log = no_table; peer_log = no_table; side = 0; owns = false; both = false; holds = false; own = no_account; peer = no_account; told = no_account; peer_told = no_account }
+-- the seat of both sides, which did nothing
+abbrev pub both_sides : Part
+both_sides = record { log = no_table; peer_log = no_table; side = 0; owns = true; both = true; holds = false; own = no_account; peer = no_account; told = no_counts; peer_told = no_counts }
 
--- the seat of both sides, by their accounts
-abbrev pub both_sides : Account → Account → Part
-both_sides low high = record no_part { owns = true; both = true; own = low; peer = high }
+abbrev pub no_part : Part
+no_part = record both_sides { owns = false; both = false }
 
 abbrev pub named : TableId → Part → Part
 named log v = record v { log = log; peer_log = log }
@@ -141,18 +114,10 @@ joined v w = record v { both = true; peer_log = w.log; peer = w.own; peer_told =
 
 -- what the peer of a side is told: what the side did
 abbrev pub telling : Part → Part
-telling v = record no_part { side = 1 - v.side; told = v.own }
+telling v = record no_part { side = 1 - v.side; told = counts_in v.own }
 
 abbrev pub hearing : Part → Part → Part
-hearing v w = record v { told = longest v.told w.told }
-
--- it is told what the other was told
-abbrev pub copied : Part → Part
-copied v = record no_part { side = v.side; told = v.told }
-
--- it is told of its own side what the other was told
-abbrev pub recalling : Part → Part → Part
-recalling v w = record v { peer_told = w.told }
+hearing v w = record v { told = record { put = max v.told.put w.told.put; taken = max v.told.taken w.told.taken; shut = v.told.shut || w.told.shut } }
 
 abbrev pub holding : Part → Account → Part
 holding v peer = record v { holds = true; peer = peer }
@@ -190,13 +155,18 @@ settled v (x ∷ xs) = settled_by v x.1
 
 -- the line is as the accounts say that the seat has by it: its own goes on, and its peer's stays or is its own too
 abbrev pub IsSettled : Part → Lined → Type 0
-IsSettled v line = LiesFor v.side (Some line) (own_by v line) (peer_by v line) × Begins v.own (own_by v line) × ((peer_by v line ≡ v.peer) ⊎ (v.both ≡ true)) × Begins v.told v.peer
+IsSettled v line = LiesFor v.side (Some line) (own_by v line) (peer_by v line) × Grows v.own (own_by v line) × ((peer_by v line ≡ v.peer) ⊎ (v.both ≡ true)) × IsTold v.told v.peer
     × IsNoted v.log (Some line)
+
+-- what the one side took is a beginning of what the other put, and all of it where that side is drained, which was shut then
+abbrev pub IsTaken : Account → Account → Type 0
+IsTaken from to = ((items : List Laid) × IsDirection number from.sent to.got (map message_of items) × (from.sent_notes ≡ to.got_notes ++ map note_of items))
+    × (to.drained ≡ true → (to.shut ≡ true) × (to.got ≡ from.sent) × (to.got_notes ≡ from.sent_notes))
 
 -- the seat has taken the line, and knows both accounts
 abbrev pub IsLocked : Me (Option Lined) Part → Me (Option Lined) Part → Type 0
 IsLocked me me' = (line : Option Lined) × (peer : Account) × (me' ≡ (holding me.0 peer, (0, line) ∷ me.1)) × LiesFor me.0.side line me.0.own peer
-    × Begins me.0.told peer × (me.0.both ≡ true → peer ≡ me.0.peer) × IsNoted me.0.log line
+    × IsTold me.0.told peer × (me.0.both ≡ true → peer ≡ me.0.peer) × IsNoted me.0.log line
 
 -- it took the line, or found it out
 abbrev pub Locked : Step (Option Lined) → Me (Option Lined) Part → ℕ → Me (Option Lined) Part → Type 0
@@ -206,40 +176,21 @@ abbrev pub Settled : Step (Option Lined) → Me (Option Lined) Part → ℕ → 
 Settled st me n me' = me' ≡ (settled me.0 me.1, [])
 
 abbrev pub Compared : Step (Option Lined) → Me (Option Lined) Part → ℕ → Me (Option Lined) Part → Type 0
-Compared st me n me' = (me' ≡ (record me.0 { told = me.0.peer; peer_told = me.0.own }, me.1))
-    × Begins me.0.told me.0.peer × Begins me.0.peer_told me.0.own × IsTaken me.0.own me.0.peer × IsTaken me.0.peer me.0.own
-
--- where the one is drained, what the other put is a beginning of what it took
-abbrev pub AreMet : Account → Account → Type 0
-AreMet from to = to.drained ≡ true → IsStart from.sent to.got × IsStart from.sent_notes to.got_notes
-
--- what it was told of its own side is a beginning of its account, where it owns that, and what it was told of both sides agrees
-abbrev pub Met : Step (Option Lined) → Me (Option Lined) Part → ℕ → Me (Option Lined) Part → Type 0
-Met st me n me' = (me' ≡ me) × (me.0.owns ≡ true → Begins me.0.peer_told me.0.own) × AreMet me.0.told me.0.peer_told × AreMet me.0.peer_told me.0.told
-
--- the seat has both sides, which did nothing
-abbrev pub IsOpened : Me (Option Lined) Part → Type 0
-IsOpened me' = (low : Account) × (high : Account) × (me' ≡ (both_sides low high, [])) × IsNothing low × IsNothing high
-
--- a new seat opened the line, or found it open
-abbrev pub Opened : Step (Option Lined) → Me (Option Lined) Part → ℕ → Me (Option Lined) Part → Type 0
-Opened st me n me' = (n ≡ 0 → IsOpened me') × (n ≢ 0 → me' ≡ me)
-
--- the seat has no part any more
-abbrev pub Closed : Step (Option Lined) → Me (Option Lined) Part → ℕ → Me (Option Lined) Part → Type 0
-Closed st me n me' = me' ≡ (no_part, me.1)
+Compared st me n me' = (me' ≡ (record me.0 { told = counts_in me.0.peer; peer_told = counts_in me.0.own }, me.1))
+    × IsTold me.0.told me.0.peer × IsTold me.0.peer_told me.0.own × IsTaken me.0.own me.0.peer × IsTaken me.0.peer me.0.own
 
 -- what a seat finds when it takes the line
 pub record Found (v : Part) (peer : Account) (line : Lined) : Type 0 where
   pub few : v.side ≤ 1
   pub lies : LiesFor v.side (Some line) v.own peer
-  pub told : Begins v.told peer
+  pub told : IsTold v.told peer
   pub notes : IsNoted v.log (Some line)
 
--- the seat is one of the table, and doesn't hold the line
+-- the seat is one of the table, which has one slot, and doesn't hold it
 pub record IsLineSeat (table seat : TableId) (me : Me (Option Lined) Part) (which : ℕ) : Type 0 where
   pub same : seat ≡ table
   pub words : seat.words ≡ 16
+  pub slots : seat.slots ≡ 1
   pub idle : me.1 ≡ []
   pub side : me.0.side ≡ which
   pub few : which ≤ 1
@@ -252,6 +203,7 @@ pub record IsWhole (low high seat : TableId) (me : Me (Option Lined) Part) : Typ
   pub left : seat ≡ low
   pub right : seat ≡ high
   pub words : seat.words ≡ 16
+  pub slots : seat.slots ≡ 1
   pub idle : me.1 ≡ []
   pub side : me.0.side ≡ 0
   pub owns : me.0.owns ≡ true
@@ -274,20 +226,9 @@ line_view table v = record {
   shut = v.own.shut;
   drained = v.own.drained;
   peer_shut = v.told.shut;
-  told_put = length v.told.sent;
-  told_taken = length v.told.got;
+  told_put = v.told.put;
+  told_taken = v.told.taken;
 }
 
 abbrev pub line_telling : TableId → Part → LineTelling
-line_telling table v = record {
-  table = table;
-  side = 1 - v.side;
-  put = length v.told.sent;
-  taken = length v.told.got;
-  shut = v.told.shut;
-  sent = v.told.sent;
-  sent_notes = v.told.sent_notes;
-  got = v.told.got;
-  got_notes = v.told.got_notes;
-  drained = v.told.drained;
-}
+line_telling table v = record { table = table; side = 1 - v.side; put = v.told.put; taken = v.told.taken; shut = v.told.shut }

@@ -1,42 +1,41 @@
 //! Both ends of a channel at once: its contract, its log, and what each may tell the other.
-ghost use Rattle.std.specs.Prelude.{◌≡◌, true, false, IfSome, is_some};
-ghost use Rattle.xh_channel.specs.LineSeats.{AreAcross, IsBlank, IsUncarried, logged};
+ghost use Rattle.std.specs.Prelude.{◌≡◌, ◌≤◌, true, false};
+ghost use Rattle.xh_model.specs.declared.limits.TheConstants.{MAX_DEPTH};
 ghost use Rattle.xh_channel.specs.Notes.{AgreesWith, ArePeers, hearing, told_by};
-ghost use Rattle.xh_channel.specs.Pairs.{IsPair, unruled};
+ghost use Rattle.xh_channel.specs.Pairs.{IsPair, ruled_by};
 ghost use Rattle.xh_channel.specs.Queues.{IsRenamed};
-ghost use Rattle.xh_records.specs.Seats.{no_table};
 
 use super::ChannelEnd;
 use crate::line_seat::{self, LineSeat};
 use crate::log::Of;
 use crate::queue_end;
-use std::marker::Brand;
+use std::sync::Wait;
+use xh_core::Contract;
 
-// The line is free again, where there is one.
-fn close(low: Option<LineSeat>, high: Option<LineSeat>)
-    requires { IfSome low (λ s. IfSome high (λ t. AreAcross s t × IsBlank s × IsBlank t)) }
+/// Both ends of a channel without a contract go by the contract from now on, from its first state.
+pub fn begin<R: Wait>(
+    rt: &R,
+    low: ChannelEnd,
+    high: ChannelEnd,
+    contract: Contract,
+    depth: u8,
+) -> (ChannelEnd, ChannelEnd)
+    requires pair { IsPair low high × (low.has_contract ≡ false) }
+    requires depth { (low.depth ≡ depth) × (1 ≤ depth) × (depth ≤ MAX_DEPTH) }
+    ensures { (result.0 ≡ ruled_by contract low) × (result.1 ≡ ruled_by contract high) }
 {
-    if let (Some(low), Some(high)) = (low, high) {
-        line_seat::close(low, high);
-    }
-}
-
-// The notes of the line are of this log from now on, where there is one.
-fn line_with_log<S: Of>(
-    low: Option<LineSeat>,
-    high: Option<LineSeat>,
-) -> (Option<LineSeat>, Option<LineSeat>)
-    requires both { is_some high ≡ is_some low }
-    requires blank { IfSome low (λ s. IfSome high (λ t. AreAcross s t × IsUncarried s × IsUncarried t)) }
-    ensures { (result.0 ≡ logged S.log low) × (result.1 ≡ logged S.log high) }
-{
-    match (low, high) {
-        (Some(low), Some(high)) => {
-            let (low, high) = line_seat::with_log::<S>(low, high);
-            (Some(low), Some(high))
-        }
-        _ => (None, None),
-    }
+    let (line, peers) = LineSeat::begin(rt, low.line, high.line, contract, depth);
+    let low = ChannelEnd {
+        has_contract: true,
+        line,
+        ..low
+    };
+    let high = ChannelEnd {
+        has_contract: true,
+        line: peers,
+        ..high
+    };
+    (low, high)
 }
 
 /// The notes of a channel that was never used are of this log from now on, and none goes with the next message.
@@ -46,7 +45,7 @@ pub fn with_log<S: Of>(low: ChannelEnd, high: ChannelEnd) -> (ChannelEnd, Channe
 {
     let (sender, receiver) = queue_end::with_log::<S>(low.sender, high.receiver);
     let (peers, theirs) = queue_end::with_log::<S>(high.sender, low.receiver);
-    let (line, other) = line_with_log::<S>(low.line, high.line);
+    let (line, other) = line_seat::with_log::<S>(low.line, high.line);
     let low = ChannelEnd {
         sender,
         receiver: theirs,
@@ -64,17 +63,6 @@ pub fn with_log<S: Of>(low: ChannelEnd, high: ChannelEnd) -> (ChannelEnd, Channe
         ..high
     };
     (low, high)
-}
-
-/// Both ends of a channel that was never used have no contract any more, are at no line, and their notes are of no log.
-pub fn without_contract(low: ChannelEnd, high: ChannelEnd) -> (ChannelEnd, ChannelEnd)
-    requires { IsPair low high }
-    ensures { IsRenamed no_table (unruled low) result.0 × IsRenamed no_table (unruled high) result.1 }
-{
-    close(low.line, high.line);
-    let low = ChannelEnd { line: None, ..low };
-    let high = ChannelEnd { line: None, ..high };
-    with_log::<Brand>(low, high)
 }
 
 // As `compare`, by both queues and the closed words.
@@ -109,16 +97,10 @@ fn compare_lines(low: ChannelEnd, high: ChannelEnd) -> (ChannelEnd, ChannelEnd)
     ensures told { (result.0 ≡ hearing low (told_by high)) × (result.1 ≡ hearing high (told_by low)) }
     ensures agree { AgreesWith low high × AgreesWith high low }
 {
-    let (Some(line), Some(peers)) = (low.line, high.line) else {
-        unreachable!()
-    };
-    let (line, peers) = line_seat::compare(line, peers);
-    let low = ChannelEnd {
-        line: Some(line),
-        ..low
-    };
+    let (line, peers) = line_seat::compare(low.line, high.line);
+    let low = ChannelEnd { line, ..low };
     let high = ChannelEnd {
-        line: Some(peers),
+        line: peers,
         ..high
     };
     (low, high)

@@ -80,26 +80,25 @@ pub(super) fn assert_all_open<R: Wait + Abort>(rt: &R, channels: &Channels, rows
 }
 
 // The next pair of these channels is cancelled by a call on others.
-fn cancel_next<R: Wait + Abort>(rt: &R, channels: &Channels, others: &Channels, rows: &[Row]) {
-    match opened(rt, channels, rows) {
+fn cancel_next<R: Wait + Abort>(rt: &R, channels: &Channels, others: &Channels) {
+    match opened(rt, channels, FREE) {
         Some(ends) => others.cancel(rt, ends.low, ends.high),
         None => panic!(rt; "a channel is free"),
     }
 }
 
-/// The number that was cancelled opens again, also with a contract.
-pub(super) fn assert_free_again<R: Wait + Abort>(rt: &R, channels: &Channels, rows: &[Row]) {
-    cancel_next(rt, channels, channels, rows);
-    assert_eq!(rt; next_number(rt, channels, rows), Some(0));
-    assert_eq!(rt; next_number(rt, channels, rows), Some(1));
+pub(super) fn assert_free_again<R: Wait + Abort>(rt: &R, channels: &Channels) {
+    cancel_next(rt, channels, channels);
+    assert_eq!(rt; next_number(rt, channels, FREE), Some(0));
+    assert_eq!(rt; next_number(rt, channels, FREE), Some(1));
 }
 
 /// A pair of others goes back to them, and is no number of these channels, of which the first is open.
 pub(super) fn assert_goes_back<R: Wait + Abort>(rt: &R, channels: &Channels, others: &Channels) {
     assert_eq!(rt; next_number(rt, channels, FREE), Some(0));
-    cancel_next(rt, others, channels, ONE_WAY);
+    cancel_next(rt, others, channels);
     assert_eq!(rt; next_number(rt, channels, FREE), Some(1));
-    assert_eq!(rt; next_number(rt, others, ONE_WAY), Some(0));
+    assert_eq!(rt; next_number(rt, others, FREE), Some(0));
 }
 
 // Each call is made on the other channels, and is answered by the end's own, whose turn alone rises.

@@ -39,7 +39,7 @@ pub(super) enum Act {
 pub(super) enum Scene {
     Each(&'static [Row], Act, u8),
     AllOpen(&'static [Row]),
-    FreeAgain(&'static [Row]),
+    FreeAgain,
     GoesBack,
     OwnRooms(&'static [Row]),
 }
@@ -97,7 +97,7 @@ fn play_on<R: Clock + Threads + Wait + Abort + Sync>(
             }
         }
         Scene::AllOpen(rows) => assert_all_open(rt, channels, rows),
-        Scene::FreeAgain(rows) => assert_free_again(rt, channels, rows),
+        Scene::FreeAgain => assert_free_again(rt, channels),
         Scene::GoesBack => play_beside(rt, alloc, channels, None),
         Scene::OwnRooms(rows) => play_beside(rt, alloc, channels, Some(rows)),
     }

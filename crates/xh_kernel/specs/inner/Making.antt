@@ -2,7 +2,6 @@
 use Rattle.std.specs.Prelude.{◌≡◌, ℕ, ◌%◌, ◌<◌, ◌≤◌, List, [], length, All, Some, slice_get, slice_index_or}
 use Rattle.atomic_table.specs.Seated.{TableId}
 use Rattle.xh_arena.specs.Views.{VaultOf}
-use Rattle.xh_channel.specs.declared.channels.Channels.{Channels}
 use Rattle.xh_glance.specs.Look.{LookOf, fresh_look}
 use Rattle.xh_glance.specs.Pen.{PenOf, fresh_pen}
 use Rattle.xh_history.specs.Histories as histories
@@ -15,12 +14,12 @@ use Rattle.xh_calls.specs.inner.Making.{AreBundles, AreFreshFrom}
 use Rattle.xh_calls.specs.Parts.{PartsOf, IsOpen, vault_names}
 use Rattle.xh_kernel.specs.declared.call.Call.{Call}
 
--- the seat of the place k, at its first generation, which holds nothing and knows the lines of the channels
-abbrev pub IsSeatAt : PartsOf → ℕ → Held Body → Type 0
-IsSeatAt parts k x = IsSeatOf parts.records x × (x.process ≡ k) × (x.lots ≡ []) × (x.lines ≡ parts.lines)
+-- the seat of the place k, at its first generation, which holds nothing
+abbrev pub IsSeatAt : RecordsOf → ℕ → Held Body → Type 0
+IsSeatAt all k x = IsSeatOf all x × (x.process ≡ k) × (x.lots ≡ [])
 
-abbrev pub AreSeats : PartsOf → List (Held Body) → Type 0
-AreSeats parts xs = (length xs ≡ PLACES) × ((k : ℕ) (x : Held Body) → slice_get xs k ≡ Some x → IsSeatAt parts k x)
+abbrev pub AreSeats : RecordsOf → List (Held Body) → Type 0
+AreSeats all xs = (length xs ≡ PLACES) × ((k : ℕ) (x : Held Body) → slice_get xs k ≡ Some x → IsSeatAt all k x)
 
 -- the pen of each place, with which nothing was told yet
 abbrev pub ArePens : TableId → List PenOf → Type 0
@@ -34,15 +33,14 @@ AreUnwritten id pens = (length pens ≡ PLACES) × ((k : ℕ) (d : histories.Pen
 abbrev pub AreUnseen : {E : Type 0} → TableId → List (histories.FrontOf E) → Type 0
 AreUnseen {E} id fronts = (k : ℕ) (d : histories.FrontOf E) → k < length fronts → slice_index_or fronts k d ≡ histories.fresh_front id k
 
--- a kernel's parts of these records, channels, glances and histories, made by the configuration
-abbrev pub parts_of : RecordsOf → ℕ → Config → Channels → TableId → TableId → TableId → PartsOf
-parts_of records workers config channels glances table vaults = record {
+-- a kernel's parts of these records, glances and histories, made by the configuration
+abbrev pub parts_of : RecordsOf → ℕ → Config → ℕ → TableId → TableId → TableId → PartsOf
+parts_of records workers config depth glances table vaults = record {
   records = records;
   workers = workers;
   size = config.bytes;
   wear = config.wear;
-  depth = channels.depth;
-  lines = channels.lines.items;
+  depth = depth;
   glances = glances;
   histories = table;
   vaults = vaults;
@@ -56,7 +54,7 @@ pub record AreParts (p : PartsOf) (vs : List VaultOf) (xs : List (Held Body)) (p
   pub arenas : length vs ≤ MAX_ARENAS
   pub size : (p.size % UNIT ≡ 0) × (p.size ≤ MAX_BYTES)
   pub places : p.records.shape.places ≡ PLACES
-  pub seats : AreSeats p xs
+  pub seats : AreSeats p.records xs
   pub pens_are : ArePens p.glances pens
   pub bundles : AreBundles p.records.shape.names bs
   pub looks_are : (length looks ≡ length bs) × All (λ l. l ≡ fresh_look p.glances) looks

@@ -7,8 +7,7 @@ use Rattle.xh_model.specs.Keyed.{Among, keys, value_at}
 use Rattle.xh_records.specs.Seats.{Held, did}
 use Rattle.xh_place.specs.declared.body.Body.{Body}
 use Rattle.xh_place.specs.inner.Lots.{HasNow}
-use Rattle.xh_place.specs.Places.{IsBlock, item_in}
-use Rattle.xh_records.specs.Seats.{family_of}
+use Rattle.xh_place.specs.Places.{IsBlock, item_in, records_of}
 
 -- the list without a number
 abbrev pub less : ℕ → List ℕ → List ℕ
@@ -29,10 +28,10 @@ lens (r ∷ rs) lot = (item_in (lot r)).len + lens rs lot
 abbrev pub CameBack : ℕ → ℕ → Held Body → Held Body → List ℕ → List ℕ → ℕ → Type 0
 CameBack d r old new had back bytes = ((back ≡ had) × HasNow old old.lots new × (bytes ≡ 0))
     ⊎ ((l : LotOf Body) × (back ≡ had ++ r ∷ []) × (Among (keys old.lots) r → ⊥)
-    × HasNow (did (Accept old.process r d) old) (old.lots ++ (r, l) ∷ []) new × IsBlock (family_of old) r l × (bytes ≡ l.len))
+    × HasNow (did (Accept old.process r d) old) (old.lots ++ (r, l) ∷ []) new × IsBlock (records_of old) r l × (bytes ≡ l.len))
 
 -- of the given records the seat has those that came back, all well formed
 pub record AreBack (given back : List ℕ) (seat : Held Body) : Type 0 where
   pub here : (r : ℕ) → Among given r → list_any (λ q. q == r) back ≡ is_some (value_at r seat.lots)
   pub only : (r : ℕ) → Among back r → Among given r
-  pub good : (r : ℕ) (l : LotOf Body) → Among given r → value_at r seat.lots ≡ Some l → IsBlock (family_of seat) r l
+  pub good : (r : ℕ) (l : LotOf Body) → Among given r → value_at r seat.lots ≡ Some l → IsBlock (records_of seat) r l

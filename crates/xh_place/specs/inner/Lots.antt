@@ -1,6 +1,5 @@
 -- What the private steps of a place do to its seat. Of the events that the seat did they tell the passes and accepts; the others are the record table's to tell.
-use Rattle.std.specs.Prelude.{◌≡◌, ℕ, ◌+◌, ◌/◌, ◌<◌, List, [], ◌∷◌, ◌++◌, Option, None, Some, Result, true}
-use Rattle.atomic_table.specs.Seated.{TableId}
+use Rattle.std.specs.Prelude.{◌≡◌, ℕ, ◌+◌, ◌/◌, ◌<◌, List, [], ◌∷◌, ◌++◌, Result, true}
 use Rattle.arrayvec.specs.ArrayVec.{ArrayVec}
 use Rattle.xh_arena.specs.Views.{LotOf}
 use Rattle.xh_model.specs.declared.limits.TheConstants.{MAX_RECORDS}
@@ -13,15 +12,13 @@ use Rattle.xh_records.specs.Seats.{Held, Noted, with_lots}
 use Rattle.xh_channel.specs.Queues.{Posted}
 use Rattle.xh_channel.specs.declared.unsent.Unsent.{Unsent}
 use Rattle.xh_place.specs.declared.body.Body.{Body}
-use Rattle.xh_place.specs.declared.body.Body.TheVariants.{Nothing, Data, End}
-use Rattle.xh_place.specs.declared.body.EndBlock.{EndBlock}
+use Rattle.xh_place.specs.declared.body.Body.TheVariants.{End}
 use Rattle.xh_core.specs.declared.header.Kind.TheVariants as kind
 use Rattle.xh_place.specs.Bodies.{content_of, fits_in, front, kind_of, rest}
 use Rattle.xh_place.specs.Endpoints.{Puts}
 use Rattle.xh_place.specs.Moves.{moves}
-use Rattle.xh_place.specs.Places.{IsBlock}
-use Rattle.xh_records.specs.Seats.{family_of}
-use Rattle.xh_place.specs.Seen.{Came, IsElsewhere, Passed, SawAt, SawFrom, SawFull, told}
+use Rattle.xh_place.specs.Places.{IsBlock, records_of}
+use Rattle.xh_place.specs.Seen.{Came, IsElsewhere, Passed, SawAt, SawFrom, SawFull}
 
 -- a seat, of whose events only the passes and accepts count, and not what it has seen of others
 abbrev pub bare : Held Body → Held Body
@@ -65,38 +62,17 @@ IsData l = (kind_of (content_of l.body) ≡ kind.Data) × (fits_in l.body l.len 
 -- the lot l of the record r keeps its first k bytes, and those past them are in a record t of the same arena that the seat didn't hold
 abbrev pub IsCut : Held Body → Held Body → ℕ → ℕ → LotOf Body → ℕ → Type 0
 IsCut old new r k l t = (h m : LotOf Body) × (Among (keys old.lots) t → ⊥) × HasNow old (put r h old.lots ++ (t, m) ∷ []) new
-    × IsBlock (family_of old) r h × IsBlock (family_of old) t m × (h.len ≡ k) × (h.len + m.len ≡ l.len)
+    × IsBlock (records_of old) r h × IsBlock (records_of old) t m × (h.len ≡ k) × (h.len + m.len ≡ l.len)
     × (content_of h.body ≡ front k (content_of l.body)) × (content_of m.body ≡ rest k (content_of l.body)) × (t / MAX_RECORDS ≡ r / MAX_RECORDS)
 
 -- an endpoint's lot
 abbrev pub IsEnd : LotOf Body → Type 0
 IsEnd l = kind_of (content_of l.body) ≡ kind.End
 
--- the lot's end became another, as `does` says
-abbrev pub LotDoes : (EndBlock → EndBlock → Type 0) → LotOf Body → LotOf Body → Type 0
-LotDoes does old new = (before after : EndBlock) × (old.body ≡ End before) × (new ≡ record old { body = End after }) × does before after
-
--- the endpoint did so, and its receipt is as it was
-abbrev pub ByEnd : (Posted → Posted → Type 0) → EndBlock → EndBlock → Type 0
-ByEnd does old new = (new.seen ≡ old.seen) × does old.end new.end
-
--- its receipt came out, and was laid
-abbrev pub GivesReceipt : Option Noted → EndBlock → EndBlock → Type 0
-GivesReceipt note old new = (note ≡ old.seen) × (new ≡ record old { seen = None })
-
-abbrev pub LaysReceipt : Option Noted → EndBlock → EndBlock → Type 0
-LaysReceipt note old new = new ≡ record old { seen = note }
-
--- its receipt is new: of this table's log, it tells so much, and all that the old one told
-abbrev pub Renews : TableId → List Event → EndBlock → EndBlock → Type 0
-Renews table front old new = (n : Noted) × LaysReceipt (Some n) old new × (n.table ≡ table) × (n.front ≡ front) × StartsWith front (told old.seen)
-
--- the receipt of a body
-abbrev pub receipt_of : Body → Option Noted
-receipt_of Nothing = None
-receipt_of (Data v) = None
-receipt_of (End b) = b.seen
+-- the lot's endpoint became another, as `does` says
+abbrev pub LotDoes : (Posted → Posted → Type 0) → LotOf Body → LotOf Body → Type 0
+LotDoes does old new = (before after : Posted) × (old.body ≡ End before) × (new ≡ record old { body = End after }) × does before after
 
 -- the lot's endpoint put the blocks, with a note beside them in which each was passed on the direction in the call
 abbrev pub LotPuts : ℕ → ℕ → ArrayVec ℕ → Result ℕ Unsent → Held Body → LotOf Body → LotOf Body → Type 0
-LotPuts d tag blocks result seat old new = (n : Noted) × LotDoes (ByEnd (Puts n tag blocks result)) old new × (n.table ≡ seat.table) × Passed seat.process d blocks.items seat.front n.front
+LotPuts d tag blocks result seat old new = (n : Noted) × LotDoes (Puts n tag blocks result) old new × (n.table ≡ seat.table) × Passed seat.process d blocks.items seat.front n.front

@@ -1,17 +1,14 @@
 -- What the private steps of an open do to a seat.
-use Rattle.std.specs.Prelude.{◌≡◌, ◌≢◌, ℕ, ◌/◌, [], ◌∷◌, ◌++◌, None, Some}
+use Rattle.std.specs.Prelude.{◌≡◌, ◌≢◌, ℕ, ◌/◌, [], ◌∷◌, ◌++◌, Some}
 use Rattle.xh_arena.specs.Views.{LotOf}
 use Rattle.xh_model.specs.declared.limits.TheConstants.{MAX_RECORDS}
 use Rattle.xh_model.specs.Keyed.{Among, keys, value_at}
 use Rattle.xh_records.specs.Showing.{IsEmpty, IsLotOf}
 use Rattle.xh_records.specs.Seats.{Held, IsRecord}
-use Rattle.xh_channel.specs.Queues.{Posted}
 use Rattle.xh_place.specs.declared.body.Body.{Body}
-use Rattle.xh_place.specs.declared.body.EndBlock.{EndBlock}
 use Rattle.xh_place.specs.Bodies.{fits_in}
 use Rattle.xh_place.specs.inner.Lots.{HasNow}
-use Rattle.xh_place.specs.Places.{IsBlock}
-use Rattle.xh_records.specs.Seats.{family_of}
+use Rattle.xh_place.specs.Places.{IsBlock, records_of}
 
 -- two more records of the arena, neither of which it had
 pub record HasTwoMore (arena : ℕ) (old new : Held Body) (r t : ℕ) (l m : LotOf Body) : Type 0 where
@@ -39,9 +36,5 @@ pub record AreClaimed (arena : ℕ) (old new : Held Body) (r t : ℕ) (l m : Lot
 -- they are blocks
 pub record AreMade (arena : ℕ) (old new : Held Body) (r t : ℕ) (l m : LotOf Body) : Type 0 where
   pub two : HasTwoMore arena old new r t l m
-  pub first : IsBlock (family_of old) r l
-  pub second : IsBlock (family_of old) t m
-
--- an endpoint that took nothing, as a block: it has no receipt
-abbrev pub fresh : Posted → EndBlock
-fresh end = record { end = end; seen = None }
+  pub first : IsBlock (records_of old) r l
+  pub second : IsBlock (records_of old) t m

@@ -8,7 +8,7 @@ ghost use Rattle.xh_place.specs.Desk.{IsAt, IsSameDesk, StaysAt};
 ghost use Rattle.xh_place.specs.Ending.{HasGivenBack, IsStopped, IsSwept, IsSweptBy, ending};
 ghost use Rattle.xh_place.specs.Ends.{RefusedOr, IsTooLate, ending_again};
 ghost use Rattle.xh_place.specs.Places.{Item, with_list};
-ghost use Rattle.xh_place.specs.Seen.{Becomes, IsElsewhere, IsSamePlace, SawWord};
+ghost use Rattle.xh_place.specs.Seen.{Becomes, IsElsewhere, IsSamePlace, IsSeen, SawWord};
 ghost use Rattle.xh_place.specs.Starts.{stop};
 ghost use Rattle.xh_records.specs.Seats.{IsRecord};
 ghost use Rattle.xh_place.specs.inner.Reclaiming.{IsSweptLate};
@@ -91,7 +91,7 @@ impl Place {
         requires some { from < length self.old.place.blocks }
         ensures same { IsSameDesk V.names V.extent desk.old desk.new }
         ensures list { Becomes (with_list self.old.place self.new.place) self.old self.new }
-        ensures swept { IsSweptBy self.old self.new from 1 self.old.place self.new.place result }
+        ensures swept { IsSweptBy (IsSeen self.old self.new) from 1 self.old.place self.new.place result }
         ensures back { HasGivenBack result desk.old.tallies.now desk.new.tallies.now }
     {
         let r = self.at(from);
@@ -111,7 +111,7 @@ impl Place {
         requires at { IsAt V.names desk.old self.old.place }
         ensures same { IsSameDesk V.names V.extent desk.old desk.new }
         ensures list { Becomes (with_list self.old.place self.new.place) self.old self.new }
-        ensures swept { IsSwept self.old self.new from budget self.old.place self.new.place result.0 result.1 }
+        ensures swept { IsSwept (IsSeen self.old self.new) from budget self.old.place self.new.place result.0 result.1 }
         ensures back { HasGivenBack result.0 desk.old.tallies.now desk.new.tallies.now }
     {
         let mut bytes = 0;
@@ -155,7 +155,7 @@ impl Place {
         ensures same { IsSameDesk V.names V.extent desk.old desk.new }
         ensures place { IsSamePlace self.old self.new }
         ensures swept { ((self.new.place ≡ self.old.place) × (desk.new.tallies.now ≡ desk.old.tallies.now) × IsElsewhere (SawWord self.old self.new) direction r)
-            ⊎ ((bytes : ℕ) × IsTooLate self.old self.new direction r self.old.place self.new.place bytes × HasGivenBack bytes desk.old.tallies.now desk.new.tallies.now) }
+            ⊎ ((bytes : ℕ) × IsTooLate (IsSeen self.old self.new) direction r self.old.place self.new.place bytes × HasGivenBack bytes desk.old.tallies.now desk.new.tallies.now) }
     {
         let state = self.state();
         self.set_state(Status::Ending);
@@ -175,7 +175,7 @@ impl Place {
         ensures same { IsSameDesk V.names V.extent desk.old desk.new }
         ensures place { IsSamePlace self.old self.new }
         ensures swept { ((self.new.place ≡ self.old.place) × (desk.new.tallies.now ≡ desk.old.tallies.now) × IsElsewhere (SawWord self.old self.new) direction r)
-            ⊎ ((bytes : ℕ) × IsSweptLate self.old self.new direction r self.old.place self.new.place bytes × HasGivenBack bytes desk.old.tallies.now desk.new.tallies.now) }
+            ⊎ ((bytes : ℕ) × IsSweptLate (IsSeen self.old self.new) direction r self.old.place self.new.place bytes × HasGivenBack bytes desk.old.tallies.now desk.new.tallies.now) }
     {
         let from = self.count();
         let Ok(_block) = self.accept(desk.records, r, direction) else {

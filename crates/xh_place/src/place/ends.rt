@@ -6,14 +6,13 @@ ghost use Rattle.xh_core.specs.Refusing.{Tested};
 ghost use Rattle.xh_core.specs.Statuses.{is_over};
 ghost use Rattle.xh_model.specs.Keyed.{value_at};
 ghost use Rattle.xh_model.specs.declared.limits.TheConstants.{DIRECTIONS, END_BYTES};
-ghost use Rattle.xh_place.specs.Bodies.{IsEndAt, IsOnLine, endpoint, kind_of};
+ghost use Rattle.xh_place.specs.Bodies.{IsEndAt, kind_of};
 ghost use Rattle.xh_place.specs.Desk.{IsAt, StaysAt};
 ghost use Rattle.xh_place.specs.Ending.{HasGivenBack, IsClosed, last};
 ghost use Rattle.xh_place.specs.Endpoints.{Shuts};
 ghost use Rattle.xh_place.specs.Ends.{Accepts, EndDoes, IsUnopened, Opens, RefusedOr, at_home, end_block, is_here};
 ghost use Rattle.xh_place.specs.Places.{Item, IsPlaceOf, found, with_blocks, with_less};
-ghost use Rattle.xh_place.specs.Receipts.{AllReceived};
-ghost use Rattle.xh_place.specs.Seen.{Becomes, FindsFull, IsKnown, IsSeen, Knows, SeesMore, Stays};
+ghost use Rattle.xh_place.specs.Seen.{Becomes, FindsFull, IsSeen, SeesMore, Stays};
 ghost use Rattle.xh_place.specs.Starts.{start};
 ghost use Rattle.xh_place.specs.Vaults.{IsNoPair};
 ghost use Rattle.xh_records.specs.Seats.{IsRecord};
@@ -27,13 +26,11 @@ use crate::body::Body;
 use crate::desk::Desk;
 use crate::endpoints::{shut_at, spot_at};
 use crate::gate::{Gate, Point};
-use crate::hearing::hear_at;
 use crate::list::remove;
 use crate::lots::{pass_block, place_of};
 use crate::opening::{Unopened, make_ends};
 use crate::place::ending::reclaimed;
 use crate::place::{Place, check_start};
-use crate::receipts::renew;
 use crate::vaults::Vaults;
 use std::sync::Wait;
 use xh_channel::{Endpoint, Spot, with_log};
@@ -99,7 +96,6 @@ impl Place {
     ) -> Result<(Block, Block), Unopened>
         requires at { IsAt V.names desk.old self.old.place }
         requires fresh { IsPair low high }
-        requires lines { IsOnLine self.old.place.lines (endpoint low) }
         ensures same { StaysAt V.names V.extent desk.old desk.new self.old self.new }
         ensures opened { Opens arena (at_home self.old.place.table low) (at_home self.old.place.table high) self.old.place self.new.place desk.old.tallies.now desk.new.tallies.now result }
         ensures why { IsUnopened (start self.old.place.state ++ arena_tests arena (length self.old.place.shape.names)) (desk.new.vaults.now ≡ desk.old.vaults.now)
@@ -132,7 +128,6 @@ impl Place {
     ) -> Result<(Block, Block), Unopened>
         requires at { IsAt V.names desk.old self.old.place }
         requires fresh { IsPair low high × (low.has_contract ≡ true) }
-        requires lines { IsOnLine self.old.place.lines (endpoint low) }
         ensures same { StaysAt V.names V.extent desk.old desk.new self.old self.new }
         ensures opened { Opens arena (at_home self.old.place.table low) (at_home self.old.place.table high) self.old.place self.new.place desk.old.tallies.now desk.new.tallies.now result }
         ensures why { IsUnopened (start self.old.place.state ++ arena_tests arena (length self.old.place.shape.names)) (desk.new.vaults.now ≡ desk.old.vaults.now)
@@ -241,32 +236,12 @@ impl Place {
         }
     }
 
-    // The receipt of an endpoint of the list is renewed: the place has seen all that the old one tells.
-    fn renew(&mut self, records: &Records<Body>, e: u16)
-        requires own { IsPlaceOf records.now self.old.place }
-        requires end { (x : Item) × (value_at e self.old.place.blocks ≡ Some x) × (kind_of x.content ≡ kind.End) }
-        ensures same { Stays self.old self.new }
-        ensures received { (p : Posted) → value_at e self.old.place.blocks ≡ Some (end_block p) → AllReceived (IsKnown self.old self.new) p }
-    {
-        renew(records, &mut self.seat, e);
-    }
-
-    // Hears of an endpoint of the list all that it did, where its channel has a contract.
-    fn hear_end(&mut self, records: &Records<Body>, e: u16)
-        requires own { IsPlaceOf records.now self.old.place }
-        requires end { (x : Item) × (value_at e self.old.place.blocks ≡ Some x) × (kind_of x.content ≡ kind.End) }
-        ensures same { Stays self.old self.new }
-        ensures knows { (p : Posted) → value_at e self.old.place.blocks ≡ Some (end_block p) → p.has_contract ≡ true → Knows self.new p }
-    {
-        hear_at(records, &mut self.seat, e, &mut self.notes);
-    }
-
     // An endpoint is shut, and what waits for it comes to the end of the list. A data block stays.
     pub(super) fn drain_end<R: Wait, V, G: Gate>(&mut self, desk: &Desk<'_, R, V, G>, r: u16)
         requires own { IsPlaceOf desk.now.records.now self.old.place }
         requires alive { is_over self.old.place.state ≢ true }
         requires listed { (x : Item) × (value_at r self.old.place.blocks ≡ Some x) }
-        ensures cleared { Clears self.old self.new r self.old.place self.new.place }
+        ensures cleared { Clears (IsSeen self.old self.new) r self.old.place self.new.place }
         ensures seen { SeesMore self.old self.new }
     {
         match self.look(desk.records, r).kind {
@@ -276,7 +251,5 @@ impl Place {
         self.shut(desk, r);
         desk.gate.between(place_of(&self.seat), Point::Shut);
         self.drain(desk, r);
-        self.renew(desk.records, r);
-        self.hear_end(desk.records, r);
     }
 }

@@ -21,18 +21,18 @@ ghost use Rattle.xh_core.specs.declared.header.Kind.TheVariants as kind;
 
 use crate::body::Body;
 use crate::desk::Desk;
-use crate::gate::Gate;
+use crate::endpoints::take_at;
+use crate::gate::{Gate, Point};
 use crate::giving::{Given, answer, give_all};
-use crate::got::Taken;
-use crate::hearing::hear_at;
-use crate::list::{enlist, settle};
-use crate::lots::accept_block;
+use crate::got::{Got, Taken};
+use crate::list::settle;
+use crate::lots::{accept_block, place_of};
 use crate::place::Place;
-use crate::taking::take_all;
 use arrayvec::ArrayVec;
 use std::sync::Wait;
+use xh_channel::{Message, Refused as Untaken};
 use xh_core::{Block, Header, Refused, is_twice};
-use xh_records::Records;
+use xh_records::{Note, Records};
 
 impl Place {
     /// Gives blocks of the list, by the endpoint `e`, in a message with a tag. It answers the message's number.
@@ -92,8 +92,7 @@ impl Place {
         Ok(given)
     }
 
-    // Passes the blocks of a give, puts the message, hears what the endpoint did, and settles the list with
-    // what came back.
+    // Passes the blocks of a give, puts the message, and settles the list with what came back.
     fn send<R: Wait, V, G: Gate>(
         &mut self,
         desk: &Desk<'_, R, V, G>,
@@ -115,7 +114,6 @@ impl Place {
             lost,
             gained,
         } = give_all(desk, &mut self.seat, e, tag, given);
-        hear_at(desk.records, &mut self.seat, e, &mut self.notes);
         settle(&mut self.list, given.as_slice(), back.as_slice());
         self.total = self.total - lost + gained;
         answer(put, back)
@@ -153,9 +151,43 @@ impl Place {
         ensures place { IsSamePlace self.old self.new }
         ensures taken { MatchResult result (IsTaken e self.old self.new) (IsUntaken e self.old.place self.new.place) }
     {
-        let taken = take_all(desk, &mut self.seat, e)?;
-        self.total += enlist(&mut self.list, taken.blocks.as_slice());
-        Ok(taken)
+        let (taken, direction, note) = self.pop(desk, e);
+        let message = taken?;
+        desk.gate.between(place_of(&self.seat), Point::Popped);
+        self.hear(desk.records, note);
+        let blocks = self.take_all(desk.records, &message, direction);
+        let Message { no, tag, .. } = message;
+        Ok(Taken { no, tag, blocks })
+    }
+
+    // Takes the message at the front for an endpoint of the list. With the answer go the direction and what
+    // lay beside the message.
+    fn pop<R: Wait, V, G>(
+        &mut self,
+        desk: &Desk<'_, R, V, G>,
+        e: u16,
+    ) -> (Result<Message, Untaken>, u8, Option<Note>)
+        requires own { IsPlaceOf desk.now.records.now self.old.place }
+        requires end { (x : Item) × (value_at e self.old.place.blocks ≡ Some x) × (kind_of x.content ≡ kind.End) }
+        ensures took { EndDoes e self.old.place self.new.place (Takes result.2 result.0) }
+        ensures log { IsOf desk.now.records.now.table result.2 }
+        ensures seen { SeesMore self.old self.new }
+        ensures direction { (result.1 ≡ toward_in (value_at e self.old.place.blocks)) × (result.1 < DIRECTIONS) }
+    {
+        take_at(desk, &mut self.seat, e)
+    }
+
+    // The place has seen all that the note tells.
+    #[tactic(auto, using(crate::proofs::Seeing::heard_none))]
+    fn hear(&mut self, records: &Records<Body>, note: Option<Note>)
+        requires own { IsPlaceOf records.now self.old.place × IsOf records.now.table note }
+        ensures same { Stays self.old self.new }
+        ensures heard { StartsWith self.new.front (told note) }
+    {
+        let Some(note) = note else {
+            return;
+        };
+        records.hear(&mut self.seat, note);
     }
 
     // Takes a block that is in flight on the direction, at the end of the list. The error is the word
@@ -178,5 +210,43 @@ impl Place {
         self.list.push_reserved(r);
         self.total += u64::from(len);
         Ok(Block { rec: r, len })
+    }
+
+    // Takes a block of a message, at the end of the list. A record that doesn't exist is free.
+    fn take_one(&mut self, records: &Records<Body>, r: u16, direction: u8) -> Got
+        requires own { IsPlaceOf records.now self.old.place × (direction < DIRECTIONS) }
+        requires alive { is_over self.old.place.state ≢ true }
+        ensures place { IsSamePlace self.old self.new }
+        ensures got { (ys : List (ℕ × Item)) × (self.new.place ≡ with_more direction ys self.old.place) × IsGot (Saw self.old self.new) direction ys result }
+        ensures record { record_of result ≡ r }
+    {
+        if !records.has(r) {
+            return Got::Missing { rec: r, word: 0 };
+        }
+        match self.accept(records, r, direction) {
+            Ok(block) => Got::Here(block),
+            Err(word) => Got::Missing { rec: r, word },
+        }
+    }
+
+    // Takes the blocks of a message, at the end of the list: what each answers, in their order.
+    fn take_all(
+        &mut self,
+        records: &Records<Body>,
+        message: &Message,
+        direction: u8,
+    ) -> ArrayVec<Got, 8>
+        requires own { IsPlaceOf records.now self.old.place × (direction < DIRECTIONS) }
+        requires alive { is_over self.old.place.state ≢ true }
+        ensures place { IsSamePlace self.old self.new }
+        ensures got { (ys : List (ℕ × Item)) × (self.new.place ≡ with_more direction ys self.old.place) × AreGot (Saw self.old self.new) direction ys result.items }
+        ensures records { map record_of result.items ≡ message.now.blocks.items }
+    {
+        let mut got = ArrayVec::new();
+        for k in 0..message.blocks.len() {
+            let r = message.blocks[k];
+            got.push(self.take_one(records, r, direction));
+        }
+        got
     }
 }

@@ -8,7 +8,7 @@ use super::vaults::Plain;
 use std::alloc::Global;
 use std::mem;
 use std::sync::Wait;
-use xh_channel::{Channels, Spot};
+use xh_channel::Spot;
 use xh_core::{Block, Contract, Refused, Status};
 use xh_model::Row;
 use xh_place::{Desk, Place, Taken};
@@ -26,11 +26,9 @@ fn row(state: u8, tag: u16, side: u8, next: u8) -> Row {
 #[derive(Drop)]
 pub(super) struct Pair<'a, R> {
     pub(super) desk: Desk<'a, R, Plain, Notes>,
-    pub(super) channels: &'a Channels,
     pub(super) place: Place,
     pub(super) other: Place,
     ghost own: { IsPlaceOf desk.records.now place.place × IsPlaceOf desk.records.now other.place },
-    ghost lines: { (place.place.lines ≡ channels.now.lines.items) × (other.place.lines ≡ channels.now.lines.items) },
     ghost names: { desk.vaults.now.vault.id ∷ [] ≡ desk.records.now.shape.names },
     ghost ids: { ids_of desk.tallies.now ≡ desk.records.now.shape.names },
 }
@@ -68,7 +66,7 @@ impl<R: Wait> Pair<'_, R> {
 
     /// The records of both ends of a new channel.
     pub(super) fn open(&mut self) -> Option<(u16, u16)> {
-        let (low, high) = self.channels.open(self.desk.rt).ok()?;
+        let (low, high) = self.desk.channels.open(self.desk.rt).ok()?;
         let made = self.place.open(&mut self.desk, low, high, 0);
         let (a, b) = made.ok()?;
         Some((a.rec, b.rec))
@@ -77,7 +75,7 @@ impl<R: Wait> Pair<'_, R> {
     /// The same under a contract: a request with the tag 1 by side 0, then a reply with the tag 2 by side 1, and so on.
     pub(super) fn open_with(&mut self) -> Option<(u16, u16)> {
         let contract = Contract::new(&[row(0, 1, 0, 1), row(1, 2, 1, 0)]).ok()?;
-        let (low, high) = self.channels.open_with(self.desk.rt, contract).ok()?;
+        let (low, high) = self.desk.channels.open_with(self.desk.rt, contract).ok()?;
         let made = self.place.open_with(&mut self.desk, low, high, 0);
         let (a, b) = made.ok()?;
         Some((a.rec, b.rec))

@@ -47,7 +47,6 @@ pub(super) fn play<R: Wait + Abort>(rt: &R, alloc: Global, bench: Bench, scene: 
     };
     let mut pair = Pair {
         desk,
-        channels: &channels,
         place: first,
         other: second,
     };

@@ -178,18 +178,12 @@ fn there_and_back_on<R: Abort + Threads + Wait + Sync>(
     };
     let mut pair = Pair {
         desk,
-        channels: &channels,
         place: first,
         other: second,
     };
     assert_each(rt, alloc, &mut pair, CALLS);
     let spots = pair.spots(0, 1).expect(rt, "two ends");
-    let Pair {
-        desk,
-        channels: _,
-        place,
-        other,
-    } = pair;
+    let Pair { desk, place, other } = pair;
     talk(rt, desk.records, desk.channels, (place, other), spots)
 }
 

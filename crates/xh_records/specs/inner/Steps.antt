@@ -1,8 +1,8 @@
 -- What each kind of step tells its seat, with both outcomes of a compare.
 use Rattle.std.specs.Prelude.{◌≡◌, ◌≢◌, ℕ, [], ◌∷◌, ◌++◌, Bool, List, slice_index, Some, Option}
 use Rattle.atomic_table.specs.Table.{Me, Step, rest}
+use Rattle.atomic_table.specs.Seated.{TableId}
 use Rattle.xh_arena.specs.Views.{LotOf}
-use Rattle.xh_arena.specs.declared.family.Family.{Family}
 use Rattle.xh_model.specs.declared.event.Holder.{Holder}
 use Rattle.xh_model.specs.declared.event.Event.{Event}
 use Rattle.xh_model.specs.Words.{place_of, word_of}
@@ -35,11 +35,11 @@ module _ {B : Type 0} where
   looked st me n me' = SeesMore st.word n me me'
 
   -- a compare that takes the record's lot, which is as it has to be at home, where it found the word that it wants, and is an event, after which its word is the one that it left; else it is a look
-  abbrev pub took : (B → ℕ → Bool) → (B → Family → Type 0) → Step (Option (LotOf B)) → Me (Option (LotOf B)) View → ℕ → Me (Option (LotOf B)) View → Type 0
-  took fits own st me n me' =
+  abbrev pub took : (B → ℕ → Bool) → (B → Option TableId) → Step (Option (LotOf B)) → Me (Option (LotOf B)) View → ℕ → Me (Option (LotOf B)) View → Type 0
+  took fits log st me n me' =
       (n ≡ st.first → (l : LotOf B) × (others : List Event) × IsOthers me.0 others
       × ((h : Option Holder) → st.first ≡ word_of h → (me' ≡ (gained me.0 st.word (process_in me.0) h others, (st.word, Some l) ∷ me.1)) × IsHomeLot fits h l)
-      × IsLotAt me.0.shape st.word l × ((p : ℕ) → Owns me.0 st.word p → ⊥) × IsOwn own me.0.family l × TellsWord me'.0.shape.records (front_in me'.0) st.word st.second)
+      × IsLotAt me.0.shape st.word l × ((p : ℕ) → Owns me.0 st.word p → ⊥) × IsOwn log me.0.log l × TellsWord me'.0.shape.records (front_in me'.0) st.word st.second)
       × (n ≢ st.first → looked st me n me')
 
   -- a store that gives the lot back, and is an event

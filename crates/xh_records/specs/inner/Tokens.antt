@@ -11,7 +11,7 @@ use Rattle.xh_model.specs.Keyed.{Distinct, keys, put, without}
 use Rattle.xh_records.specs.declared.shape.Shape.{Shape}
 use Rattle.xh_records.specs.declared.view.View.{View}
 use Rattle.xh_records.specs.Showing.{IsLotAt, IsSmall}
-use Rattle.xh_records.specs.Seats.{family_at, owned_by}
+use Rattle.xh_records.specs.Seats.{owned_by}
 use Rattle.xh_records.specs.inner.Views.{front_in}
 
 -- what a token has in the slot k
@@ -76,4 +76,4 @@ module _ {B : Type 0} where
     pub below : AllBelow table.slots order
     pub room : table.slots ≤ capacity
     pub small : IsSmall me.0.shape
-    pub family : me.0.family ≡ family_at table me.0.family.lines me.0.shape
+    pub log : me.0.log ≡ table

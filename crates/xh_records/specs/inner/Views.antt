@@ -1,6 +1,6 @@
 -- How a step changes the view of its seat.
 use Rattle.std.specs.Prelude.{◌≡◌, ℕ, zero, suc, ◌+◌, List, [], ◌∷◌, ◌++◌, map, Option}
-use Rattle.xh_arena.specs.declared.family.Family.{Family}
+use Rattle.atomic_table.specs.Seated.{TableId}
 use Rattle.xh_model.specs.declared.event.Holder.{Holder}
 use Rattle.xh_model.specs.declared.event.Event.{Event}
 use Rattle.xh_model.specs.declared.limits.TheConstants.{PLACES}
@@ -9,7 +9,7 @@ use Rattle.xh_model.specs.Keyed.{without}
 use Rattle.xh_records.specs.inner.Events.{taking, giving}
 use Rattle.xh_records.specs.declared.shape.Shape.{Shape}
 use Rattle.xh_records.specs.declared.view.View.{View}
-use Rattle.xh_records.specs.Seats.{no_family}
+use Rattle.xh_records.specs.Seats.{no_table}
 
 -- k places from p on, each of generation 0
 abbrev pub places_from : ℕ → ℕ → List ℕ
@@ -22,19 +22,19 @@ no_events [] = []
 no_events (p ∷ ps) = (place_of p, []) ∷ no_events ps
 
 -- the view of a seat that stands for k places from p on, each of generation 0, and has no record
-abbrev pub dealer : Family → Shape → ℕ → ℕ → View
-dealer f s p k = record { family = f; shape = s; processes = places_from p k; records = []; fronts = no_events (places_from p k) }
+abbrev pub dealer : TableId → Shape → ℕ → ℕ → View
+dealer t s p k = record { log = t; shape = s; processes = places_from p k; records = []; fronts = no_events (places_from p k) }
 
--- the first seat stands for all places, and doesn't know yet which family its lots are of
+-- the first seat stands for all places, and doesn't know yet which table it is at
 abbrev pub all_places : Shape → View
-all_places s = dealer no_family s 0 s.places
+all_places s = dealer no_table s 0 s.places
 
 abbrev pub no_shape : Shape
 no_shape = record { records = 0; places = 0; names = [] }
 
 -- a spent view
 abbrev pub spent : View
-spent = record { family = no_family; shape = no_shape; processes = []; records = []; fronts = [] }
+spent = record { log = no_table; shape = no_shape; processes = []; records = []; fronts = [] }
 
 -- the front of a view that stands for one place, and more events in it
 abbrev pub first_front : List (ℕ × List Event) → List Event
@@ -56,9 +56,9 @@ IsAlone v p = (v.processes ≡ p ∷ []) × (v.fronts ≡ (place_of p, front_in 
 abbrev pub knowing : View → List Event → View
 knowing v es = record v { fronts = adds es v.fronts }
 
--- the view knows the family of the table's lots
-abbrev pub named : Family → View → View
-named f v = record v { family = f }
+-- the view knows which table it is at
+abbrev pub named : TableId → View → View
+named t v = record v { log = t }
 
 -- the view of a process has seen events of others, and gains a record from where it was, or loses a record to where it goes
 abbrev pub gained : View → ℕ → ℕ → Option Holder → List Event → View
@@ -69,7 +69,7 @@ lost v k p to others = record (knowing v (others ++ giving p (number_of v.shape.
 
 -- it stands so for one place at least
 abbrev pub IsDealer : View → Type 0
-IsDealer v = (f : Family) × (s : Shape) × (p : ℕ) × (k : ℕ) × (v ≡ dealer f s p (suc k))
+IsDealer v = (t : TableId) × (s : Shape) × (p : ℕ) × (k : ℕ) × (v ≡ dealer t s p (suc k))
 
 -- a seat that stands for several places deals its first one out, with no record
 abbrev pub tail_of : {X : Type 0} → List X → List X
@@ -88,11 +88,11 @@ abbrev pub dealt_from : View → View
 dealt_from v = record v { processes = tail_of v.processes; fronts = tail_of v.fronts }
 
 abbrev pub dealt : View → View
-dealt v = record { family = v.family; shape = v.shape; processes = head_of v.processes; records = []; fronts = head_of v.fronts }
+dealt v = record { log = v.log; shape = v.shape; processes = head_of v.processes; records = []; fronts = head_of v.fronts }
 
 -- what a view has seen, for another seat to compare: beside a number past the places
 abbrev pub note_of : View → View
-note_of v = record { family = no_family; shape = no_shape; processes = []; records = []; fronts = (PLACES, front_in v) ∷ [] }
+note_of v = record { log = no_table; shape = no_shape; processes = []; records = []; fronts = (PLACES, front_in v) ∷ [] }
 
 -- the views of a note: one, which has only what a seat has seen
 abbrev pub view_in : List View → View
@@ -107,7 +107,7 @@ IsNote vs = vs ≡ note_of (view_in vs) ∷ []
 
 -- two views in one
 abbrev pub joined : View → View → View
-joined v w = record { family = v.family; shape = v.shape; processes = v.processes ++ w.processes; records = v.records ++ w.records; fronts = v.fronts ++ w.fronts }
+joined v w = record { log = v.log; shape = v.shape; processes = v.processes ++ w.processes; records = v.records ++ w.records; fronts = v.fronts ++ w.fronts }
 
 -- the generation of each place rises by one
 abbrev pub renewed : View → View

@@ -8,7 +8,7 @@ returns-in-Ok-clause-closed g c =
     let done = c.in-Ok in let f = done.field-0 in let closed = c.close_books.ensures in
     let count : length c.args.accounts.items ≡ g.N.Names.parts.workers = search rules in
     is_closed g.N.Names.parts _ done.ensures.records f.places.items f.vaults.items c.args.accounts.items f.accounts.items c.args.looks.items c.close_books.result
-    done.ensures.seen done.ensures.met count (done.ensures.vaults.0, done.ensures.vaults.1) done.ensures.same
+    done.ensures.seen count (done.ensures.vaults.0, done.ensures.vaults.1) done.ensures.same
     closed.arenas closed.places closed.owned closed.flight closed.balanced closed.in_flight
 
 pub returns-in-Ok-clause-arenas : goal.returns-in-Ok-clause-arenas

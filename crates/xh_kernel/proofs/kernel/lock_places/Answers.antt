@@ -7,7 +7,7 @@ loop-seat-init g c = (
   search rules,
   search rules,
   search rules,
-  (λ k d below. let h = c.requires.seats.1 k _ (there c.args.seats.items k d (search rules)) in ((grind rules, grind rules), grind rules, grind rules, grind rules)),
+  (λ k d below. let h = c.requires.seats.1 k _ (there c.args.seats.items k d (search rules)) in ((grind rules, grind rules), grind rules, grind rules)),
   (λ k d below. let h = c.requires.pens.1 k d in grind rules),
   (λ k d below. let h = c.requires.unwritten.1 k d in grind rules),
 )
@@ -16,11 +16,10 @@ pub lock_place-requires : goal.lock_place-requires
 lock_place-requires g c =
     let was = c.loop-seat.invariant in let step = c.in-Some.ensures.steps in let parts = g.N.Names.parts in let done = vec_len c.loop-seat.locks in
     let some : 0 < into_iter_len c.loop-seat.seat-iterator = omega (arith, step.1) in
-    let seat = first_of (IsSeatAt parts) done _ _ c.in-Some.seat step.0 _ was.3 some in
+    let seat = first_of (IsSeatAt parts.records) done _ _ c.in-Some.seat step.0 _ was.3 some in
     let at : c.in-Some.seat.process ≡ done = seat.1 in record {
       records = c.requires.records;
       seat = (seat.0, seat.2, omega (arith, at, was.0, some));
-      lines = seat.3;
       glances = first_of (λ k (x : PenOf). x ≡ fresh_pen parts.glances k) done _ _ c.in-Some-Some.glances c.in-Some-Some.ensures.items _ was.4 (omega (arith, was.1, some))
           ∙ ap (fresh_pen parts.glances) (sym at);
       history = first_of (λ k (x : histories.PenOf Call). x ≡ histories.fresh_pen parts.histories k) done _ _ c.in-Some-Some.history c.in-Some-Some.ensures'.items _ was.5 (omega (arith, was.2, some))
@@ -33,7 +32,7 @@ loop-seat-preserved g c =
       search rules,
       search rules,
       search rules,
-      rest_of (IsSeatAt parts) done _ _ c.in-Some.seat step.0 _ was.3 _ _ step.1 (search rules),
+      rest_of (IsSeatAt parts.records) done _ _ c.in-Some.seat step.0 _ was.3 _ _ step.1 (search rules),
       rest_of (λ k (x : PenOf). x ≡ fresh_pen parts.glances k) done _ _ c.in-Some-Some.glances c.in-Some-Some.ensures.items _ was.4 _ _ (search rules) (search rules),
       rest_of (λ k (x : histories.PenOf Call). x ≡ histories.fresh_pen parts.histories k) done _ _ c.in-Some-Some.history c.in-Some-Some.ensures'.items _ was.5 _ _ (search rules) (search rules),
     )

@@ -10,7 +10,7 @@ invariant_of-result c =
       arenas = search rules;
       size = search rules;
       places = search rules;
-      seats = (search rules, λ k x e. let h = c.in-Ok.ensures.seats.1 k x e in (h.0, h.1, h.2, h.5));
+      seats = (search rules, λ k x e. let h = c.in-Ok.ensures.seats.1 k x e in (h.0, h.1, h.2));
       pens_are = (search rules, c.in_ok-glances.ensures.pens.1);
       bundles = search rules;
       looks_are = search rules;

@@ -1,8 +1,7 @@
 use Rattle.xh_place.proofs.Common.{rules, ◌≡◌, ◌≢◌, ℕ, ◌+◌, ◌*◌, ◌-◌, List, sym, ap, ◌∙◌, subst, Some, Among, value_at, put, put_at, put_other, IsLotOf, Held, with_lots, passed_on, LotDoes, bare}
 use Rattle.xh_place.proofs.Common.{with_done, Body, Posted, Puts, IsBlock, lens, starts_more, starts_same, Came, Pass, came_more}
-use Rattle.xh_place.proofs.Ends.{end_log, keeps_put, still_block}
-use Rattle.xh_place.specs.inner.Lots.{ByEnd}
-use Rattle.xh_place.proofs.Words.{Event, Noted, Passed, away, item_in, family_of}
+use Rattle.xh_place.proofs.Ends.{end_log, still_block}
+use Rattle.xh_place.proofs.Words.{Event, Noted, Passed, away, item_in, records_of}
 use Rattle.xh_place.proofs.giving.post.Goals.{After-pass_all-bytes}
 use Rattle.xh_place.proofs.giving.post.Goals as goal
 
@@ -10,7 +9,7 @@ pub pass_all-bytes-requires-clause-held : goal.pass_all-bytes-requires-clause-he
 pass_all-bytes-requires-clause-held g c = λ r a.
     let q = c.requires.end in let same = c.spot_at-spot.ensures.same in
     let h = c.requires.held r (subst (λ l. Among l r) c.as_slice.ensures.value a) in
-    (h.0, ap (λ z. value_at r z.lots) same ∙ h.1, subst (λ z. IsBlock z r h.0) (sym (ap family_of same)) h.2)
+    (h.0, ap (λ z. value_at r z.lots) same ∙ h.1, subst (λ z. IsBlock z r h.0) (sym (ap records_of same)) h.2)
 
 there : (g : _) (c : After-pass_all-bytes g) → c.spot_at-spot.new.seat ≡ c.args.seat.now → value_at c.args.e c.pass_all-bytes.new.seat.lots ≡ Some c.requires.end.0
 there g c same = c.pass_all-bytes.ensures.others c.args.e (λ a. c.requires.distinct.1 (subst (λ l. Among l c.args.e) c.as_slice.ensures.value a))
@@ -40,7 +39,7 @@ returns g c =
     let now : Held Body = after seat c.args.given.now.items in
     let chain : bare gone ≡ with_lots now gone.lots =
     pass.passed ∙ ap (λ h. with_lots (after h c.as_slice.result.now) gone.lots) same ∙ ap (λ rs. with_lots (after seat rs) gone.lots) value in
-    let puts : Posted → Posted → Type 0 = Puts note c.args.tag c.args.given.now c.put_at-put.result in
+    let does : Posted → Posted → Type 0 = Puts note c.args.tag c.args.given.now c.put_at-put.result in
     let way : d ≡ away (item_in (value_at c.args.e seat.lots)).content = search rules in
     let came : Passed seat.process d c.args.given.now.items seat.front gone.front =
     λ r a. subst (λ (z : Held Body). Came (Pass z.process r d) z.front gone.front) same (pass.came r (subst (λ l. Among l r) (sym value) a)) in
@@ -56,11 +55,11 @@ returns g c =
         ap (λ h. value_at c.args.e h.lots) kept ∙ put_at c.args.e m q.0 gone.lots at,
         (
           note,
-          subst (λ z. LotDoes (ByEnd puts) z m) one k.1,
+          subst (λ z. LotDoes does z m) one k.1,
           c.note-note.ensures.noted.0 ∙ sym c.requires.own.0,
           subst (λ (z : ℕ). Passed seat.process z c.args.given.now.items seat.front note.front) way told,
         ),
-        still_block puts q.2 k.1 (keeps_put note c.args.tag c.args.given.now c.put_at-put.result k.1.0.end k.1.1.end k.1.4.1),
+        still_block does q.2 k.1 k.1.4.same.log,
       );
       gone = λ r a. ap (λ h. value_at r h.lots) kept ∙ put_other r c.args.e m gone.lots (apart r a) ∙ pass.gone r (subst (λ l. Among l r) (sym value) a);
       others = λ r n o. ap (λ h. value_at r h.lots) kept ∙ put_other r c.args.e m gone.lots o

@@ -1,5 +1,5 @@
 use Rattle.xh_place.proofs.Common.{ap, ◌∙◌, Pass, without, did, with_lots, bare, advanced, starts_more, starts_same, subst, Held, Body, Came, came_last}
-use Rattle.xh_place.proofs.Words.{◌≡◌, IsOwn, IsRecord, Some, family_of, own_of, sym, value_at}
+use Rattle.xh_place.proofs.Words.{◌≡◌, IsOwn, IsRecord, Some, log_of, sym, value_at}
 use Rattle.xh_place.proofs.lots.pass_block.Goals as goal
 
 pub look-header-requires : goal.look-header-requires
@@ -15,8 +15,8 @@ pass-requires c =
       own = (ap (λ z. z.table) same ∙ own.0.0, ap (λ z. z.shape) same ∙ own.0.1);
       exists = (subst (λ s. IsRecord s c.args.r) own.0.1 h.2.exists, own.1);
       held = (h.0, at, h.2.full);
-      family = λ l there. let two : Some h.0 ≡ Some l = sym at ∙ there in let one : h.0 ≡ l = cc in
-          subst (λ z. IsOwn own_of (family_of c.look-header.new.seat) z) one (subst (λ f. IsOwn own_of f h.0) (sym (ap family_of same)) h.2.own);
+      log = λ l there. let two : Some h.0 ≡ Some l = sym at ∙ there in let one : h.0 ≡ l = cc in
+          subst (λ z. IsOwn log_of c.args.records.now.table z) one (subst (λ t. IsOwn log_of t h.0) own.0.0 h.2.own);
     }
 
 pub returns : goal.returns

@@ -1,7 +1,5 @@
 use Rattle.xh_place.proofs.Common.{arith, ◌≡◌, ℕ, refl, sym, ap, ◌∙◌, subst, Some, slice_get, put, value_at, without, IsLotOf, IsRecord, with_lots, End, bare, starts_more, starts_same}
-use Rattle.xh_place.proofs.Common.{family_of}
-use Rattle.xh_place.specs.inner.Opening.{fresh}
-use Rattle.xh_place.proofs.Gained.{both_gone, both_put, fresh_own, has_first, has_other}
+use Rattle.xh_place.proofs.Gained.{both_gone, both_put, has_first, has_other}
 use Rattle.xh_place.proofs.opening.make_ends.Goals as goal
 
 pub fit_ends-fitted-requires-clause-held : goal.fit_ends-fitted-requires-clause-held
@@ -25,31 +23,15 @@ pub returns-in_default-fitted-clause-made : goal.returns-in_default-fitted-claus
 returns-in_default-fitted-clause-made g c =
     let k = c.in-Some.ensures.claimed in let r : ℕ = c.in-Some.r in let q : ℕ = c.in-Some.t in let l = k.0 in let m = k.1 in let two = k.2.two in let lots = c.args.seat.now.lots in
     let fitted = c.in_default-fitted.ensures.fitted l m (has_first two) (has_other two) in
-    let l' = record l { len = 32; body = End (fresh c.args.low) } in let m' = record m { len = 32; body = End (fresh c.args.high) } in
+    let l' = record l { len = 32; body = End c.args.low } in let m' = record m { len = 32; body = End c.args.high } in
     let now = ap bare fitted ∙ ap (λ h. with_lots h (put q m' (put r l' h.lots))) two.lots
     ∙ ap (with_lots (bare c.args.seat.now)) (both_put lots r q two.first_fresh two.second_fresh two.apart l m l' m') in (
       l',
       m',
       record {
         two = record { lots = now; first_fresh = two.first_fresh; second_fresh = two.second_fresh; apart = two.apart; first_arena = two.first_arena; second_arena = two.second_arena };
-        first = record {
-          exists = k.2.first.0;
-          lot = k.2.first.1;
-          full = (
-            omega arith,
-            refl,
-          );
-          own = λ some. fresh_own (family_of c.args.seat.now) c.args.low c.requires.log.0 c.requires.unused.0 c.requires.lines.0;
-        };
-        second = record {
-          exists = k.2.second.0;
-          lot = k.2.second.1;
-          full = (
-            omega arith,
-            refl,
-          );
-          own = λ some. fresh_own (family_of c.args.seat.now) c.args.high c.requires.log.1 c.requires.unused.1 c.requires.lines.1;
-        };
+        first = record { exists = k.2.first.0; lot = k.2.first.1; full = (omega arith, refl); own = λ t some at. let e : c.args.low.log ≡ t = cc in sym e ∙ c.requires.log.0 };
+        second = record { exists = k.2.second.0; lot = k.2.second.1; full = (omega arith, refl); own = λ t some at. let e : c.args.high.log ≡ t = cc in sym e ∙ c.requires.log.1 };
       },
       refl,
       refl,

@@ -1,4 +1,4 @@
-use Rattle.xh_records.proofs.Common.{nat_tests, arith, ◌≡◌, ℕ, suc, ◌+◌, ◌-◌, ◌<◌, ap, ◌∙◌, length-append, dealer, family_at}
+use Rattle.xh_records.proofs.Common.{nat_tests, arith, ◌≡◌, ℕ, suc, ◌+◌, ◌-◌, ◌<◌, ap, ◌∙◌, length-append, dealer}
 use Rattle.xh_records.proofs.Cuts.{deals}
 use Rattle.xh_records.proofs.Elements.{snoc_at}
 use Rattle.xh_records.proofs.Seating.{seat_is}
@@ -10,9 +10,8 @@ one_left count k below = omega arith
 
 pub split_seat-token-requires : goal.split_seat-token-requires
 split_seat-token-requires g c =
-    let i = c.loop-place.invariant in let p : ℕ = c.loop-place.place in let all : ℕ = c.args.places in let key = c.args.board.now.key in
-    let f = family_at c.args.board.now.table_id c.args.all.now.me.0.family.lines key in
-    (i.here, c.requires.own.1, deals g.B.Fits.is_fit g.B.Fits.own key _ _ (f, key, p, all - (p + 1), i.view ∙ ap (dealer f key p) (one_left all p c.loop-place-test.true)))
+    let i = c.loop-place.invariant in let p : ℕ = c.loop-place.place in let all : ℕ = c.args.places in let key = c.args.board.now.key in let t = c.args.board.now.table_id in
+    (i.here, c.requires.own.1, deals g.B.Fits.is_fit g.B.Fits.log key _ _ (t, key, p, all - (p + 1), i.view ∙ ap (dealer t key p) (one_left all p c.loop-place-test.true)))
 
 pub invariant_of-push_reserved : goal.invariant_of-push_reserved
 invariant_of-push_reserved g c = grind (arith, nat_tests, one_left, seat_is)

@@ -21,7 +21,7 @@ load-requires g c =
     let own = c.requires.own in let process = c.requires.process in let after = (goal.at.load-requires g c).After-join in (
       c.join.ensures.token.0 ∙ own.0,
       own.2,
-      hears g.B.Fits.is_fit g.B.Fits.own c.args.board.now.key _ _ _ _ process.0 _ _ own.3 (two g after) (subst (λ (v : View). IsAlone v process.0) (sym (back g after)) process.1),
+      hears g.B.Fits.is_fit g.B.Fits.log c.args.board.now.key _ _ _ _ process.0 _ _ own.3 (two g after) (subst (λ (v : View). IsAlone v process.0) (sym (back g after)) process.1),
     )
 
 pub returns-clause-looked : goal.returns-clause-looked

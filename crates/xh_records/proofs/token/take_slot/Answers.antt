@@ -7,7 +7,7 @@ compare_exchange-found-requires g c =
     let there = subst (λ k. (k < c.args.board.now.table_id.words) × (k < c.args.board.now.table_id.slots)) (sym c.from-at.ensures) c.requires.inside in (
       c.requires.own,
       there.0,
-      takes_lot g.B.Fits.is_fit g.B.Fits.own c.args.board.now.key _ _ _ _ _ _ c.args.process (holder_of c.args.from) none c.encode-wanted.ensures
+      takes_lot g.B.Fits.is_fit g.B.Fits.log c.args.board.now.key _ _ _ _ _ _ c.args.process (holder_of c.args.from) none c.encode-wanted.ensures
           c.encode-owned.ensures c.requires.away there.1 c.requires.process,
     )
 

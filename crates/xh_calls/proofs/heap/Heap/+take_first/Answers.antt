@@ -1,7 +1,6 @@
 use Rattle.xh_calls.proofs.Common.{AreReady, rules, subst}
 use Rattle.xh_calls.proofs.Looks.{ready_after, took}
 use Rattle.xh_calls.proofs.Same.{own_still}
-use Rattle.xh_place.proofs.Counted.{same_more}
 use Rattle.xh_calls.proofs.heap.Heap.+take_first.Goals as goal
 
 pub take_first-requires : goal.take_first-requires
@@ -10,9 +9,6 @@ take_first-requires g t c =
     let after = ready_after c.args.p c.in-Some.e.now place c.take.new.place c.in-Err.why ready.0 ready.1.0 c.in-Err.ensures.taken c.in-Some.rest.now ready.1.1 in
     let own = own_still _ place c.take.new.place c.take.ensures.same c.requires.own in
     search (rules, after, own)
-
-pub returns-in-Err-clause-same : goal.returns-in-Err-clause-same
-returns-in-Err-clause-same g t c = same_more c.take.ensures.same c.take_first.ensures.same
 
 pub returns-in-Err-clause-taken : goal.returns-in-Err-clause-taken
 returns-in-Err-clause-taken g t c =

@@ -2,7 +2,6 @@ use Rattle.xh_calls.proofs.Common.{AreBlocks, HasLow, None, PlaceOf, first_refus
 use Rattle.xh_calls.proofs.Moved.{none_back}
 use Rattle.xh_calls.proofs.Same.{stays_itself}
 use Rattle.xh_calls.proofs.Wiring.{closes_again}
-use Rattle.xh_place.proofs.Counted.{same_more, same_stays}
 use Rattle.xh_calls.proofs.heap.Heap.close_again.Goals as goal
 
 pub returns-in-Err-clause-closed : goal.returns-in-Err-clause-closed
@@ -21,7 +20,7 @@ returns-then-has_low-clause-closed g c =
     let d = closes_again c.args.p c.args.r c.args.channel c.args.till.now.tallies.items c.close-closed.new.till.tallies.items from c.close-closed.new.place c.close-closed.result
     (subst (λ (z : PlaceOf). first_refusal (start c.args.p z) ≡ None) same c.in_default.ensures.0) (subst (λ (z : PlaceOf). AreBlocks z.blocks) same c.blocks-blocks.ensures.blocks)
     (subst (λ (z : PlaceOf). HasLow c.args.channel c.args.r z) same (c.has_low.ensures.yes c.if-has_low.true)) c.close-closed.ensures.closed in
-    (from, c.has_low.ensures.same, c.close-closed.ensures.same.0.4, d.0, d.1, d.2)
+    (from, c.has_low.ensures.same, c.close-closed.ensures.same.0.3, d.0, d.1, d.2)
 
 pub returns-else-has_low-clause-closed : goal.returns-else-has_low-clause-closed
 returns-else-has_low-clause-closed g c = (
@@ -32,7 +31,3 @@ returns-else-has_low-clause-closed g c = (
   inl ((c.has_low.ensures.same.0, refl), inr (c.has_low.ensures.no c.if-has_low.false)),
   none_back c.args.till.now.tallies.items c.args.till.now.tallies.items refl,
 )
-
-pub returns-then-has_low-clause-same : goal.returns-then-has_low-clause-same
-returns-then-has_low-clause-same g c =
-    let closed = c.close-closed.ensures.same in (same_more (same_stays c.has_low.ensures.same) closed.0, closed.1)

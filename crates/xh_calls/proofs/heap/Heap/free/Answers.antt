@@ -13,7 +13,7 @@ returns-in_err-check_start-clause-freed g c =
     }
 
 pub returns-clause-arena : goal.returns-clause-arena
-returns-clause-arena g c = subst (λ (s : Shape). OnOk c.free-answer.result (c.args.r / MAX_RECORDS < length s.names)) c.requires.0.0.1 c.free-answer.ensures.arena
+returns-clause-arena g c = subst (λ (s : Shape). OnOk c.free-answer.result (c.args.r / MAX_RECORDS < length s.names)) c.requires.0.1 c.free-answer.ensures.arena
 
 pub returns-clause-freed : goal.returns-clause-freed
 returns-clause-freed g c =

@@ -1,16 +1,12 @@
 use Rattle.xh_calls.proofs.Common.{None, first_refusal, rules, several_tests, ◌≡◌}
 use Rattle.xh_calls.proofs.Same.{stays_itself}
-use Rattle.xh_place.proofs.Counted.{same_more, same_stays}
 use Rattle.xh_calls.proofs.heap.Heap.take_any.Goals as goal
-
-pub returns-clause-same : goal.returns-clause-same
-returns-clause-same g c = same_more (same_stays c.in_ok-test_several.ensures.same) c.take_first.ensures.same
 
 pub returns-clause-taken : goal.returns-clause-taken
 returns-clause-taken g c =
     let from = c.test_several.new.place in let same = c.in_ok-test_several.ensures.same in let tested = c.in_ok-test_several.ensures.tested.0 in
     let none : first_refusal (several_tests c.args.p from.place c.args.ends.now) ≡ None = (let is = same.0 in cc) in
-    (from, same, c.take_first.ensures.same.4, rw none c.take_first.ensures.taken)
+    (from, same, c.take_first.ensures.same.3, rw none c.take_first.ensures.taken)
 
 pub returns-in_err-test_several-clause-taken : goal.returns-in_err-test_several-clause-taken
 returns-in_err-test_several-clause-taken g c =

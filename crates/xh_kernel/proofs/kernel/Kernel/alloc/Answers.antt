@@ -6,7 +6,7 @@ use Rattle.xh_kernel.proofs.kernel.Kernel.alloc.Goals as goal
 pub note-requires : goal.note-requires
 note-requires g c κs within =
     let held = c.deref_mut-held.result.now in let e = c.alloc-answer.ensures in
-    (search rules, (search rules, (search rules, (search rules, (search rules, (held.place, held.place, held.told, held.history, stays_itself held.place, e.made, e.same.0.4))))))
+    (search rules, (search rules, (search rules, (search rules, (search rules, (held.place, held.place, held.told, held.history, stays_itself held.place, e.made, e.same.0.3))))))
 
 pub returns-clause-vault : goal.returns-clause-vault
 returns-clause-vault g c =

@@ -5,7 +5,7 @@ use Rattle.xh_kernel.proofs.kernel.Kernel.free.Goals as goal
 pub note-requires : goal.note-requires
 note-requires g c κs within =
     let held = c.deref_mut-held.result.now in let e = c.free-answer.ensures in
-    (search rules, (search rules, (search rules, (search rules, (search rules, (held.place, held.place, held.told, held.history, stays_itself held.place, e.freed, e.same.0.4))))))
+    (search rules, (search rules, (search rules, (search rules, (search rules, (held.place, held.place, held.told, held.history, stays_itself held.place, e.freed, e.same.0.3))))))
 
 pub returns-clause-account : goal.returns-clause-account
 returns-clause-account g c =

@@ -6,7 +6,7 @@ pub note-requires : goal.note-requires
 note-requires g c κs within =
     let held = c.deref_mut-held.result.now in let e = c.receive-answer.ensures in
     let came = came_back g.before (search rules) c.account.view_is refl refl e.received in
-    (search rules, (search rules, (search rules, (search rules, (search rules, (held.place, held.place, held.told, held.history, stays_itself held.place, came.0, e.same.0.4))))))
+    (search rules, (search rules, (search rules, (search rules, (search rules, (held.place, held.place, held.told, held.history, stays_itself held.place, came.0, e.same.0.3))))))
 
 pub returns : goal.returns
 returns g c =

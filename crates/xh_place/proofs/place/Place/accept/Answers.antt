@@ -1,5 +1,3 @@
-use Rattle.xh_place.proofs.Common.{since}
-use Rattle.xh_place.proofs.Counted.{same_stays}
 use Rattle.xh_place.proofs.Common.{rules, arith, ◌≡◌, ◌<◌, [], ◌∷◌, ◌++◌, length, refl, sym, ap, ◌∙◌, true, Err, vec_capacity, Event, Accept, is_over, item_of, with_blocks, with_moved, heard}
 use Rattle.xh_place.proofs.Common.{heard_shows, block_small, list_room, total_bound, stays, won, placed, place_saw, block_whole, inl}
 use Rattle.xh_place.proofs.place.Place.accept.Goals as goal
@@ -42,13 +40,3 @@ returns-in_err-header-clause-missing c =
     let is : c.from_residual.result ≡ Err c.in_err-header.field-0.0 = search rules in let m = c.in_err-header.ensures.missing in
     let both = stays c.self.inside.list.items c.self.invariant c.accept_block.new.seat m.1 in
     rw is (m.0, both.1 c.args.self.now.place (placed c.self.view_is), place_saw c.self.inside.seat c.self.view_is c.accept_block.new.seat c.args.r _ m.2)
-
-pub returns-clause-place : goal.returns-clause-place
-returns-clause-place c =
-    let e = (returns-clause-here c).1.2 in
-    (ap (λ p. p.table) e, ap (λ p. p.shape) e, ap (λ p. p.lines) e, ap (λ p. p.process) e, since c.self.view_is c.accept_block.ensures.seen refl)
-
-pub returns-in_err-header-clause-place : goal.returns-in_err-header-clause-place
-returns-in_err-header-clause-place c =
-    let both = stays c.self.inside.list.items c.self.invariant c.accept_block.new.seat c.in_err-header.ensures.missing.1 in
-    same_stays (both.1 c.args.self.now.place (placed c.self.view_is), since c.self.view_is c.accept_block.ensures.seen refl)

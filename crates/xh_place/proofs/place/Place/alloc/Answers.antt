@@ -1,5 +1,3 @@
-use Rattle.xh_place.proofs.Common.{since, refl}
-use Rattle.xh_place.proofs.Counted.{same_stays}
 use Rattle.xh_place.proofs.Common.{rules, arith, ◌≡◌, ℕ, ◌<◌, [], ◌∷◌, ◌++◌, length, sym, ap, ◌∙◌, subst, vec_capacity, SawFull, Err, None, IfErr, alloc_tests, first_refusal, Tests, start}
 use Rattle.xh_place.proofs.Common.{block_small, list_room, total_bound, over_running, stays, won, placed, untested}
 use Rattle.xh_place.specs.Vaults.{IsNoBlock}
@@ -46,18 +44,3 @@ returns-in_err-rec-clause-why g c =
     let why = subst (λ k. IsNoBlock g.V.Vaults.changes vaults left arena k (SawFull old.place.shape old.front last.front arena) e) c.round_up-len.ensures.result saw in
     untested tests (IfErr c.from_residual-in_err-rec.result (IsNoBlock g.V.Vaults.changes vaults left arena (rounded c.args.n) (SawFull old.place.shape old.front last.front arena)))
     (λ refused. (c.from_residual-in_err-rec.result ≡ Err refused) × (left ≡ vaults)) passed (rw is why)
-
-pub returns-clause-same : goal.returns-clause-same
-returns-clause-same g c =
-    let t = c.in_ok-rec.ensures.block in
-    let both = won c.self.inside.list.items c.self.invariant c.make_block.new.seat t.1 t.2 t.3 (over_running c.self.inside.state (search rules))
-    c.push_reserved.ensures.items c.push_reserved.ensures.capacity (c.from-2.ensures ∙ sym t.4) in
-    let e = both.1 c.args.self.now.place (placed c.self.view_is) in (
-      c.make_block.ensures.same,
-      (ap (λ p. p.table) e, ap (λ p. p.shape) e, ap (λ p. p.lines) e, ap (λ p. p.process) e, since c.self.view_is c.make_block.ensures.seen refl),
-    )
-
-pub returns-in_err-rec-clause-same : goal.returns-in_err-rec-clause-same
-returns-in_err-rec-clause-same g c =
-    let both = stays c.self.inside.list.items c.self.invariant c.make_block.new.seat c.in_err-rec.ensures.refused.0 in
-    (c.make_block.ensures.same, same_stays (both.1 c.args.self.now.place (placed c.self.view_is), since c.self.view_is c.make_block.ensures.seen refl))

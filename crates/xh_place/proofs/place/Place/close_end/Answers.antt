@@ -1,19 +1,6 @@
-use Rattle.xh_place.proofs.Common.{arith, ◌≡◌, ℕ, ◌+◌, ◌-◌, length, length-append, sym, subst, ap, ◌∙◌, ◌++◌, reclaimed, end_tests, MAX_BUDGET, value_at, without, IsSwept, alone, last}
-use Rattle.xh_place.proofs.Common.{HasGivenBack, IsClosed, PlaceOf, with_blocks, with_list, found_at, start, sees_same, sees_more, swept_as, unrefused}
+use Rattle.xh_place.proofs.Common.{arith, ◌≡◌, ℕ, ◌+◌, ◌-◌, length, length-append, refl, sym, subst, ap, ◌∙◌, ◌++◌, reclaimed, end_tests, MAX_BUDGET, value_at, without, IsSwept, alone, last}
+use Rattle.xh_place.proofs.Common.{HasGivenBack, IsClosed, PlaceOf, with_blocks, with_list, found_at, IsSeen, start, seen_wide, starts_same, starts_more, swept_as, unrefused}
 use Rattle.xh_place.proofs.place.Place.close_end.Goals as goal
-
-pub returns-clause-same : goal.returns-clause-same
-returns-clause-same g c =
-    let one = c.in_ok-test_end.ensures.same in let two = c.move_last.ensures in let three = c.sweep-bytes.ensures.list in (
-      c.sweep-bytes.ensures.same,
-      (
-        ap (λ p. p.table) three.0 ∙ ap (λ p. p.table) two.0 ∙ ap (λ p. p.table) one.0,
-        ap (λ p. p.shape) three.0 ∙ ap (λ p. p.shape) two.0 ∙ ap (λ p. p.shape) one.0,
-        ap (λ p. p.lines) three.0 ∙ ap (λ p. p.lines) two.0 ∙ ap (λ p. p.lines) one.0,
-        ap (λ p. p.process) three.0 ∙ ap (λ p. p.process) two.0 ∙ ap (λ p. p.process) one.0,
-        sees_more (sees_more one.1 two.1) three.1,
-      ),
-    )
 
 pub returns-clause-closed : goal.returns-clause-closed
 returns-clause-closed g c =
@@ -25,15 +12,16 @@ returns-clause-closed g c =
     ∙ length-append (without e old.place.blocks) (alone e (value_at e old.place.blocks)) ∙ ap (λ o. ahead + length (alone e o)) tested.1.1.1 in
     let there : from ≡ ahead = omega (arith, c.count-from.ensures.count, long) in
     let is = c.sweep-bytes.ensures.swept in
-    let wide = swept_as turned new old new (ap (λ p. p.shape) moved) (sees_more same.1 c.move_last.ensures.1) (sees_same new)
+    let wide = swept_as (IsSeen turned new) (IsSeen old new)
+    (seen_wide turned new old new (ap (λ p. p.shape) moved) (starts_more old.front same.1 c.move_last.ensures.1) (starts_same refl))
     from MAX_BUDGET turned.place new.place bytes left is in
-    let swept = subst (λ p. IsSwept old new from MAX_BUDGET p new.place bytes left) moved wide in
+    let swept = subst (λ p. IsSwept (IsSeen old new) from MAX_BUDGET p new.place bytes left) moved wide in
     unrefused (start old.place.state ++ end_tests (found_at old.place e)) c.reclaimed.result ((new.place ≡ old.place) × (c.sweep-bytes.new.desk.tallies.now ≡ c.args.desk.now.tallies.now))
     ((n : ℕ) × IsClosed e old new n c.reclaimed.result × HasGivenBack n c.args.desk.now.tallies.now c.sweep-bytes.new.desk.tallies.now) tested.0 (
       bytes,
       (
         left,
-        subst (λ n. IsSwept old new n MAX_BUDGET begun new.place bytes left) there swept,
+        subst (λ n. IsSwept (IsSeen old new) n MAX_BUDGET begun new.place bytes left) there swept,
         c.sweep-bytes.ensures.list.0 ∙ ap (λ p. with_list p new.place) moved,
         c.reclaimed.ensures ∙ ap (reclaimed bytes) (c.left.ensures.left ∙ sym is.rest),
       ),

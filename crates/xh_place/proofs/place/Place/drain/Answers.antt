@@ -1,4 +1,4 @@
-use Rattle.xh_place.proofs.Common.{◌∙◌, arith, ◌≡◌, ◌+◌, [], ◌∷◌, ◌++◌, length, length-append, refl, ap, put_same, end_block, IsSeen, seen_wide, sees_same, sees_more}
+use Rattle.xh_place.proofs.Common.{◌∙◌, arith, ◌≡◌, ◌+◌, [], ◌∷◌, ◌++◌, length, length-append, refl, ap, put_same, end_block, IsSeen, seen_wide, starts_same, starts_more}
 use Rattle.xh_place.proofs.Words.{Laid, toward_in, value_at}
 use Rattle.xh_place.proofs.Drained.{drained, drained_all, draining_at, draining_more, draining_none, draining_as, unpacks_as, Unpacking}
 use Rattle.xh_place.proofs.place.Place.drain.Goals as goal
@@ -11,29 +11,26 @@ take_message-requires-clause-end g c =
 pub loop-count-init : goal.loop-count-init
 loop-count-init g c =
     let q = c.requires.end in let old = c.args.self.now in
-    ([], draining_none (IsSeen old old) c.args.e q.0 old.place q.1 (put_same c.args.e (end_block q.0) old.place.blocks q.1), refl, sees_same old)
+    ([], draining_none (IsSeen old old) c.args.e q.0 old.place q.1 (put_same c.args.e (end_block q.0) old.place.blocks q.1), refl, starts_same refl)
 
 pub loop-count-preserved : goal.loop-count-preserved
 loop-count-preserved g c =
-    let i = c.loop-count.invariant in let old = c.args.self.now in let mid = c.loop-count.self in let new = c.take_message.new.self in let after = c.take_message.ensures.place.4 in
-    let was = draining_as (IsSeen old mid) (IsSeen old new) (seen_wide old mid old new refl (sees_same old) after) c.args.e i.0 old.place mid.place i.1 in
+    let i = c.loop-count.invariant in let old = c.args.self.now in let mid = c.loop-count.self in let new = c.take_message.new.self in let after = c.take_message.ensures.place.3 in
+    let was = draining_as (IsSeen old mid) (IsSeen old new) (seen_wide old mid old new refl (starts_same refl) after) c.args.e i.0 old.place mid.place i.1 in
     let is = c.in-Ok.ensures.taken in let x : Laid = is.1 in
-    let wide = seen_wide mid new old new (ap (λ p. p.shape) i.1.4 ∙ ap (λ p. p.shape) i.1.2.3) i.3 (sees_same new) x.note in
+    let wide = seen_wide mid new old new (ap (λ p. p.shape) i.1.4 ∙ ap (λ p. p.shape) i.1.2.3) i.3 (starts_same refl) x.note in
     let t : Unpacking (IsSeen old new) c.args.e mid.place new.place _ =
     (is.0, x, is.2, unpacks_as (IsSeen mid new x.note) (IsSeen old new x.note) wide (toward_in (value_at c.args.e mid.place.blocks)) x.message is.0 new.place _ is.3) in
     let long : length (i.0 ++ t.1 ∷ []) ≡ length i.0 + 1 = length-append i.0 (t.1 ∷ []) in
-    (i.0 ++ t.1 ∷ [], draining_more (IsSeen old new) c.args.e i.0 old.place mid.place was new.place _ t, omega (arith, long, i.2), sees_more i.3 after)
+    (i.0 ++ t.1 ∷ [], draining_more (IsSeen old new) c.args.e i.0 old.place mid.place was new.place _ t, omega (arith, long, i.2), starts_more old.front i.3 after)
 
 pub returns-in-Err-clause-drained : goal.returns-in-Err-clause-drained
 returns-in-Err-clause-drained g c =
     let i = c.loop-count.invariant in let old = c.args.self.now in let mid = c.loop-count.self in let new = c.take_message.new.self in
-    let was = draining_as (IsSeen old mid) (IsSeen old new) (seen_wide old mid old new refl (sees_same old) c.take_message.ensures.place.4) c.args.e i.0 old.place mid.place i.1 in
+    let was = draining_as (IsSeen old mid) (IsSeen old new) (seen_wide old mid old new refl (starts_same refl) c.take_message.ensures.place.3) c.args.e i.0 old.place mid.place i.1 in
     drained (IsSeen old new) c.args.e i.0 old.place mid.place was new.place _ c.in-Err.ensures.taken
 
 pub returns-clause-drained : goal.returns-clause-drained
 returns-clause-drained g c =
     let i = c.loop-count.invariant in
     drained_all (IsSeen c.args.self.now c.loop-count.self) c.args.e i.0 c.args.self.now.place c.loop-count.self.place i.1 (omega (arith, i.2, c.loop-count-test.false))
-
-pub returns-in-Err-clause-seen : goal.returns-in-Err-clause-seen
-returns-in-Err-clause-seen g c = sees_more c.loop-count.invariant.3 c.take_message.ensures.place.4

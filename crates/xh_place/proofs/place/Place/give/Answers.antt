@@ -1,6 +1,5 @@
-use Rattle.xh_place.proofs.Counted.{stays_more, same_stays}
 use Rattle.xh_place.proofs.Common.{◌≡◌, ℕ, sym, subst, rules, ◌++◌, ◌∙◌, Among, Distinct, value_at, Some, None, Item, found_at, end_tests, given_tests, first_refusal, Tests, IsSent, is_listed}
-use Rattle.xh_place.proofs.Common.{Stays, ap, start, sees_more, unrefused}
+use Rattle.xh_place.proofs.Common.{Stays, start, starts_more, unrefused}
 use Rattle.xh_place.proofs.Givens.{fine}
 use Rattle.xh_place.proofs.Drained.{sent_from}
 use Rattle.xh_place.proofs.place.Place.give.Goals as goal
@@ -15,25 +14,12 @@ send-requires-clause-listed g c = let t = c.in_ok-given.ensures.tested in let sa
     subst (λ p. (r : ℕ) → Among c.args.blocks.now r → (x : Item) × (value_at r p.blocks ≡ Some x)) (sym same) (fine c.test_end.new.self.place.blocks c.args.e c.args.blocks.now t.0).1 in
     subst (λ rs. (r : ℕ) → Among rs r → (x : Item) × (value_at r c.test_given.new.self.place.blocks ≡ Some x)) (sym t.1) listed
 
-pub returns-clause-place : goal.returns-clause-place
-returns-clause-place g c =
-    let one = c.in_ok-test_end.ensures.same in let two = c.in_ok-given.ensures.same in let three = c.send.ensures.place in (
-      three.0 ∙ ap (λ p. p.table) two.0 ∙ ap (λ p. p.table) one.0,
-      three.1 ∙ ap (λ p. p.shape) two.0 ∙ ap (λ p. p.shape) one.0,
-      three.2 ∙ ap (λ p. p.lines) two.0 ∙ ap (λ p. p.lines) one.0,
-      three.3 ∙ ap (λ p. p.process) two.0 ∙ ap (λ p. p.process) one.0,
-      sees_more (sees_more one.1 two.1) three.4,
-    )
-
 pub returns-clause-given : goal.returns-clause-given
 returns-clause-given g c =
     let old = c.args.self.now in let one = c.in_ok-test_end.ensures.same in let two = c.in_ok-given.ensures.same in
     let tests : Tests = start old.place.state ++ end_tests (found_at old.place c.args.e) ++ given_tests (is_listed old.place.blocks) c.args.e c.args.blocks.now in
     let passed : first_refusal tests ≡ None = search rules in
-    let same : Stays old c.test_given.new.self = (two.0 ∙ one.0, sees_more one.1 two.1) in
+    let same : Stays old c.test_given.new.self = (two.0 ∙ one.0, starts_more old.front one.1 two.1) in
     unrefused tests c.send.result (c.send.new.self.place ≡ old.place) (IsSent c.args.e c.args.tag c.args.blocks.now old c.send.new.self c.send.result) passed
     (sent_from c.args.e c.args.tag c.args.blocks.now old c.test_given.new.self c.send.new.self c.send.result same
     (subst (λ rs. IsSent c.args.e c.args.tag rs c.test_given.new.self c.send.new.self c.send.result) c.in_ok-given.ensures.tested.1 c.send.ensures.sent))
-
-pub returns-in_err-given-clause-place : goal.returns-in_err-given-clause-place
-returns-in_err-given-clause-place g c = same_stays (stays_more c.in_ok-test_end.ensures.same c.in_err-given.ensures.same)

@@ -26,7 +26,7 @@ returns-clause-list g c =
     let f = found c.self.invariant (placed c.self.view_is) c.args.r c.requires.listed.1 in (
       (lost c.self.inside.list.items c.self.invariant c.give_up-len.new.seat c.args.r f.entry c.give_up-len.ensures.seat c.remove.ensures.items
           c.remove.ensures.room (c.from.ensures ∙ (c.give_up-len.ensures.back f.lot f.held).1 ∙ ap (λ z. z.len) f.same)).1 c.args.self.now.place (placed c.self.view_is),
-      since c.self.view_is c.give_up-len.ensures.seen refl,
+      since c.self.view_is c.give_up-len.ensures.seen,
     )
 
 pub returns-clause-bytes : goal.returns-clause-bytes

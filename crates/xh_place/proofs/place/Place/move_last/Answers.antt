@@ -23,4 +23,4 @@ pub returns : goal.returns
 returns c =
     let both = moved_last c.self.inside.list.items c.self.invariant c.args.r (listed c.self.invariant (placed c.self.view_is) c.args.r c.requires.1)
     (c.push_reserved.ensures.items ∙ ap (λ l. l ++ c.args.r ∷ []) c.remove.ensures.items) (c.push_reserved.ensures.capacity ∙ c.remove.ensures.room) in
-    (both.1 c.args.self.now.place (placed c.self.view_is), since c.self.view_is (starts_same refl) refl)
+    (both.1 c.args.self.now.place (placed c.self.view_is), since c.self.view_is (starts_same refl))

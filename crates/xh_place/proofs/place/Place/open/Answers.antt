@@ -1,27 +1,13 @@
-use Rattle.xh_place.proofs.Common.{since, same_place}
-use Rattle.xh_place.proofs.Counted.{same_stays}
 use Rattle.xh_place.proofs.Common.{rules, arith, ◌≡◌, ℕ, ◌+◌, ◌<◌, List, [], ◌∷◌, ◌++◌, length, refl, sym, ap, ◌∙◌, subst, vec_capacity, with_blocks, Err, None, IfErr, OnOk, arena_tests}
 use Rattle.xh_place.proofs.Common.{first_refusal, Tests, start, SawFull, list_room, over_running, stays, total_bound, placed, untested}
 use Rattle.xh_place.specs.Vaults.{IsNoPair}
-use Rattle.xh_place.proofs.Gained.{both_listed, opened, pair_line, renamed_unused, room_second}
-use Rattle.xh_place.proofs.Words.{IsOnLine, at_home, end_block, endpoint}
+use Rattle.xh_place.proofs.Gained.{both_listed, opened, room_second}
+use Rattle.xh_place.proofs.Words.{at_home, end_block}
 use Rattle.xh_place.proofs.place.Place.open.Goals as goal
 
 pub make_ends-requires-clause-log : goal.make_ends-requires-clause-log
 make_ends-requires-clause-log g c =
     let own = sym (ap (λ p. p.table) (placed c.self.view_is) ∙ c.requires.at.0.0) in (ap (λ p. p.log) c.with_log-low.ensures.0 ∙ own, ap (λ p. p.log) c.with_log-low.ensures.1 ∙ own)
-
-pub make_ends-requires-clause-unused : goal.make_ends-requires-clause-unused
-make_ends-requires-clause-unused g c =
-    let fresh = c.requires.fresh in (renamed_unused _ c.args.low _ c.with_log-low.ensures.0 fresh.low_unused, renamed_unused _ c.args.high _ c.with_log-low.ensures.1 fresh.high_unused)
-
-pub make_ends-requires-clause-lines : goal.make_ends-requires-clause-lines
-make_ends-requires-clause-lines g c =
-    let lines = c.self.inside.seat.lines in let low = subst (λ p. IsOnLine p.lines (endpoint c.args.low)) (sym (placed c.self.view_is)) c.requires.lines in
-    let made = c.with_log-low.ensures in (
-      subst (λ e. IsOnLine lines (endpoint e)) (sym made.0) low,
-      subst (λ e. IsOnLine lines (endpoint e)) (sym made.1) (pair_line lines c.args.low c.args.high c.requires.fresh low),
-    )
 
 pub push_reserved-requires : goal.push_reserved-requires
 push_reserved-requires g c =
@@ -74,11 +60,3 @@ returns-in_err-made-clause-why g c =
     c.in_err-made.ensures.why in
     untested tests (IfErr c.from_residual.result (λ z. IsNoPair g.V.Vaults.changes vaults left arena 64 (SawFull old.place.shape old.front last.front arena) (g.V.Vaults.extent vaults) z.why))
     (λ refused. IfErr c.from_residual.result (λ z. z.why ≡ refused) × OnOk c.from_residual.result ⊥ × (left ≡ vaults)) passed (rw is why)
-
-pub returns-clause-same : goal.returns-clause-same
-returns-clause-same g c = (c.make_ends.ensures.same, same_place c.args.self.now _ _ (returns-clause-opened g c).0 (since c.self.view_is c.make_ends.ensures.seen refl))
-
-pub returns-in_err-made-clause-same : goal.returns-in_err-made-clause-same
-returns-in_err-made-clause-same g c =
-    let both = stays c.self.inside.list.items c.self.invariant c.make_ends.new.seat c.in_err-made.ensures.refused.0 in
-    (c.make_ends.ensures.same, same_stays (both.1 c.args.self.now.place (placed c.self.view_is), since c.self.view_is c.make_ends.ensures.seen refl))

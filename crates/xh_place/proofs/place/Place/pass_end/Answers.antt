@@ -31,5 +31,5 @@ returns c =
     c.remove.ensures.items c.remove.ensures.room (c.from.ensures ∙ c.pass_block-len.ensures.bytes f.lot f.held ∙ ap (λ z. z.len) f.same) in (
       both.1 (with_moved old (gone ∷ [])) (heard_shows (gone ∷ []) c.self.inside.seat refl (placed c.self.view_is))
           ∙ ap (λ p. with_moved (with_blocks old (without c.args.r old.blocks)) (Pass p.process c.args.r c.args.direction ∷ [])) (placed c.self.view_is),
-      since c.self.view_is c.pass_block-len.ensures.seen refl,
+      since c.self.view_is c.pass_block-len.ensures.seen,
     )

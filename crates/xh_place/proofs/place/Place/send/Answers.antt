@@ -1,19 +1,15 @@
 use Rattle.xh_place.proofs.Common.{arith, ◌≡◌, ℕ, ◌+◌, ◌-◌, ◌≤◌, true, List, refl, sym, ap, ◌∙◌, subst, Some, ◌==◌, list_any, vec_capacity, is_running, Event, Among, keys, put, value_at, away}
-use Rattle.xh_place.proofs.Common.{kind_of, there_and_back, away_in, end_block, lens, less_all, with_done, Item, item_at, item_in, item_of, shown, with_blocks, with_moved, Answers, settled}
+use Rattle.xh_place.proofs.Common.{kind_of, there_and_back, away_in, end_block, lens, less_all, with_done, Item, item_at, item_in, item_of, shown, with_blocks, with_moved, Answers, settled, Posted}
 use Rattle.xh_place.proofs.Common.{Puts, all_move, heard, heard_shows, shown_keys, list_distinct, over_running, total_bound, IsNow, placed, place_gone, on_err_weaker, all_found, found, IsRecord}
-use Rattle.xh_place.proofs.Common.{PlaceOf, own_record}
+use Rattle.xh_place.proofs.Common.{PlaceOf}
 use Rattle.xh_place.proofs.Ends.{item_now, item_was}
-use Rattle.xh_place.proofs.Words.{family_of, own_of, EndBlock, IsLotOf, StartsWith, Noted, Passed, PlaceSeen, content_of}
-use Rattle.xh_place.specs.inner.Lots.{ByEnd}
-use Rattle.xh_place.proofs.Heard.{at_its_line, block_line, heard_known, heard_more, hears_as}
-use Rattle.xh_place.proofs.Seeing.{since_heard}
-use Rattle.xh_place.specs.inner.Hearing.{Hears}
+use Rattle.xh_place.proofs.Words.{Noted, Passed, PlaceSeen}
 use Rattle.xh_place.proofs.Givens.{given_place, passed_below, settled_same, shown_look}
 use Rattle.xh_place.proofs.place.Place.send.Goals.{After-settle}
 use Rattle.xh_place.proofs.place.Place.send.Goals as goal
 
 -- where the place is once the list is settled
-went : (g : _) (c : After-settle g) → let f = found c.self.invariant (placed c.self.view_is) c.args.e c.requires.end.1 in IsNow c.self.inside.notes
+went : (g : _) (c : After-settle g) → let f = found c.self.invariant (placed c.self.view_is) c.args.e c.requires.end.1 in IsNow
     (with_done (there_and_back c.self.inside.seat.process
     (away (item_in (value_at c.args.e c.self.inside.seat.lots)).content) c.args.given.now.items c.give_all-put.result.back.items) c.self.inside.seat)
     c.self.inside.list.items c.self.inside.state c.give_all-put.new.seat c.settle.new.list.items (vec_capacity c.settle.new.list)
@@ -38,20 +34,6 @@ give_all-put-requires-clause-end g c =
 pub give_all-put-requires-clause-held : goal.give_all-put-requires-clause-held
 give_all-put-requires-clause-held g c = all_found c.self.invariant (placed c.self.view_is) c.args.given.now.items c.requires.listed
 
-pub hear_at-requires : goal.hear_at-requires
-hear_at-requires g c =
-    let f = found c.self.invariant (placed c.self.view_is) c.args.e c.requires.end.1 in let end = c.give_all-put.ensures.end f.lot f.held in let moved = c.give_all-put.ensures.moved in
-    let own = own_record c.self.invariant (placed c.self.view_is) c.args.desk.now.records.now c.requires.own c.args.e c.requires.end.1 in record {
-      own = ((ap (λ h. h.table) moved ∙ own.0.0, ap (λ h. h.shape) moved ∙ own.0.1), own.1);
-      held = (
-        end.0,
-        end.1,
-        subst (λ s. IsLotOf s c.args.e end.0) (sym (ap (λ h. h.shape) moved)) end.3.lot,
-        ap (λ z. kind_of (content_of z.body)) end.2.1.3,
-        at_its_line c.self.inside.seat.lines c.self.inside.notes (content_of end.0.body) c.self.invariant.lines (block_line end.3),
-      );
-    }
-
 pub settle-requires : goal.settle-requires
 settle-requires g c = list_distinct c.self.inside.list.items c.self.invariant
 
@@ -64,10 +46,7 @@ pub overflow_add-self : goal.overflow_add-self
 overflow_add-self g c = omega (arith, total_bound (went g (goal.at.overflow_add-self g c).After-settle).0)
 
 pub invariant_of-self : goal.invariant_of-self
-invariant_of-self g c =
-    let f = found c.self.invariant (placed c.self.view_is) c.args.e c.requires.end.1 in let end = c.give_all-put.ensures.end f.lot f.held in
-    hears_as c.settle.new.list.items (went g (goal.at.invariant_of-self g c).After-settle).0 c.args.e end.1 c.hear_at.new.seat c.hear_at.new.notes c.hear_at.ensures.same
-    (c.hear_at.ensures.heard end.0 end.1)
+invariant_of-self g c = (went g (goal.at.invariant_of-self g c).After-settle).0
 
 pub returns-clause-sent : goal.returns-clause-sent
 returns-clause-sent g c =
@@ -77,12 +56,11 @@ returns-clause-sent g c =
     let way : d ≡ away_in (value_at c.args.e old.blocks) = ap (λ o. away (item_in o).content) f.held ∙ ap (λ x. away x.content) f.same ∙ sym (ap away_in c.requires.end.1) in
     let log : es ≡ there_and_back old.process (away_in (value_at c.args.e old.blocks)) given (keys (shown last.lots back)) =
     λ i. there_and_back (v i).process (way i) given (sym (shown_keys last.lots back) i) in
-    let note : Noted = end.2.0 in let does : EndBlock → EndBlock → Type 0 = ByEnd (Puts note c.args.tag c.args.given.now c.give_all-put.result.put) in
-    let now : Item = end_block end.2.1.1.end in let xs' : List (ℕ × Item) = put c.args.e now old.blocks in
+    let note : Noted = end.2.0 in let does : Posted → Posted → Type 0 = Puts note c.args.tag c.args.given.now c.give_all-put.result.put in
+    let now : Item = end_block end.2.1.1 in let xs' : List (ℕ × Item) = put c.args.e now old.blocks in
     let blocks : settled given (λ r. item_at (value_at r last.lots)) (put c.args.e (item_of end.0) old.blocks) ≡ settled given (λ r. value_at r (shown last.lots back)) xs' =
     ap (λ x. settled given (λ r. item_at (value_at r last.lots)) (put c.args.e x old.blocks)) (item_now does f.block end.2.1)
-    ∙ settled_same given (λ r. item_at (value_at r last.lots)) (λ r. value_at r (shown last.lots back)) xs' (λ r h. sym (shown_look last.lots back r (a.back.here r h))) in rw c.hear_at.ensures.same
-    (record {
+    ∙ settled_same given (λ r. item_at (value_at r last.lots)) (λ r. value_at r (shown last.lots back)) xs' (λ r h. sym (shown_look last.lots back r (a.back.here r h))) in record {
       mid = with_blocks old xs';
       blocks = c.args.given.now;
       answered = c.give_all-put.result.put;
@@ -95,7 +73,7 @@ returns-clause-sent g c =
         subst (λ (z : PlaceSeen). Passed z.place.process (away_in (value_at c.args.e old.blocks)) given z.front note.front) c.self.view_is
             (subst (λ (w : ℕ). Passed seat.process w given seat.front note.front) way end.2.3),
       );
-      made = (end.2.1.0.end, end.2.1.1.end, c.requires.end.1 ∙ ap (λ x. Some x) (sym f.same ∙ item_was does f.block end.2.1), refl, end.2.1.4.1);
+      made = (end.2.1.0, end.2.1.1, c.requires.end.1 ∙ ap (λ x. Some x) (sym f.same ∙ item_was does f.block end.2.1), refl, end.2.1.4);
       moved = (
         (went g (goal.at.returns-clause-sent g c).After-settle).1 (with_moved old es) (heard_shows es seat (all_move seat.process d given back) v)
             ∙ (λ i. with_moved (with_blocks old (blocks i)) (log i)),
@@ -103,19 +81,4 @@ returns-clause-sent g c =
       );
       lost = on_err_weaker c.give_all-put.result.put (λ h r among. place_gone seat c.self.view_is last d (away_in (value_at c.args.e old.blocks)) r way (h r among)) a.left;
       answer = subst (λ ks. Answers ks c.give_all-put.result.put c.answer.result) (sym (shown_keys last.lots back)) c.answer.ensures;
-      knows = heard_known end.2.1.1.end c.self.inside.notes c.hear_at.new.notes
-          (subst (λ k. Hears k c.self.inside.notes c.hear_at.new.notes) (ap (λ z. content_of z.body) end.2.1.3) (c.hear_at.ensures.heard end.0 end.1));
-      paired = (subst (λ b. own_of b (family_of seat)) (ap (λ z. z.body) end.2.1.3) (end.3.own end.3.full.0)).3;
-    })
-
-pub returns-clause-place : goal.returns-clause-place
-returns-clause-place g c =
-    let sent = returns-clause-sent g c in let seat = c.self.inside.seat in let f = found c.self.invariant (placed c.self.view_is) c.args.e c.requires.end.1 in
-    let end = c.give_all-put.ensures.end f.lot f.held in (
-      ap (λ p. p.table) sent.moved.0 ∙ ap (λ p. p.table) sent.made.3,
-      ap (λ p. p.shape) sent.moved.0 ∙ ap (λ p. p.shape) sent.made.3,
-      ap (λ p. p.lines) sent.moved.0 ∙ ap (λ p. p.lines) sent.made.3,
-      ap (λ p. p.process) sent.moved.0 ∙ ap (λ p. p.process) sent.made.3,
-      since_heard c.self.view_is (subst (λ h. StartsWith h.front seat.front) (sym c.hear_at.ensures.same) c.give_all-put.ensures.seen)
-          (heard_more (content_of end.0.body) c.self.inside.notes c.hear_at.new.notes (c.hear_at.ensures.heard end.0 end.1)),
-    )
+    }

@@ -54,7 +54,7 @@ returns-in_err-rec-clause-why g c =
     let arena : ℕ = c.args.r / 256 in
     let is : c.from_residual-in_err-rec.result ≡ Err e = search rules in
     let shape : seat.shape ≡ old.place.shape = ap (λ p. p.shape) (placed c.self.view_is ∙ c.in_ok-len.ensures.same.0) in
-    let before : StartsWith seat.front old.front = subst (λ f. StartsWith f old.front) (sym (fronted c.self.view_is)) c.in_ok-len.ensures.same.1.front in
+    let before : StartsWith seat.front old.front = subst (λ f. StartsWith f old.front) (sym (fronted c.self.view_is)) c.in_ok-len.ensures.same.1 in
     let why : IsUncut (SawFull old.place.shape old.front last.front arena) e = ⊎_elim
     (λ h. inl (
       h.0,

@@ -1,5 +1,4 @@
-use Rattle.xh_place.proofs.Common.{sees_more}
-use Rattle.xh_place.proofs.Common.{rules, ◌≡◌, ℕ, ap, ◌∙◌, None, stop, first_refusal, swept_as, unrefused}
+use Rattle.xh_place.proofs.Common.{rules, ◌≡◌, ℕ, ap, ◌∙◌, None, stop, first_refusal, IsSeen, seen_wide, swept_as, unrefused}
 use Rattle.xh_place.proofs.Swept.{stopped}
 use Rattle.xh_place.proofs.place.Place.stop.Goals as goal
 
@@ -8,25 +7,12 @@ returns-clause-stopped g c =
     let old = c.args.self.now in let mid = c.set_state.new.self in let swept = c.sweep-bytes.new.self in let new = c.set_state-2.new.self in let bytes : ℕ = c.sweep-bytes.result.0 in
     let passed : first_refusal (stop old.place.state) ≡ None = search rules in
     let shape : mid.place.shape ≡ old.place.shape = ap (λ p. p.shape) c.set_state.ensures.state.0 in
-    let is = swept_as mid swept old new shape c.set_state.ensures.state.1 c.set_state-2.ensures.state.1 0 c.args.budget mid.place swept.place bytes
+    let is = swept_as (IsSeen mid swept) (IsSeen old new) (seen_wide mid swept old new shape c.set_state.ensures.state.1 c.set_state-2.ensures.state.1) 0 c.args.budget mid.place swept.place bytes
     c.sweep-bytes.result.1 c.sweep-bytes.ensures.swept in
     unrefused (stop old.place.state) c.reclaimed.result _ _ passed (
       bytes,
-      stopped old new c.args.budget bytes c.sweep-bytes.result.1 c.left-left.result old.place mid.place swept.place new.place c.reclaimed.result c.set_state.ensures.state.0
+      stopped (IsSeen old new) c.args.budget bytes c.sweep-bytes.result.1 c.left-left.result old.place mid.place swept.place new.place c.reclaimed.result c.set_state.ensures.state.0
           is c.sweep-bytes.ensures.list.0 c.left-left.ensures.left
           (c.set_state-2.ensures.state.0 ∙ ap (λ s. record swept.place { state = s }) c.ending.ensures) c.reclaimed.ensures,
       c.sweep-bytes.ensures.back,
-    )
-
-pub returns-clause-same : goal.returns-clause-same
-returns-clause-same g c =
-    let one = c.set_state.ensures.state in let two = c.sweep-bytes.ensures.list in let three = c.set_state-2.ensures.state in (
-      c.sweep-bytes.ensures.same,
-      (
-        ap (λ p. p.table) three.0 ∙ ap (λ p. p.table) two.0 ∙ ap (λ p. p.table) one.0,
-        ap (λ p. p.shape) three.0 ∙ ap (λ p. p.shape) two.0 ∙ ap (λ p. p.shape) one.0,
-        ap (λ p. p.lines) three.0 ∙ ap (λ p. p.lines) two.0 ∙ ap (λ p. p.lines) one.0,
-        ap (λ p. p.process) three.0 ∙ ap (λ p. p.process) two.0 ∙ ap (λ p. p.process) one.0,
-        sees_more (sees_more one.1 two.1) three.1,
-      ),
     )

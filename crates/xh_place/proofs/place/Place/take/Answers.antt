@@ -1,4 +1,3 @@
-use Rattle.xh_place.proofs.Counted.{same_more, same_stays}
 use Rattle.xh_place.proofs.Common.{◌≡◌, ℕ, ◌++◌, MatchResult, end_tests, IsTaken, IsUntaken, found_at, start, unrefused}
 use Rattle.xh_place.proofs.Drained.{taken_from}
 use Rattle.xh_place.proofs.place.Place.take.Goals as goal
@@ -10,6 +9,3 @@ returns-clause-taken g c =
     unrefused (start old.place.state ++ end_tests (found_at old.place e)) c.take_message.result (new.place ≡ old.place)
     (MatchResult c.take_message.result (IsTaken e old new) (IsUntaken e old.place new.place))
     t.tested.0 (taken_from e old c.test_end.new.self new c.take_message.result t.same c.take_message.ensures.taken)
-
-pub returns-clause-place : goal.returns-clause-place
-returns-clause-place g c = same_more (same_stays c.in_ok-test_end.ensures.same) c.take_message.ensures.place

@@ -1,6 +1,5 @@
-use Rattle.xh_place.proofs.Common.{sees_more}
-use Rattle.xh_place.proofs.Common.{◌≡◌, ◌⊎◌, ⊎_elim, inl, inr, ℕ, List, [], ◌∷◌, length, ap, ◌∙◌, ending_again, TallyOf, MAX_BUDGET, HasGivenBack, IsSweptLate, with_more, IsElsewhere}
-use Rattle.xh_place.proofs.Common.{SawWord, away_as, swept_as, word_wide}
+use Rattle.xh_place.proofs.Common.{◌≡◌, ◌⊎◌, ⊎_elim, inl, inr, ℕ, List, [], ◌∷◌, length, ap, ◌∙◌, ending_again, TallyOf, MAX_BUDGET, HasGivenBack, IsSweptLate, with_more, IsElsewhere, IsSeen}
+use Rattle.xh_place.proofs.Common.{SawWord, away_as, seen_wide, swept_as, word_wide}
 use Rattle.xh_place.proofs.Swept.{turned}
 use Rattle.xh_place.proofs.place.Place.turn_away.Goals as goal
 
@@ -9,7 +8,7 @@ returns-clause-swept g c =
     let old = c.args.self.now in let mid = c.set_state.new.self in let swept = c.sweep_late.new.self in let new = c.set_state-2.new.self in let d : ℕ = c.args.direction in let r : ℕ = c.args.r in
     let shape : mid.place.shape ≡ old.place.shape = ap (λ p. p.shape) c.set_state.ensures.state.0 in
     let told : List TallyOf = c.args.desk.now.tallies.now in let now : List TallyOf = c.sweep_late.new.desk.tallies.now in
-    let came : ((swept.place ≡ mid.place) × (now ≡ told) × IsElsewhere (SawWord old new) d r) ⊎ ((n : ℕ) × IsSweptLate old new d r mid.place swept.place n × HasGivenBack n told now) =
+    let came : ((swept.place ≡ mid.place) × (now ≡ told) × IsElsewhere (SawWord old new) d r) ⊎ ((n : ℕ) × IsSweptLate (IsSeen old new) d r mid.place swept.place n × HasGivenBack n told now) =
     ⊎_elim
     (λ h. inl (h.0, h.1, away_as (SawWord mid swept) (SawWord old new) (word_wide mid swept old new shape c.set_state.ensures.state.1 c.set_state-2.ensures.state.1) d r h.2))
     (λ h. let late = h.1 in inr (
@@ -17,7 +16,7 @@ returns-clause-swept g c =
       (
         late.0,
         late.1,
-        swept_as mid swept old new shape c.set_state.ensures.state.1 c.set_state-2.ensures.state.1
+        swept_as (IsSeen mid swept) (IsSeen old new) (seen_wide mid swept old new shape c.set_state.ensures.state.1 c.set_state-2.ensures.state.1)
             (length mid.place.blocks) MAX_BUDGET (with_more d ((r, late.0) ∷ []) mid.place) swept.place h.0 late.1 late.2,
         late.3,
         late.4,
@@ -25,16 +24,6 @@ returns-clause-swept g c =
       h.2,
     ))
     c.sweep_late.ensures.swept in
-    turned old new (IsElsewhere (SawWord old new) d r) d r c.left.result old.place mid.place swept.place new.place told now c.set_state.ensures.quiet
+    turned (IsSeen old new) (IsElsewhere (SawWord old new) d r) d r c.left.result old.place mid.place swept.place new.place told now c.set_state.ensures.quiet
     c.set_state.ensures.state.0 came c.left.ensures.left
     (c.set_state-2.ensures.state.0 ∙ ap (λ s. record swept.place { state = s }) (c.ending_again.ensures ∙ ap (λ s. ending_again s c.left.result) c.state-state.ensures))
-
-pub returns-clause-place : goal.returns-clause-place
-returns-clause-place g c =
-    let one = c.set_state.ensures.state in let two = c.sweep_late.ensures.place in let three = c.set_state-2.ensures.state in (
-      ap (λ p. p.table) three.0 ∙ two.0 ∙ ap (λ p. p.table) one.0,
-      ap (λ p. p.shape) three.0 ∙ two.1 ∙ ap (λ p. p.shape) one.0,
-      ap (λ p. p.lines) three.0 ∙ two.2 ∙ ap (λ p. p.lines) one.0,
-      ap (λ p. p.process) three.0 ∙ two.3 ∙ ap (λ p. p.process) one.0,
-      sees_more (sees_more one.1 two.4) three.1,
-    )

@@ -23,8 +23,7 @@ returns-clause-claimed g c =
 
 pub returns-clause-seen : goal.returns-clause-seen
 returns-clause-seen g c =
-    IfErr-weaker c.claim_seen.result _ _
-    (λ s saw. saw_on c.args.seat.now c.loop-index.seat c.loop-index.invariant.looked c.args.arena s.words.items c.claim_seen.new.seat saw) c.claim_seen.ensures.seen
+    IfErr-weaker c.claim_seen.result _ _ (λ s saw. saw_on c.args.seat.now c.loop-index.seat c.loop-index.invariant.looked c.args.arena s.words.items c.claim_seen.new.seat saw) c.claim_seen.ensures.seen
 
 pub returns-clause-missed : goal.returns-clause-missed
 returns-clause-missed g c =

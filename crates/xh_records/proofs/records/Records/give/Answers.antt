@@ -5,7 +5,7 @@ use Rattle.xh_records.proofs.History.{by_place_more}
 use Rattle.xh_records.proofs.Keeps.{giving_is}
 use Rattle.xh_records.proofs.Elements.{in_range}
 use Rattle.xh_records.proofs.Seating.{loses, is_alone, seat_is}
-use Rattle.xh_records.proofs.Numbered.{family_is, without_numbered, lost_by, held_as}
+use Rattle.xh_records.proofs.Numbered.{without_numbered, lost_by, held_as}
 use Rattle.xh_records.proofs.Lent.{Lent, lends, listed_as, spot_of}
 use Rattle.xh_records.proofs.records.Records.give.Given.{Over}
 use Rattle.xh_records.proofs.records.Records.give.Goals.{After-as_slice, After-give_slot-k}
@@ -33,11 +33,11 @@ give_slot-k-requires-clause-listed g c =
 pub give_slot-k-requires-clause-lot : goal.give_slot-k-requires-clause-lot
 give_slot-k-requires-clause-lot g c =
     let h = c.requires.held in let reach = (lent g (goal.at.give_slot-k-requires-clause-lot g c).After-as_slice).reach in
-    let family = family_is _ _ _ _ _ c.seat.view_is _ _ c.seat.invariant in
-    (h.0, reach.has, reach.lot, h.2, subst (λ f. IsOwn g.B.Fits.own f h.0) family (c.requires.family h.0 h.1))
+    let log = c.seat.invariant.log ∙ ap (λ z. z.table) c.seat.view_is ∙ c.requires.own.0 in
+    (h.0, reach.has, reach.lot, h.2, subst (λ t. IsOwn g.B.Fits.log t h.0) (sym log) (c.requires.log h.0 h.1))
 
-pub give_slot-k-requires-clause-family : goal.give_slot-k-requires-clause-family
-give_slot-k-requires-clause-family g c = ap (λ f. f.table) c.seat.invariant.family ∙ ap (λ z. z.table) c.seat.view_is ∙ c.requires.own.0 ∙ sym (ap (λ r. r.table) c.self.view_is)
+pub give_slot-k-requires-clause-log : goal.give_slot-k-requires-clause-log
+give_slot-k-requires-clause-log g c = c.seat.invariant.log ∙ ap (λ z. z.table) c.seat.view_is ∙ c.requires.own.0 ∙ sym (ap (λ r. r.table) c.self.view_is)
 
 pub give_slot-k-requires-clause-owned : goal.give_slot-k-requires-clause-owned
 give_slot-k-requires-clause-owned g c =
@@ -65,8 +65,7 @@ returns g c =
     let given = c.give_slot-k.ensures.given in let e = giving x.process c.args.number h in
     let whose = ap (λ z. z.process) c.seat.view_is in
     let now = given.2 ∙ who me slot h given.0 c.seat.invariant.processes in
-    lost_by x _ x.process c.args.number h (held_as x _ _ _ me c.seat.view_is _ _ c.seat.invariant _ _ c.give_slot-k.new.token.me _ given.0 (e ∷ []) _ last.0 last.1 (ap (λ m. m.0.family) now)
-    (ap (λ m. m.0.shape) now)
+    lost_by x _ x.process c.args.number h (held_as x _ _ _ me c.seat.view_is _ _ c.seat.invariant _ _ c.give_slot-k.new.token.me _ given.0 (e ∷ []) _ last.0 last.1 (ap (λ m. m.0.shape) now)
     (ap (λ m. numbered m.0.shape.records m.1) now ∙ without_numbered me.0.shape c.seat.invariant.small me.1 slot c.seat.invariant.lots ∙ (λ i. without (number i) (c.seat.view_is i).lots))
     (ap (λ m. m.0.fronts) now ∙ (λ i. adds (given.0 ++ giving (whose i) (number i) h ∷ []) me.0.fronts)) given.1
     (by_place_more (place_of x.process) [] e (ap place_of (giving_is x.process c.args.number h c.requires.away.0).3)) refl)

@@ -10,7 +10,7 @@ load-requires g c =
     (subst (λ n. (n < c.args.self.now.table.words) × (n < c.args.self.now.table.slots)) (sym c.from.ensures) c.slot_of-slot.ensures.inside) in (
       ap (λ h. h.table) c.seat.view_is ∙ c.requires.own.0 ∙ sym (ap (λ r. r.table) c.self.view_is),
       inside.0,
-      looks g.B.Fits.is_fit g.B.Fits.own c.self.inside.table.shared.key _ _ _ _ c.seat.inside.process inside.1 (is_alone _ _ _ _ _ c.seat.invariant),
+      looks g.B.Fits.is_fit g.B.Fits.log c.self.inside.table.shared.key _ _ _ _ c.seat.inside.process inside.1 (is_alone _ _ _ _ _ c.seat.invariant),
     )
 
 pub returns : goal.returns

@@ -1,5 +1,5 @@
 use Rattle.xh_records.proofs.Common.{rules, ◌≡◌, ℕ, ◌<◌, length, refl, sym, ap, ◌∙◌, subst, [], ◌∷◌, ◌++◌, vec_capacity, number_of, place_of, holder_of}
-use Rattle.xh_records.proofs.Common.{taking, adds, numbered, Some, Family, LotOf, IsOwn, value_at, Shape, Process, TellsWord, family_at, front_in, word_of}
+use Rattle.xh_records.proofs.Common.{taking, adds, numbered, Some, TableId, LotOf, IsOwn, value_at, Shape, Process, TellsWord, front_in, word_of}
 use Rattle.xh_model.proofs.Keyed.{last_at}
 use Rattle.xh_records.proofs.History.{by_place_more}
 use Rattle.xh_records.proofs.Keeps.{taking_is}
@@ -44,8 +44,7 @@ returns-in-Ok-clause-taken g c =
     let e = taking x.process c.args.number h in
     let who = ap (λ z. z.process) c.seat.view_is in
     gained_by x _ x.process c.args.number h _ t.0 (lot_back x _ _ _ me c.seat.view_is slot c.args.number t.0 here.at here.below t.4) t.5
-    (held_as x _ _ _ me c.seat.view_is _ _ c.seat.invariant _ _ c.take_slot.new.token.me _ t.1 (e ∷ []) _ c.take_slot.ensures.same.0 c.take_slot.ensures.same.1 (ap (λ m. m.0.family) t.2)
-    (ap (λ m. m.0.shape) t.2)
+    (held_as x _ _ _ me c.seat.view_is _ _ c.seat.invariant _ _ c.take_slot.new.token.me _ t.1 (e ∷ []) _ c.take_slot.ensures.same.0 c.take_slot.ensures.same.1 (ap (λ m. m.0.shape) t.2)
     (ap (λ m. numbered m.0.shape.records m.1) t.2 ∙ numbered_push me.0.shape.records me.1 slot t.0 ∙ (λ i. (c.seat.view_is i).lots ++ (number i, t.0) ∷ []))
     (ap (λ m. m.0.fronts) t.2 ∙ (λ i. adds (t.1 ++ taking (who i) (number i) h ∷ []) me.0.fronts)) t.3
     (by_place_more (place_of x.process) [] e (ap place_of (taking_is x.process c.args.number h c.requires.away).3)) refl)
@@ -68,13 +67,12 @@ returns-in-Err-clause-missed g c =
           (spot g (goal.at.returns-in-Err-clause-missed g c).After-take_slot).at m.1,
     )
 
-pub returns-in-Ok-clause-family : goal.returns-in-Ok-clause-family
-returns-in-Ok-clause-family g c = λ l has.
+pub returns-in-Ok-clause-log : goal.returns-in-Ok-clause-log
+returns-in-Ok-clause-log g c = λ l has.
     let x = c.args.seat.now in let me = c.seat.inside.token.me in let t = c.in-Ok.ensures.taken in
-    let here = spot g (goal.at.returns-in-Ok-clause-family g c).After-take_slot in
+    let here = spot g (goal.at.returns-in-Ok-clause-log g c).After-take_slot in
     let lots = ap (λ m. numbered m.0.shape.records m.1) t.2 ∙ numbered_push me.0.shape.records me.1 c.slot_of-slot.result t.0 ∙ (λ i. (c.seat.view_is i).lots ++ (here.number i, t.0) ∷ []) in
     let new = fresh x _ _ _ me c.seat.view_is _ _ c.seat.invariant c.slot_of-slot.result c.args.number here.at (not_among _ _ _ _ me c.slot_of-slot.result c.seat.invariant t.6) in
     let same : Some t.0 ≡ Some l = sym (last_at c.args.number t.0 x.lots new) ∙ ap (value_at c.args.number) (sym lots) ∙ has in
     let is : t.0 ≡ l = cc in
-    let family = c.seat.invariant.family ∙ (λ i. family_at (sym c.take_slot.ensures.same.0 i) (sym t.2 i).0.family.lines (sym t.2 i).0.shape) in
-    subst (λ (z : Family × LotOf g.row.B.Denot). IsOwn g.B.Fits.own z.0 z.1) (λ i. (family i, is i)) t.7
+    subst (λ (z : TableId × LotOf g.row.B.Denot). IsOwn g.B.Fits.log z.0 z.1) (λ i. ((c.seat.invariant.log ∙ ap (λ h. h.table) c.seat.view_is ∙ c.requires.own.0) i, is i)) t.7

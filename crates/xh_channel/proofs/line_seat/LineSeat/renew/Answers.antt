@@ -1,9 +1,0 @@
-use Rattle.xh_channel.proofs.Common.{rules, ◌∙◌, ◌≡◌}
-use Rattle.xh_channel.proofs.LineMoves.{has_word}
-use Rattle.xh_channel.proofs.LineSteps.{meets}
-use Rattle.xh_channel.proofs.line_seat.LineSeat.renew.Goals as goal
-
-pub load-requires : goal.load-requires
-load-requires c =
-    let was : c.self.inside.seat.table_id ≡ c.deref.result.now.shared.table_id = search rules in
-    (c.join_seat.ensures.0 ∙ was, has_word _ _ was c.self.invariant.words, meets _ _ _)
