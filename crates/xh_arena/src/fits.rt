@@ -3,13 +3,9 @@ ghost use Rattle.std.specs.Prelude.{◌≡◌};
 
 /// Whether a body is well formed for a length.
 pub trait Fits {
-    ghost use Rattle.std.specs.Prelude.{ℕ, Bool, Option};
-    ghost use Rattle.atomic_table.specs.Seated.{TableId};
+    ghost use Rattle.std.specs.Prelude.{ℕ, Bool};
 
     ghost is_fit: { Self → ℕ → Bool };
-
-    /// The table whose log the body keeps notes of, if it keeps any.
-    ghost log: { Self → Option TableId };
 
     /// Whether the body is well formed for a record of `len` bytes. For none that is a blank body, which
     /// takes no memory.

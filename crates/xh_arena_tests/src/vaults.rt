@@ -15,11 +15,9 @@ pub struct Any {
 }
 
 impl Fits for Any {
-    ghost use Rattle.std.specs.Prelude.{nat_le, None};
+    ghost use Rattle.std.specs.Prelude.{nat_le};
 
     ghost is_fit = { λ any len. nat_le any.seen len };
-
-    ghost log = { λ _. None };
 
     fn fits(&self, len: u32) -> bool {
         self.seen <= len

@@ -16,11 +16,9 @@ pub(crate) const SIZE: u32 = 65_536;
 pub(crate) struct Blank;
 
 impl Fits for Blank {
-    ghost use Rattle.std.specs.Prelude.{None, true};
+    ghost use Rattle.std.specs.Prelude.{true};
 
     ghost is_fit = { λ _ _. true };
-
-    ghost log = { λ _. None };
 
     fn fits(&self, _len: u32) -> bool {
         true

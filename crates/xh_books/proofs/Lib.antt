@@ -13,9 +13,3 @@ pub mod LedgerLines
 pub mod Sums
 pub mod Working
 pub mod Kept
-pub mod Carried
-pub mod Living
-pub mod Gone
-pub mod Again
-pub mod Deeds
-pub mod Empty

@@ -2,5 +2,4 @@ pub mod Ledgers
 pub mod Flight
 pub mod Sums
 pub mod Closing
-pub mod Lives
 pub mod inner

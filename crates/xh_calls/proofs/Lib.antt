@@ -3,9 +3,9 @@ pub mod Same
 pub mod Lists
 pub mod Taking
 pub mod Fresh
-pub mod Opened
 pub mod Made
 pub mod Moved
+pub mod Tallied
 pub mod Vaulted
 pub mod Asking
 pub mod Started

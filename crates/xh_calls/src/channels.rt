@@ -7,7 +7,7 @@ ghost use Rattle.xh_core.specs.Calls.{arena_tests};
 ghost use Rattle.xh_core.specs.Refusing.{Tested};
 ghost use Rattle.xh_model.specs.declared.limits.TheConstants.{CHANNELS, END_BYTES};
 ghost use Rattle.xh_place.specs.Ending.{HasGivenBack};
-ghost use Rattle.xh_place.specs.Ends.{AreListed, IsUnopened, Opens as OpensEnds, at_home};
+ghost use Rattle.xh_place.specs.Ends.{AreListed, IsUnopened, Opens as OpensEnds};
 ghost use Rattle.xh_place.specs.Starts.{start as starts};
 ghost use Rattle.xh_place.specs.Places.{IsPlaceOf};
 ghost use Rattle.xh_place.specs.Seen.{FindsFull, IsSamePlace, PlaceSeen, SeesMore, Stays};
@@ -89,7 +89,7 @@ impl<N: Names> Heap<N> {
         requires served { IsServed N.parts place.old.place till.old }
         requires fresh { IsPair low high }
         ensures same { IsSamePlace place.old place.new × IsTillOf N.parts till.new }
-        ensures opened { OpensEnds arena (at_home place.old.place.table low) (at_home place.old.place.table high) place.old.place place.new.place till.old.tallies.items till.new.tallies.items result }
+        ensures opened { OpensEnds arena low high place.old.place place.new.place till.old.tallies.items till.new.tallies.items result }
         ensures why { IsUnopened (starts place.old.place.state ++ arena_tests arena (length place.old.place.shape.names)) ⊤
             (LacksSpace N.parts arena (FindsFull place.old place.new arena) till.old.seen till.new.seen) result }
     {

@@ -1,7 +1,7 @@
 -- What a put, a take and a shut of the line that a seat holds make of its account, and what contracts see of that.
-use Rattle.xh_channel.proofs.Common.{Account, AllOf, Bool, Counts, Err, Grows, IsEndBy, IsNoted, IsOf, IsSettled, IsSome, LiesFor, LineEnd, LineView, Lined, List, Me, Message, None, Noted, Ok}
-use Rattle.xh_channel.proofs.Common.{OnErr, OnOk, OnlySaw, Option, Part, PutsBy, PutsOn, Result, Shuts, ShutsBy, Some, TableId, TakesBy, TakesOn, [], and_parts, and_right, ap, append_assoc, arith}
-use Rattle.xh_channel.proofs.Common.{beside, counts_at, end_of, false, false_from_ne_true, holding, inl, inr, is_drained, is_nothing, length, length-append, length_push, line_view, message}
+use Rattle.xh_channel.proofs.Common.{Account, Bool, Counts, Err, Grows, IsEndBy, IsSettled, IsSome, LiesFor, LineEnd, LineView, Lined, List, Me, Message, None, Ok}
+use Rattle.xh_channel.proofs.Common.{OnErr, OnlySaw, Option, Part, PutsBy, PutsOn, Result, Shuts, ShutsBy, Some, TableId, TakesBy, TakesOn, [], and_parts, and_right, ap, append_assoc, arith}
+use Rattle.xh_channel.proofs.Common.{counts_at, end_of, false, false_from_ne_true, holding, inl, inr, is_drained, is_nothing, length, length-append, length_push, line_view, message}
 use Rattle.xh_channel.proofs.Common.{now_shut, number, numbers_before, numbers_join, one_put, one_taken, refl, rest, subst, suc, sym, take, take-append_seam, true, true≢false, unwrap_or, waiting}
 use Rattle.xh_channel.proofs.Common.{zero, ℕ, ⊎_elim, ◌&&◌, ◌++◌, ◌+◌, ◌-◌, ◌<◌, ◌||◌, ◌∙◌, ◌∷◌, ◌≡◌, ◌≤◌}
 use Rattle.arrayvec.specs.ArrayVec.{ArrayVec}
@@ -12,8 +12,12 @@ use Rattle.xh_channel.specs.declared.refused.Refused.{Refused}
 use Rattle.xh_channel.specs.declared.refused.Refused.TheVariants as refused
 use Rattle.xh_channel.specs.declared.unsent.Unsent.{Unsent}
 use Rattle.xh_channel.specs.declared.unsent.Unsent.TheVariants.{Full, PeerClosed, Protocol}
-use Rattle.xh_channel.specs.inner.LineRule.{Found, IsTold, counts_in, own_by, peer_by, settled, settled_by, taken_notes}
-use Rattle.xh_channel.proofs.Beside.{all_push}
+use Rattle.xh_channel.specs.inner.LineRule.{Found, IsTold, counts_in, own_by, peer_by, settled, settled_by}
+use Rattle.xh_channel.specs.Ends.{one_put, one_taken, now_shut}
+use Rattle.xh_channel.specs.Lines.{Lined, PutsOn, Shuts, TakesOn, end_of, is_drained, is_nothing, waiting}
+use Rattle.xh_channel.specs.LineSeats.{LineView, OnlySaw, PutsBy, ShutsBy, TakesBy, counts_at}
+use Rattle.xh_channel.specs.Numbers.{message, number}
+use Rattle.xh_channel.specs.inner.LineRule.{Grows, IsEndBy, IsSettled, LiesFor, holding, line_view}
 
 or_right : (a b : Bool) → b ≡ true → (a || b) ≡ true
 or_right true b e = refl
@@ -38,27 +42,6 @@ lies zero line own peer few e = e
 lies (suc zero) line own peer few e = (e.1, e.0)
 lies (suc (suc k)) line own peer few e = absurd (omega arith)
 
--- the notes in the line are of the log, by the ends of a side and of its peer
-abbrev BothOf : TableId → ℕ → Lined → Type 0
-BothOf log k line = AllOf log (beside (end_of line k)) × AllOf log (beside (end_of line (1 - k)))
-
-noted_ends : (log : TableId) (k : ℕ) (line : Lined) → k ≤ 1 → IsNoted log (Some line) → BothOf log k line
-noted_ends log zero line few n = n
-noted_ends log (suc zero) line few n = (n.1, n.0)
-noted_ends log (suc (suc k)) line few n = absurd (omega arith)
-
-noted : (log : TableId) (k : ℕ) (line : Lined) → k ≤ 1 → BothOf log k line → IsNoted log (Some line)
-noted log zero line few n = n
-noted log (suc zero) line few n = (n.1, n.0)
-noted log (suc (suc k)) line few n = absurd (omega arith)
-
--- of what was put, that was taken which doesn't wait
-cut_off : (sent got waits : List (Option Noted)) → sent ≡ got ++ waits → taken_notes sent waits ≡ got
-cut_off sent got waits e =
-    let long = ap length e in
-    let n : length sent - length waits ≡ length got = omega (arith, length-append got waits) in
-    (λ i. take (n i) (e i)) ∙ take-append_seam got waits
-
 -- the account as a part of the line
 abbrev placed : Account → List Row → ℕ → ℕ → Account
 placed a rows depth state = record a { rows = rows; depth = depth; state = state }
@@ -74,23 +57,20 @@ accounts v peer own rows depth state line e =
         state = e.0.state i;
         drained = e.0.drained i;
         sent = sym e.1.waits.0 i;
-        sent_notes = sym e.1.notes i;
-        got_notes = cut_off peer.sent_notes own.got_notes (beside (end_of line v.side)) e.0.notes i;
         got = (ap (λ (c : Counts). take c.taken peer.sent) counts ∙ ap (take (length own.got)) e.0.waits.0 ∙ take-append_seam own.got (waiting (end_of line v.side))) i;
         shut = (counts i).shut;
       }),
       (λ i. record peer { rows = e.1.rows i; depth = e.1.depth i; state = e.1.state i }),
     )
 
-settled_so : (v : Part) (peer own : Account) (line : Lined) → v.side ≤ 1 → Ends v.side line own peer → Grows v.own own → IsTold v.told peer → BothOf v.log v.side line
+settled_so : (v : Part) (peer own : Account) (line : Lined) → v.side ≤ 1 → Ends v.side line own peer → Grows v.own own → IsTold v.told peer
     → IsSettled (holding v peer) line × (own_by (holding v peer) line ≡ own)
-settled_so v peer own line few e grows told notes = let a = accounts v peer own peer.rows peer.depth peer.state line e in (
+settled_so v peer own line few e grows told = let a = accounts v peer own peer.rows peer.depth peer.state line e in (
   (
     subst (λ (x : Account × Account). LiesFor v.side (Some line) x.0 x.1) (λ i. (sym a.0 i, sym a.1 i)) (lies v.side line own peer few e),
     subst (Grows v.own) (sym a.0) grows,
     inl a.1,
     told,
-    noted v.log v.side line few notes,
   ),
   a.0,
 )
@@ -105,19 +85,14 @@ module _ (table : TableId) (v : Part) (peer : Account) (line line' : Lined) (fou
   abbrev was : Ends k line own peer
   was = ends k line own peer found.few found.lies
 
-  abbrev noted_now : BothOf v.log k line
-  noted_now = noted_ends v.log k line found.few found.notes
-
   -- the peer's end stays, and what this side sent
-  peer_same : line'.rows ≡ line.rows → line'.depth ≡ line.depth → end_of line' (1 - k) ≡ end_of line (1 - k) → (own' : Account) → own.sent ≡ own'.sent → own.sent_notes ≡ own'.sent_notes
-      → IsEndBy line' (end_of line' (1 - k)) peer own'
-  peer_same rows depth same own' sent notes = record {
+  peer_same : line'.rows ≡ line.rows → line'.depth ≡ line.depth → end_of line' (1 - k) ≡ end_of line (1 - k) → (own' : Account) → own.sent ≡ own'.sent → IsEndBy line' (end_of line' (1 - k)) peer own'
+  peer_same rows depth same own' sent = record {
     rows = rows ∙ was.1.rows;
     depth = depth ∙ was.1.depth;
     state = ap (λ (x : LineEnd). x.state) same ∙ was.1.state;
     counts = ap (λ (x : LineEnd). x.counts) same ∙ was.1.counts;
     waits = subst (λ (x : List Message × LineEnd). IsDirection number x.0 peer.got (waiting x.1)) (λ i. (sent i, sym same i)) was.1.waits;
-    notes = sym notes ∙ was.1.notes ∙ ap (λ (x : LineEnd). peer.got_notes ++ beside x) (sym same);
     drained = ap is_drained same ∙ was.1.drained;
   }
 
@@ -150,7 +125,6 @@ module _ (table : TableId) (v : Part) (peer : Account) (line line' : Lined) (fou
   -- where the line stayed as it was
   kept : line' ≡ line → IsSettled (holding v peer) line' × (own_by (holding v peer) line' ≡ own)
   kept same = settled_so v peer own line' found.few (subst (λ (l : Lined). Ends k l own peer) (sym same) was) (omega arith, omega arith, λ p. p) found.told
-      (subst (λ (l : Lined). BothOf v.log k l) (sym same) noted_now)
 
   only_saw : line' ≡ line → OnlySaw (line_view table v) seen
   only_saw same = (seen_is own (kept same).1, saw_no_less)
@@ -162,12 +136,12 @@ module _ (table : TableId) (v : Part) (peer : Account) (line line' : Lined) (fou
   step_by : (tag side : ℕ) (next : Option ℕ) → allowed line.rows (end_of line k).state tag side ≡ next → allowed own.rows own.state tag side ≡ next
   step_by tag side next e = (λ i. allowed (sym was.0.rows i) (sym was.0.state i) tag side) ∙ e
 
-  module _ (note : Option Noted) (of : IsOf v.log note) (tag : ℕ) (blocks : ArrayVec ℕ) where
+  module _ (tag : ℕ) (blocks : ArrayVec ℕ) where
     full : length (waiting (end_of line (1 - k))) ≡ line.depth → v.told.taken + own.depth ≤ length own.sent
     full e = let sent = ap length was.1.waits.0 in let deep = was.0.depth in let told = found.told.1 in omega (arith, length-append peer.got (waiting (end_of line (1 - k))))
 
-    pub put_done : (r : Result ℕ Unsent) → PutsOn line line' k note tag blocks r → OnErr r (line' ≡ line)
-        → IsSettled (holding v peer) line' × PutsBy (line_view table v) seen note tag blocks r × OnErr r (OnlySaw (line_view table v) seen)
+    pub put_done : (r : Result ℕ Unsent) → PutsOn line line' k tag blocks r → OnErr r (line' ≡ line)
+        → IsSettled (holding v peer) line' × PutsBy (line_view table v) seen tag blocks r × OnErr r (OnlySaw (line_view table v) seen)
     put_done (Ok n) p _ =
         let m : Message = message n tag blocks in
         let o = was.0 in
@@ -176,7 +150,7 @@ module _ (table : TableId) (v : Part) (peer : Account) (line line' : Lined) (fou
         let is_next : n ≡ suc (length own.sent) = r.0 ∙ ap (λ (c : Counts). suc c.put) o.counts in
         let longer : length (own.sent ++ m ∷ []) ≡ suc (length own.sent) = omega (arith, length_push own.sent m) in
         let numbered = numbers_join number 0 own.sent m e.waits.1 (is_next ∙ ap suc (omega arith)) in
-        let own' : Account = record own { sent = own.sent ++ m ∷ []; sent_notes = own.sent_notes ++ note ∷ []; state = (end_of line' k).state } in
+        let own' : Account = record own { sent = own.sent ++ m ∷ []; state = (end_of line' k).state } in
         let step = step_by tag k (Some own'.state) r.4.1 in
         let counts : counts_in own' ≡ one_put (counts_in own) = λ i. record { put = longer i; taken = length own.got; shut = own.shut } in
         let ends' : Ends k line' own' peer = (
@@ -186,7 +160,6 @@ module _ (table : TableId) (v : Part) (peer : Account) (line line' : Lined) (fou
             state = refl;
             counts = r.1 ∙ ap one_put o.counts ∙ sym counts;
             waits = subst (IsDirection number peer.sent own.got) (sym p.waits) o.waits;
-            notes = o.notes ∙ ap (λ l. own.got_notes ++ l) (sym p.notes);
             drained = (λ i. (r.1 i).shut && is_nothing (p.waits i)) ∙ o.drained;
           },
           record {
@@ -195,18 +168,14 @@ module _ (table : TableId) (v : Part) (peer : Account) (line line' : Lined) (fou
             state = p.state ∙ e.state;
             counts = p.counts ∙ e.counts;
             waits = (ap (λ l. l ++ m ∷ []) e.waits.0 ∙ append_assoc peer.got (waiting (end_of line (1 - k))) (m ∷ []) ∙ ap (λ l. peer.got ++ l) (sym r.4.0), numbered);
-            notes = ap (λ l. l ++ note ∷ []) e.notes ∙ append_assoc peer.got_notes (beside (end_of line (1 - k))) (note ∷ []) ∙ ap (λ l. peer.got_notes ++ l) (sym r.4.2);
             drained = undrained (end_of line' (1 - k)) (ap (λ (c : Counts). c.shut) p.counts ∙ r.3) ∙ sym (undrained (end_of line (1 - k)) r.3) ∙ e.drained;
           },
         ) in
-        let s = settled_so v peer own' line' found.few ends' (omega arith, omega arith, λ q. q) found.told (
-          subst (AllOf v.log) (sym p.notes) noted_now.0,
-          subst (AllOf v.log) (sym r.4.2) (all_push v.log (beside (end_of line (1 - k))) note noted_now.1 of),
-        ) in
+        let s = settled_so v peer own' line' found.few ends' (omega arith, omega arith, λ q. q) found.told in
         let unshut = saw_open r.3 in
-        let so : PutsBy (line_view table v) (record (line_view table (record v { own = own' })) { peer_shut = saw }) note tag blocks (Ok n) =
+        let so : PutsBy (line_view table v) (record (line_view table (record v { own = own' })) { peer_shut = saw }) tag blocks (Ok n) =
         (is_next, counts, subst IsSome (sym step) refl, unshut, (step, (λ i. record (line_view table (record v { own = own' })) { peer_shut = (unshut.1 ∙ sym unshut.0) i }), numbered)) in
-        (s.0, subst (λ (x : LineView). PutsBy (line_view table v) x note tag blocks (Ok n)) (sym (seen_is own' s.1)) so, tt)
+        (s.0, subst (λ (x : LineView). PutsBy (line_view table v) x tag blocks (Ok n)) (sym (seen_is own' s.1)) so, tt)
     put_done (Err (Protocol back)) p same = ((kept same).0, (p.put.0, same_counts same, step_by tag k None p.put.2), only_saw same)
     put_done (Err (PeerClosed back)) p same = ((kept same).0, (p.put.0, same_counts same, subst IsSome (sym (step_by tag k _ refl)) p.put.2, saw_shut p.put.3), only_saw same)
     put_done (Err (Full back)) p same = (
@@ -232,43 +201,30 @@ module _ (table : TableId) (v : Part) (peer : Account) (line line' : Lined) (fou
   found_none : line' ≡ line → waiting (end_of line k) ≡ [] → (v.told.put ≤ length own.got) × (own.shut ≡ true → seen.drained ≡ true)
   found_none same e = (emptied e, λ closed. ap (λ (a : Account). a.drained) (kept same).1 ∙ emptied_drained e closed)
 
-  pub take_done : (heard : Option Noted) (r : Result Message Refused) → TakesOn line line' k heard r → OnErr r (line' ≡ line)
-      → IsSettled (holding v peer) line' × TakesBy (line_view table v) seen heard r × OnErr r (OnlySaw (line_view table v) seen) × OnOk r (IsOf v.log heard)
-  take_done heard (Ok m) t _ =
+  pub take_done : (r : Result Message Refused) → TakesOn line line' k r → OnErr r (line' ≡ line)
+      → IsSettled (holding v peer) line' × TakesBy (line_view table v) seen r × OnErr r (OnlySaw (line_view table v) seen)
+  take_done (Ok m) t _ =
       let o = was.0 in
       let r = t.taken in
-      let own' : Account = record own { got = own.got ++ m ∷ []; got_notes = own.got_notes ++ heard ∷ []; state = (end_of line' k).state; drained = is_drained (end_of line' k) } in
+      let own' : Account = record own { got = own.got ++ m ∷ []; state = (end_of line' k).state; drained = is_drained (end_of line' k) } in
       let longer : length (own.got ++ m ∷ []) ≡ suc (length own.got) = omega (arith, length_push own.got m) in
       let counts : counts_in own' ≡ one_taken (counts_in own) = λ i. record { put = length own.sent; taken = longer i; shut = own.shut } in
       let split : peer.sent ≡ (own.got ++ m ∷ []) ++ waiting (end_of line' k) = o.waits.0 ∙ ap (λ l. own.got ++ l) r.2.0 ∙ sym (append_assoc own.got (m ∷ []) (waiting (end_of line' k))) in
-      let split_notes : peer.sent_notes ≡ (own.got_notes ++ heard ∷ []) ++ beside (end_of line' k) =
-      o.notes ∙ ap (λ l. own.got_notes ++ l) r.2.2 ∙ sym (append_assoc own.got_notes (heard ∷ []) (beside (end_of line' k))) in
-      let notes : AllOf v.log (heard ∷ beside (end_of line' k)) = subst (AllOf v.log) r.2.2 noted_now.0 in
       let ends' : Ends k line' own' peer = (
-        record {
-          rows = t.rules.0 ∙ o.rows;
-          depth = t.rules.1 ∙ o.depth;
-          state = refl;
-          counts = r.1 ∙ ap one_taken o.counts
-              ∙ sym counts;
-          waits = (split, o.waits.1);
-          notes = split_notes;
-          drained = refl;
-        },
-        peer_same t.rules.0 t.rules.1 t.peer own' refl refl,
+        record { rows = t.rules.0 ∙ o.rows; depth = t.rules.1 ∙ o.depth; state = refl; counts = r.1 ∙ ap one_taken o.counts ∙ sym counts; waits = (split, o.waits.1); drained = refl },
+        peer_same t.rules.0 t.rules.1 t.peer own' refl,
       ) in
-      let s = settled_so v peer own' line' found.few ends' (omega arith, omega arith, λ q. q) found.told
-      (notes.1, subst (λ (x : LineEnd). AllOf v.log (beside x)) (sym t.peer) noted_now.1) in
+      let s = settled_so v peer own' line' found.few ends' (omega arith, omega arith, λ q. q) found.told in
       let numbered = numbers_before number 0 (own.got ++ m ∷ []) (waiting (end_of line' k)) (subst (AreNumberedFrom number 0) split o.waits.1) in
       let waited : own.drained ≡ false = sym o.drained ∙ ap (λ l. (end_of line k).counts.shut && is_nothing l) r.2.0 ∙ and_right (end_of line k).counts.shut false refl in
-      let so : TakesBy (line_view table v) (record (line_view table (record v { own = own' })) { peer_shut = saw }) heard (Ok m) =
+      let so : TakesBy (line_view table v) (record (line_view table (record v { own = own' })) { peer_shut = saw }) (Ok m) =
       (r.0 ∙ ap (λ (c : Counts). suc c.taken) o.counts, counts, (step_by m.tag (1 - k) (Some own'.state) r.2.1, refl, saw_no_less, numbered, waited)) in
-      (s.0, subst (λ (x : LineView). TakesBy (line_view table v) x heard (Ok m)) (sym (seen_is own' s.1)) so, tt, notes.0)
-  take_done heard (Err (refused.PeerClosed back)) t same = ((kept same).0, (t.taken.0, same_counts same, found_none same t.taken.2, saw_shut t.taken.3), only_saw same, tt)
-  take_done heard (Err refused.Empty) t same = ((kept same).0, (same_counts same, found_none same t.taken.1, saw_open t.taken.2), only_saw same, tt)
-  take_done heard (Err refused.OutOfMemory) t same = absurd t.taken
-  take_done heard (Err refused.BadSize) t same = absurd t.taken
-  take_done heard (Err refused.NoChannel) t same = absurd t.taken
+      (s.0, subst (λ (x : LineView). TakesBy (line_view table v) x (Ok m)) (sym (seen_is own' s.1)) so, tt)
+  take_done (Err (refused.PeerClosed back)) t same = ((kept same).0, (t.taken.0, same_counts same, found_none same t.taken.2, saw_shut t.taken.3), only_saw same)
+  take_done (Err refused.Empty) t same = ((kept same).0, (same_counts same, found_none same t.taken.1, saw_open t.taken.2), only_saw same)
+  take_done (Err refused.OutOfMemory) t same = absurd t.taken
+  take_done (Err refused.BadSize) t same = absurd t.taken
+  take_done (Err refused.NoChannel) t same = absurd t.taken
 
   pub shut_done : Shuts line line' k → IsSettled (holding v peer) line' × ShutsBy (line_view table v) seen
   shut_done t =
@@ -284,13 +240,11 @@ module _ (table : TableId) (v : Part) (peer : Account) (line line' : Lined) (fou
           counts = t.shut
               ∙ ap now_shut o.counts;
           waits = subst (IsDirection number peer.sent own.got) (sym t.waits) o.waits;
-          notes = o.notes ∙ ap (λ l. own.got_notes ++ l) (sym t.notes);
           drained = refl;
         },
-        peer_same t.rules.0 t.rules.1 t.peer own' refl refl,
+        peer_same t.rules.0 t.rules.1 t.peer own' refl,
       ) in
-      let s = settled_so v peer own' line' found.few ends' (omega arith, omega arith, λ _. refl) found.told
-      (subst (AllOf v.log) (sym t.notes) noted_now.0, subst (λ (x : LineEnd). AllOf v.log (beside x)) (sym t.peer) noted_now.1) in
+      let s = settled_so v peer own' line' found.few ends' (omega arith, omega arith, λ _. refl) found.told in
       (s.0, (seen_is own' s.1, saw_no_less, still))
 
 pub has_word : (a b : TableId) → a ≡ b → a.words ≡ 16 → 0 < b.words

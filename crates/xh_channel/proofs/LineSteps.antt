@@ -1,11 +1,18 @@
 -- Each step on a line's word keeps the rule.
-use Rattle.xh_channel.proofs.Common.{Account, Allows, Counts, Grows, IsEndBy, IsNoted, IsSettled, Laid, LiesFor, LineEnd, Lined, List, Me, None, Option, Part, Some, [], and_parts, ap, append-nil}
-use Rattle.xh_channel.proofs.Common.{arith, carried_after, either, eq-eqb, eqb, eqb-true, exchanged, false, get_elem?, gives, holding, inl, inr, is_nothing, keeps, map, message_of, ne_eqb}
-use Rattle.xh_channel.proofs.Common.{no_counts, none, note_of, or_cases, put_back, refl, set, slice_index, some, step, subst, suc, sym, takes, true, true≢false, waiting, zero, ℕ, ⊎_elim, ◌++◌}
+use Rattle.xh_channel.proofs.Common.{Account, Allows, Counts, Grows, IsEndBy, IsSettled, LiesFor, LineEnd, Lined, List, Me, None, Option, Part, Some, [], and_parts, ap, append-nil}
+use Rattle.xh_channel.proofs.Common.{arith, carried_after, either, eq-eqb, eqb, eqb-true, exchanged, false, get_elem?, gives, holding, inl, inr, is_nothing, keeps, ne_eqb}
+use Rattle.xh_channel.proofs.Common.{no_counts, none, or_cases, put_back, refl, set, slice_index, some, step, subst, suc, sym, takes, true, true≢false, waiting, zero, ℕ, ⊎_elim, ◌++◌}
 use Rattle.xh_channel.proofs.Common.{◌-◌, ◌||◌, ◌∙◌, ◌∷◌, ◌≡◌, ◌≢◌, ◌⊎◌}
 use mathlib.Core.Option as maybe
 use Rattle.xh_channel.specs.inner.LineRule.{Compared, Fits, IsHome, IsOut, IsTaken, IsTold, Kept, Lies, Locked, Owns, Settled, Truth, by, counts_in, no_account, no_part, own_by, peer_by, settled}
 use Rattle.xh_channel.proofs.Views.{every_set}
+use Rattle.std.proofs.Common.{◌≤◌, max, length}
+use Rattle.std.proofs.Common.{replicate}
+use Rattle.atomic_table.specs.Table.{Splits, Joins, opening}
+use Rattle.atomic_table.proofs.Lists.{at_set}
+use Rattle.xh_channel.specs.declared.message.Message.{Message}
+use Rattle.xh_channel.specs.inner.LineRule.{both_sides, low_side, high_side, joined, telling, hearing}
+use Rattle.xh_channel.proofs.Views.{every_two, every_snoc, one_view}
 
 abbrev S : Type 0
 S = Option Lined
@@ -33,7 +40,7 @@ held_by t h = record t { holder = h }
 not_holder : (id j : ℕ) → j ≢ id → eqb (suc id) (suc j) ≡ false
 not_holder id j other = ne_eqb (suc id) (suc j) (λ e. other (omega arith))
 
-pub no_holder : (j : ℕ) → eqb 0 (suc j) ≡ false
+no_holder : (j : ℕ) → eqb 0 (suc j) ≡ false
 no_holder j = ne_eqb 0 (suc j) (λ e. omega arith)
 
 pub locks : (slots id : ℕ) (me : M) (f : ℕ → ℕ) (a b : ℕ) → ((n : ℕ) → f n ≢ 0) → me.0.owns ≡ true
@@ -57,25 +64,10 @@ locks slots id me f a b out owns s h long at small =
       (
         t',
         inr (m.0, others, v.side, ap (λ l. set l 0 next) words ∙ ap (λ n. n ∷ others) m.1, ap (λ l. set l 0 none) homes, ap suc (sym o.seat)),
-        every_set (Fits t') s.views id w (
-          (λ _. record { log = o.log; peer_log = o.peer_log; seat = o.seat; own = o.own; holds = sym (eq-eqb (suc id) (suc id) refl); knows = λ _. refl; both = λ p. ((o.both p).0, refl) }),
-          (h.2 id v at).1,
-          (h.2 id v at).2,
-        )
-            (λ j u other e. let g = h.2 j u e in (
-              (λ p. let x = g.0 p in record {
-                log = x.log;
-                peer_log = x.peer_log;
-                seat = x.seat;
-                own = x.own;
-                holds = none_holds j u x
-                    ∙ sym (not_holder id j other);
-                knows = x.knows;
-                both = x.both;
-              }),
-              g.1,
-              g.2,
-            )),
+        every_set (Fits t') s.views id w
+            ((λ _. record { seat = o.seat; own = o.own; holds = sym (eq-eqb (suc id) (suc id) refl); knows = λ _. refl; both = λ p. ((o.both p).0, refl) }), (h.2 id v at).1, (h.2 id v at).2)
+            (λ j u other e. let g = h.2 j u e in
+            ((λ p. let x = g.0 p in record { seat = x.seat; own = x.own; holds = none_holds j u x ∙ sym (not_holder id j other); knows = x.knows; both = x.both }), g.1, g.2)),
       ),
       (
         (λ _. (
@@ -84,8 +76,7 @@ locks slots id me f a b out owns s h long at small =
           refl,
           subst (λ own. LiesFor v.side line own peer) o.own (lies_turned v.side line t.low t.high home.5),
           (h.2 id v at).1,
-          (λ p. (o.both p).1),
-          subst (λ log. IsNoted log line) (sym o.log) home.6,
+          λ p. (o.both p).1,
         )),
         λ ne. absurd (ne (ap (λ l. slice_index l 0) words)),
       ),
@@ -132,7 +123,7 @@ elsewhere (suc k) (suc j) low high a b own peer n p = absurd (n refl)
 elsewhere zero (suc j) low high a b own peer n p = ⊎_elim (λ e. e) (λ e. absurd (n e)) p
 elsewhere (suc k) zero low high a b own peer n p = ⊎_elim (λ e. e) (λ e. absurd (n e)) p
 
-pub one_seat : (k j low high id : ℕ) → by j low high ≡ id → by j high low ≡ id → by k low high ≡ id
+one_seat : (k j low high id : ℕ) → by j low high ≡ id → by j high low ≡ id → by k low high ≡ id
 one_seat zero zero low high id p q = p
 one_seat zero (suc j) low high id p q = q
 one_seat (suc k) zero low high id p q = q
@@ -156,7 +147,7 @@ settles slots id me line front owns holds is s h long at small =
     let slot : (x : maybe.Option S) × (s.homes ≡ x ∷ []) = ⊎_elim (λ (x : IsHome t s.words s.homes). (some x.1, x.3)) (λ (x : IsOut t s.words s.homes). (none, x.4)) h.1 in
     let low : Account = by k own peer in
     let high : Account = by k peer own in
-    let t' : Truth = record t { holder = 0; low = low; high = high } in
+    let t' : Truth = record { low_seat = t.low_seat; high_seat = t.high_seat; holder = 0; low = low; high = high } in
     let w : Part = record v { holds = false; own = own; peer = peer; told = told } in
     let grow : Grows t.low low
     × Grows t.high high = both_grow k t.low t.high own peer (subst (λ a. Grows a own) (sym o.own) is.1) (subst (λ a. Grows a peer) (sym (o.knows holds)) (omega arith, omega arith, λ p. p)) in
@@ -167,26 +158,15 @@ settles slots id me line front owns holds is s h long at small =
       tt,
       (
         t',
-        inl (others.0, Some line, ap (λ l. set l 0 0) others.2, (λ i. put_back (slot.1 i) (front i)), refl, is.0, subst (λ log. IsNoted log (Some line)) o.log is.4),
+        inl (others.0, Some line, ap (λ l. set l 0 0) others.2, (λ i. put_back (slot.1 i) (front i)), refl, is.0),
         every_set (Fits t') s.views id w (
-          (λ _. record {
-            log = o.log;
-            peer_log = o.peer_log;
-            seat = o.seat;
-            own = own_back k own peer;
-            holds = sym (no_holder id);
-            knows = λ p. absurd (true≢false (sym p));
-            both = λ p.
-                ((o.both p).0, peer_back k own peer);
-          }),
+          (λ _. record { seat = o.seat; own = own_back k own peer; holds = sym (no_holder id); knows = λ p. absurd (true≢false (sym p)); both = λ p. ((o.both p).0, peer_back k own peer) }),
           subst (IsTold told) (sym (peer_back k own peer)) is_told,
           told_by_side k v.peer_told t.low t.high low high grow.0 grow.1 mine.2,
         )
             (λ j u other e. let f = h.2 j u e in (
               (λ p. let x : Owns t j u = f.0 p in let apart : by u.side t.low_seat t.high_seat ≢ by k t.low_seat t.high_seat = λ q. other (sym x.seat ∙ q ∙ o.seat) in
                   let idle : u.holds ≡ false = x.holds ∙ ap (λ n. eqb n (suc j)) holder ∙ not_holder id j other in record {
-                    log = x.log;
-                    peer_log = x.peer_log;
                     seat = x.seat;
                     own = elsewhere k u.side t.low_seat t.high_seat t.low t.high own peer apart same ∙ x.own;
                     holds = idle ∙ sym (no_holder j);
@@ -200,41 +180,37 @@ settles slots id me line front owns holds is s h long at small =
       ap (λ l. (w, carried_after l gives)) front ∙ ap (λ l. (settled v l, [])) (sym front),
     )
 
-pub holds_it : (t : Truth) (id : ℕ) (v : Part) → Owns t id v → t.holder ≡ suc id → v.holds ≡ true
+holds_it : (t : Truth) (id : ℕ) (v : Part) → Owns t id v → t.holder ≡ suc id → v.holds ≡ true
 holds_it t id v o e = o.holds ∙ ap (λ n. eqb n (suc id)) e ∙ eq-eqb (suc id) (suc id) refl
 
-pub nothing_told : (a : Account) → IsTold no_counts a
+nothing_told : (a : Account) → IsTold no_counts a
 nothing_told a = (omega arith, omega arith, λ p. absurd (true≢false (sym p)))
 
-pub all_told : (a : Account) → IsTold (counts_in a) a
+all_told : (a : Account) → IsTold (counts_in a) a
 all_told a = (omega arith, omega arith, λ p. p)
 
-pub no_fits : (t : Truth) (id : ℕ) → Fits t id no_part
+no_fits : (t : Truth) (id : ℕ) → Fits t id no_part
 no_fits t id = ((λ p. absurd (true≢false (sym p))), nothing_told t.high, nothing_told t.low)
 
 -- where one seat has both accounts and doesn't hold the line, that is at home
-pub at_home : (t : Truth) (id : ℕ) (v : Part) (words : List ℕ) (homes : List (maybe.Option S)) → IsHome t words homes ⊎ IsOut t words homes → Owns t id v → v.both ≡ true → v.holds ≡ false
+at_home : (t : Truth) (id : ℕ) (v : Part) (words : List ℕ) (homes : List (maybe.Option S)) → IsHome t words homes ⊎ IsOut t words homes → Owns t id v → v.both ≡ true → v.holds ≡ false
     → IsHome t words homes
 at_home t id v words homes is o both idle = ⊎_elim (λ x. x)
     (λ (x : IsOut t words homes). absurd (true≢false (sym (holds_it t id v o (x.5 ∙ ap suc (one_seat x.2 v.side t.low_seat t.high_seat id o.seat (o.both both).0))) ∙ idle))) is
 
-emptied : (xs : List Laid) → is_nothing (map message_of xs) ≡ true → xs ≡ []
+emptied : (ms : List Message) → is_nothing ms ≡ true → ms ≡ []
 emptied [] e = refl
-emptied (x ∷ xs) e = absurd (true≢false (sym e))
+emptied (m ∷ ms) e = absurd (true≢false (sym e))
 
 end_taken : (line : Lined) (end : LineEnd) (own peer : Account) → IsEndBy line end own peer → IsTaken peer own
 end_taken line end own peer is = (
-  (end.waiting.items, is.waits, is.notes),
+  (waiting end, is.waits),
   λ p. let both = and_parts end.counts.shut (is_nothing (waiting end)) (is.drained ∙ p) in
-      let none = emptied end.waiting.items both.1 in (
-        ap (λ (c : Counts). c.shut) (sym is.counts) ∙ both.0,
-        sym (append-nil own.got) ∙ ap (λ l. own.got ++ map message_of l) (sym none) ∙ sym is.waits.0,
-        sym (append-nil own.got_notes) ∙ ap (λ l. own.got_notes ++ map note_of l) (sym none) ∙ sym is.notes,
-      ),
+      (ap (λ (c : Counts). c.shut) (sym is.counts) ∙ both.0, sym (append-nil own.got) ∙ ap (λ l. own.got ++ l) (sym (emptied (waiting end) both.1)) ∙ sym is.waits.0),
 )
 
 nothing_taken : IsTaken no_account no_account
-nothing_taken = (([], (refl, tt), refl), λ p. absurd (true≢false (sym p)))
+nothing_taken = (([], (refl, tt)), λ p. absurd (true≢false (sym p)))
 
 all_taken : (line : S) (low high : Account) → Lies line low high → IsTaken low high × IsTaken high low
 all_taken None low high l = subst (λ (x : Account × Account). IsTaken x.0 x.1 × IsTaken x.1 x.0) (λ i. (sym l.0 i, sym l.1 i)) (nothing_taken, nothing_taken)
@@ -259,9 +235,9 @@ compares slots id me owns both idle s h long at small =
       tt,
       (
         t,
-        inl (home.0, home.1, ap (λ l. set l 0 (slice_index l 0)) home.2, home.3, home.4, home.5, home.6),
+        inl (home.0, home.1, ap (λ l. set l 0 (slice_index l 0)) home.2, home.3, home.4, home.5),
         every_set (Fits t) s.views id w (
-          (λ _. record { log = o.log; peer_log = o.peer_log; seat = o.seat; own = o.own; holds = o.holds; knows = o.knows; both = o.both }),
+          (λ _. record { seat = o.seat; own = o.own; holds = o.holds; knows = o.knows; both = o.both }),
           subst (IsTold w.told) (sym peer) (all_told v.peer),
           subst (IsTold w.peer_told) (sym o.own) (all_told v.own),
         )
@@ -274,4 +250,133 @@ compares slots id me owns both idle s h long at small =
         subst (λ (x : Account × Account). IsTaken x.0 x.1) (λ i. (o.own i, peer i)) taken.0,
         subst (λ (x : Account × Account). IsTaken x.0 x.1) (λ i. (peer i, o.own i)) taken.1,
       ),
+    )
+
+pub sides : (id : ℕ) (v : Part) → v.side ≡ 0 → v.owns ≡ true → v.both ≡ true → v.holds ≡ false → Splits Kept id v (low_side v) (high_side v)
+sides id v side owns both idle s h at =
+    let t : Truth = h.0 in
+    let mine = h.2 id v at in
+    let o : Owns t id v = mine.0 owns in
+    let home : IsHome t s.words s.homes = at_home t id v s.words s.homes h.1 o both idle in
+    let low : Part = low_side v in
+    let high : Part = high_side v in
+    let vs : List Part = set s.views id low in
+    let new : ℕ = length vs in
+    let t' : Truth = record t { high_seat = new } in
+    let low_seat : t.low_seat ≡ id = subst (λ (n : ℕ). by n t.low_seat t.high_seat ≡ id) side o.seat in (
+      t',
+      inl home,
+      every_snoc (Fits t') vs high (
+        (λ _. record {
+          seat = refl;
+          own = subst (λ (n : ℕ). by n t.high t.low ≡ v.peer) side (o.both both).1;
+          holds = sym (ap (λ n. eqb n (suc new)) home.4 ∙ no_holder new);
+          knows = λ p. absurd (true≢false (sym p));
+          both = λ p. absurd (true≢false (sym p));
+        }),
+        subst (λ (n : ℕ). IsTold v.peer_told (by n t.low t.high)) side mine.2,
+        subst (λ (n : ℕ). IsTold v.told (by n t.high t.low)) side mine.1,
+      )
+          (every_set (Fits t') s.views id low (
+            (λ _. record {
+              seat = subst (λ (n : ℕ). by n t.low_seat new ≡ id) (sym side) low_seat;
+              own = o.own;
+              holds = o.holds;
+              knows = o.knows;
+              both = λ p. absurd (true≢false (sym p));
+            }),
+            mine.1,
+            mine.2,
+          )
+          (λ j u other e. let f = h.2 j u e in
+          ((λ p. absurd (other (sym (f.0 p).seat ∙ one_seat u.side v.side t.low_seat t.high_seat id o.seat (o.both both).0))), f.1, f.2))),
+    )
+
+seats_are : (k low high a b : ℕ) → low ≡ a → high ≡ b → (by k low high ≡ a) ⊎ (by k low high ≡ b)
+seats_are zero low high a b p q = inl p
+seats_are (suc k) low high a b p q = inr q
+
+pub joins : (id : ℕ) (v : Part) (other : ℕ) (w : Part) → v.side ≡ 0 → w.side ≡ 1 → v.owns ≡ true → w.owns ≡ true → v.holds ≡ false → w.holds ≡ false
+    → Joins Kept id v other w (joined v w) no_part
+joins id v other w side side' owns owns' idle idle' s h at two at' =
+    let t : Truth = h.0 in
+    let both : Part = joined v w in
+    let was : get_elem? s.views other ≡ some w = ⊎_elim (λ x. absurd (two x.0)) (λ x. x.1) (at_set s.views id other both w at') in
+    let mine = h.2 id v at in
+    let theirs = h.2 other w was in
+    let o : Owns t id v = mine.0 owns in
+    let x : Owns t other w = theirs.0 owns' in
+    let low_seat : t.low_seat ≡ id = subst (λ (n : ℕ). by n t.low_seat t.high_seat ≡ id) side o.seat in
+    let high_seat : t.high_seat ≡ other = subst (λ (n : ℕ). by n t.low_seat t.high_seat ≡ other) side' x.seat in
+    let home : IsHome t s.words s.homes = ⊎_elim (λ y. y)
+    (λ (y : IsOut t s.words s.homes). absurd (⊎_elim
+    (λ e. true≢false (sym (holds_it t id v o (y.5 ∙ ap suc e)) ∙ idle))
+    (λ e. true≢false (sym (holds_it t other w x (y.5 ∙ ap suc e)) ∙ idle'))
+    (seats_are y.2 t.low_seat t.high_seat id other low_seat high_seat)))
+    h.1 in
+    let t' : Truth = record t { high_seat = id } in (
+      t',
+      inl home,
+      every_two (Fits t') s.views id other both no_part (
+        (λ _. record {
+          seat = subst (λ (n : ℕ). by n t.low_seat id ≡ id) (sym side) low_seat;
+          own = o.own;
+          holds = o.holds;
+          knows = λ p. absurd (true≢false (sym p ∙ idle));
+          both = λ _. subst (λ (n : ℕ). (by n id t.low_seat ≡ id) × (by n t.high t.low ≡ w.own)) (sym side) (refl, subst (λ (n : ℕ). by n t.low t.high ≡ w.own) side' x.own);
+        }),
+        mine.1,
+        subst (λ (n : ℕ). IsTold w.told (by n t.low t.high)) (sym side) (subst (λ (n : ℕ). IsTold w.told (by n t.high t.low)) side' theirs.1),
+      )
+          (no_fits t' other)
+          (λ j u apart far e. let f = h.2 j u e in (
+            (λ p. absurd (⊎_elim (λ q. apart (sym (f.0 p).seat ∙ q)) (λ q. far (sym (f.0 p).seat ∙ q)) (seats_are u.side t.low_seat t.high_seat id other low_seat high_seat))),
+            f.1,
+            f.2,
+          )),
+    )
+
+across : (k : ℕ) (low high : Account) → k ≤ 1 → by (1 - k) high low ≡ by k low high
+across zero low high h = refl
+across (suc zero) low high h = refl
+across (suc (suc k)) low high h = absurd (omega arith)
+
+pub tells : (id : ℕ) (v : Part) → v.owns ≡ true → v.side ≤ 1 → Splits Kept id v v (telling v)
+tells id v owns few s h at =
+    let t : Truth = h.0 in
+    let mine = h.2 id v at in
+    let vs : List Part = set s.views id v in
+    let is = across v.side t.low t.high few ∙ (mine.0 owns).own in (
+      t,
+      h.1,
+      every_snoc (Fits t) vs (telling v) ((λ p. absurd (true≢false (sym p))), subst (IsTold (counts_in v.own)) (sym is) (all_told v.own), nothing_told (by (1 - v.side) t.low t.high))
+          (every_set (Fits t) s.views id v mine (λ j u _ e. h.2 j u e)),
+    )
+
+pub told_either : (c d : Counts) (a : Account) → IsTold c a → IsTold d a → IsTold (record { put = max c.put d.put; taken = max c.taken d.taken; shut = c.shut || d.shut }) a
+told_either c d a x y = let p = x.0 in let q = y.0 in let r = x.1 in let z = y.1 in (omega arith, omega arith, λ e. ⊎_elim x.2 y.2 (or_cases c.shut d.shut e))
+
+pub hears : (id : ℕ) (v : Part) (other : ℕ) (w : Part) → w.side ≡ v.side → Joins Kept id v other w (hearing v w) no_part
+hears id v other w same s h at two at' =
+    let t : Truth = h.0 in
+    let both : Part = hearing v w in
+    let was : get_elem? s.views other ≡ some w = ⊎_elim (λ x. absurd (two x.0)) (λ x. x.1) (at_set s.views id other both w at') in
+    let mine = h.2 id v at in
+    let theirs = subst (λ (n : ℕ). IsTold w.told (by n t.high t.low)) same (h.2 other w was).1 in (
+      t,
+      h.1,
+      every_two (Fits t) s.views id other both no_part (
+        (λ p. let o : Owns t id v = mine.0 p in record { seat = o.seat; own = o.own; holds = o.holds; knows = o.knows; both = o.both }),
+        told_either v.told w.told (by v.side t.high t.low) mine.1 theirs,
+        mine.2,
+      )
+          (no_fits t other) (λ j u _ _ e. h.2 j u e),
+    )
+
+pub begins : Kept (opening (replicate 16 0) (replicate 1 None) both_sides)
+begins =
+    let t : Truth = record { low_seat = 0; high_seat = 0; holder = 0; low = no_account; high = no_account } in (
+      t,
+      inl (replicate 15 0, None, refl, refl, refl, (refl, refl)),
+      one_view (Fits t) both_sides ((λ _. record { seat = refl; own = refl; holds = refl; knows = λ p. absurd (true≢false (sym p)); both = λ _. (refl, refl) }), nothing_told no_account, nothing_told no_account),
     )

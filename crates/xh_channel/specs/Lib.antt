@@ -1,5 +1,4 @@
 pub mod inner
-pub mod Beside
 pub mod Directions
 pub mod Ends
 pub mod LineSeats

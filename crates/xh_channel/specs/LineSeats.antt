@@ -1,35 +1,28 @@
 -- An end's seat at the line of a channel with a contract, as contracts see it, and what its calls do.
-use Rattle.std.specs.Prelude.{◌≡◌, ℕ, ◌+◌, ◌-◌, ◌≤◌, max, Bool, true, false, ◌||◌, List, [], ◌∷◌, ◌++◌, length, map, Option, Some, None, IsSome, Result}
+use Rattle.std.specs.Prelude.{◌≡◌, ℕ, ◌+◌, ◌-◌, ◌≤◌, max, Bool, true, false, ◌||◌, List, [], ◌∷◌, ◌++◌, length, Option, Some, None, IsSome, Result}
 use Rattle.arrayvec.specs.ArrayVec.{ArrayVec}
 use Rattle.atomic_table.specs.Seated.{TableId}
 use Rattle.xh_model.specs.declared.row.Row.{Row}
 use Rattle.xh_model.specs.Rows.{allowed, row_at}
-use Rattle.xh_records.specs.Seats.{Noted}
 use Rattle.xh_channel.specs.declared.counts.Counts.{Counts}
-use Rattle.xh_channel.specs.declared.laid.Laid.{Laid}
 use Rattle.xh_channel.specs.declared.message.Message.{Message}
 use Rattle.xh_channel.specs.declared.refused.Refused.{Refused}
 use Rattle.xh_channel.specs.declared.unsent.Unsent.{Unsent}
-use Rattle.xh_channel.specs.Beside.{message_of, note_of}
 use Rattle.xh_channel.specs.Directions.{WaitsAfter}
 use Rattle.xh_channel.specs.Ends.{Puts, Takes}
 use Rattle.xh_channel.specs.Numbers.{Numbered}
 
--- Its table and its side, and of which log the notes are; the contract's rows and the depth, which is 0 before the line is begun; its state; the messages that it put and took,
--- and what lay beside each; whether it was shut,
+-- Its table and its side; the contract's rows and the depth, which is 0 before the line is begun; its state; the messages that it put and took, whether it was shut,
 -- and whether it is drained: it was shut and nothing waits for it, so nothing comes any more.
 -- Of its peer: whether it saw or was told that it is shut, and how many messages it was told that the peer put and took
 pub record LineView : Type 0 where
   pub table : TableId
   pub side : ℕ
-  pub log : TableId
   pub rows : List Row
   pub depth : ℕ
   pub state : ℕ
   pub sent : List Message
-  pub sent_notes : List (Option Noted)
   pub got : List Message
-  pub got_notes : List (Option Noted)
   pub shut : Bool
   pub drained : Bool
   pub peer_shut : Bool
@@ -50,13 +43,9 @@ counts_at s = record { put = length s.sent; taken = length s.got; shut = s.shut 
 abbrev pub IsBegun : LineView → Type 0
 IsBegun s = 1 ≤ s.depth
 
--- nothing was put and taken
-abbrev pub IsUncarried : LineView → Type 0
-IsUncarried s = (s.sent_notes ≡ []) × (s.got_notes ≡ [])
-
 -- nothing was put, taken or shut, and nothing was told
 abbrev pub IsBlank : LineView → Type 0
-IsBlank s = (s.sent ≡ []) × (s.got ≡ []) × (s.shut ≡ false) × (s.peer_shut ≡ false) × (s.told_put ≡ 0) × (s.told_taken ≡ 0) × (s.drained ≡ false) × IsUncarried s
+IsBlank s = (s.sent ≡ []) × (s.got ≡ []) × (s.shut ≡ false) × (s.peer_shut ≡ false) × (s.told_put ≡ 0) × (s.told_taken ≡ 0) × (s.drained ≡ false)
 
 -- the two seats of a line
 abbrev pub AreAcross : LineView → LineView → Type 0
@@ -70,19 +59,18 @@ begun rows depth s = record s { rows = rows; depth = depth; state = (row_at rows
 abbrev pub next_state : LineView → ℕ → ℕ → Option ℕ
 next_state s tag side = allowed s.rows s.state tag side
 
--- a put: the message went to the back of what was sent with the note beside it, and the state moved by the contract
-abbrev pub PutsBy : LineView → LineView → Option Noted → ℕ → ArrayVec ℕ → Result ℕ Unsent → Type 0
-PutsBy old new note tag =
-    Puts (λ m. (next_state old tag old.side ≡ Some new.state) × (new ≡ record old { sent = old.sent ++ m ∷ []; sent_notes = old.sent_notes ++ note ∷ []; state = new.state }) × Numbered new.sent)
+-- a put: the message went to the back of what was sent, and the state moved by the contract
+abbrev pub PutsBy : LineView → LineView → ℕ → ArrayVec ℕ → Result ℕ Unsent → Type 0
+PutsBy old new tag =
+    Puts (λ m. (next_state old tag old.side ≡ Some new.state) × (new ≡ record old { sent = old.sent ++ m ∷ []; state = new.state }) × Numbered new.sent)
     (next_state old tag old.side ≡ None) (IsSome (next_state old tag old.side))
     (old.told_taken + old.depth ≤ length old.sent) (new.peer_shut ≡ true) ((old.peer_shut ≡ false) × (new.peer_shut ≡ false)) (counts_at old) (counts_at new) tag
 
--- A take: the message and what lay beside it come next after what was taken, which a drained end can't, the state moved by the contract, and it was seen at most that the peer is shut.
+-- A take: the message comes next after what was taken, which a drained end can't, the state moved by the contract, and it was seen at most that the peer is shut.
 -- An end that was shut and finds nothing is drained
-abbrev pub TakesBy : LineView → LineView → Option Noted → Result Message Refused → Type 0
-TakesBy old new heard =
-    Takes (λ m. (next_state old m.tag (1 - old.side) ≡ Some new.state)
-    × (new ≡ record old { got = old.got ++ m ∷ []; got_notes = old.got_notes ++ heard ∷ []; state = new.state; peer_shut = new.peer_shut; drained = new.drained })
+abbrev pub TakesBy : LineView → LineView → Result Message Refused → Type 0
+TakesBy old new =
+    Takes (λ m. (next_state old m.tag (1 - old.side) ≡ Some new.state) × (new ≡ record old { got = old.got ++ m ∷ []; state = new.state; peer_shut = new.peer_shut; drained = new.drained })
     × (old.peer_shut ≡ true → new.peer_shut ≡ true) × Numbered new.got × (old.drained ≡ false))
     ((old.told_put ≤ length old.got) × (old.shut ≡ true → new.drained ≡ true)) (new.peer_shut ≡ true) ((old.peer_shut ≡ false) × (new.peer_shut ≡ false)) (counts_at old) (counts_at new)
 
@@ -102,13 +90,13 @@ told_all s peer = record s { peer_shut = peer.shut; told_put = length peer.sent;
 abbrev pub IsLessTold : LineView → LineView → Type 0
 IsLessTold s peer = (s.told_put ≤ length peer.sent) × (s.told_taken ≤ length peer.got) × (s.peer_shut ≡ true → peer.shut ≡ true)
 
--- what the one took is a prefix of what the other sent, each message with its note
+-- what the one took is a prefix of what the other sent
 abbrev pub IsDelivered : LineView → LineView → Type 0
-IsDelivered from to = (items : List Laid) × WaitsAfter from.sent to.got (map message_of items) × (from.sent_notes ≡ to.got_notes ++ map note_of items)
+IsDelivered from to = (items : List Message) × WaitsAfter from.sent to.got items
 
 -- a drained end was shut, and took all that the other sent
 abbrev pub TookAllOf : LineView → LineView → Type 0
-TookAllOf from to = to.drained ≡ true → (to.shut ≡ true) × (to.got ≡ from.sent) × (to.got_notes ≡ from.sent_notes)
+TookAllOf from to = to.drained ≡ true → (to.shut ≡ true) × (to.got ≡ from.sent)
 
 -- what a seat tells, and what the peer's knows then
 abbrev pub told_on_line : LineView → LineTelling

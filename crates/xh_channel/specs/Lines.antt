@@ -1,26 +1,20 @@
 -- A channel with a contract, as it is lent under its lock.
-use Rattle.std.specs.Prelude.{◌≡◌, ℕ, zero, suc, ◌+◌, ◌-◌, ◌≤◌, Bool, true, false, ◌&&◌, List, [], ◌∷◌, ◌++◌, length, map, Option, Some, None, IsSome, Result}
+use Rattle.std.specs.Prelude.{◌≡◌, ℕ, zero, suc, ◌+◌, ◌-◌, ◌≤◌, Bool, true, false, ◌&&◌, List, [], ◌∷◌, ◌++◌, length, map, Some, None, IsSome, Result}
 use Rattle.arrayvec.specs.ArrayVec.{ArrayVec}
 use Rattle.xh_model.specs.declared.limits.TheConstants.{MAX_DEPTH, MAX_MESSAGES}
 use Rattle.xh_model.specs.declared.row.Row.{Row}
 use Rattle.xh_model.specs.Rows.{allowed, row_at, IsValid, InStep}
 use Rattle.xh_core.specs.Talks.{AreOrderly}
-use Rattle.xh_records.specs.Seats.{Noted}
 use Rattle.xh_channel.specs.declared.message.Message.{Message}
 use Rattle.xh_channel.specs.declared.line_end.LineEnd.{LineEnd}
 use Rattle.xh_channel.specs.declared.refused.Refused.{Refused}
 use Rattle.xh_channel.specs.declared.unsent.Unsent.{Unsent}
-use Rattle.xh_channel.specs.Beside.{message_of, note_of}
 use Rattle.xh_channel.specs.Numbers.{NumberedFrom, tag}
 use Rattle.xh_channel.specs.Ends.{Puts, Takes, no_counts, now_shut}
 
 -- the messages on their way to this end, the front one first
 abbrev pub waiting : LineEnd → List Message
-waiting end = map message_of end.waiting.items
-
--- the notes beside them
-abbrev pub beside : LineEnd → List (Option Noted)
-beside end = map note_of end.waiting.items
+waiting end = end.waiting.items
 
 -- the tags of the messages on their way to this end
 abbrev pub tags : LineEnd → List ℕ
@@ -38,17 +32,17 @@ is_drained end = end.counts.shut && is_nothing (waiting end)
 abbrev pub Follows : LineEnd → LineEnd → Type 0
 Follows own peer = (own.counts.put ≡ peer.counts.taken + length (waiting peer)) × NumberedFrom peer.counts.taken (waiting peer)
 
--- a put by `own` toward `peer`: on success the message is at the back with the note beside it, and the state of `own` moves by the contract
-abbrev pub PutsBetween : List Row → ℕ → ℕ → LineEnd → LineEnd → LineEnd → LineEnd → Option Noted → ℕ → ArrayVec ℕ → Result ℕ Unsent → Type 0
-PutsBetween rows depth side own own' peer peer' note tag =
-    Puts (λ m. (waiting peer' ≡ waiting peer ++ m ∷ []) × (allowed rows own.state tag side ≡ Some own'.state) × (beside peer' ≡ beside peer ++ note ∷ []))
+-- a put by `own` toward `peer`: on success the message is at the back, and the state of `own` moves by the contract
+abbrev pub PutsBetween : List Row → ℕ → ℕ → LineEnd → LineEnd → LineEnd → LineEnd → ℕ → ArrayVec ℕ → Result ℕ Unsent → Type 0
+PutsBetween rows depth side own own' peer peer' tag =
+    Puts (λ m. (waiting peer' ≡ waiting peer ++ m ∷ []) × (allowed rows own.state tag side ≡ Some own'.state))
     (allowed rows own.state tag side ≡ None) (IsSome (allowed rows own.state tag side))
     (length (waiting peer) ≡ depth) (peer.counts.shut ≡ true) (peer.counts.shut ≡ false) own.counts own'.counts tag
 
--- a take by `own`: on success it gives the front message and what lay beside it, the state of `own` allowed `peer` to put it, and that state moves by the contract
-abbrev pub TakesBetween : List Row → ℕ → LineEnd → LineEnd → LineEnd → Option Noted → Result Message Refused → Type 0
-TakesBetween rows side own own' peer heard =
-    Takes (λ m. (waiting own ≡ m ∷ waiting own') × (allowed rows own.state m.tag (1 - side) ≡ Some own'.state) × (beside own ≡ heard ∷ beside own'))
+-- a take by `own`: on success it gives the front message, which the state of `own` allowed `peer` to put, and that state moves by the contract
+abbrev pub TakesBetween : List Row → ℕ → LineEnd → LineEnd → LineEnd → Result Message Refused → Type 0
+TakesBetween rows side own own' peer =
+    Takes (λ m. (waiting own ≡ m ∷ waiting own') × (allowed rows own.state m.tag (1 - side) ≡ Some own'.state))
     (waiting own ≡ []) (peer.counts.shut ≡ true) (peer.counts.shut ≡ false) own.counts own'.counts
 
 -- both ends go by the contract together
@@ -82,7 +76,7 @@ end_of line (suc _) = line.right
 
 -- an end in the first state, which has carried nothing
 abbrev pub IsFresh : List Row → LineEnd → Type 0
-IsFresh rows end = (end.state ≡ (row_at rows 0).state) × (waiting end ≡ []) × (end.counts ≡ no_counts) × (beside end ≡ [])
+IsFresh rows end = (end.state ≡ (row_at rows 0).state) × (waiting end ≡ []) × (end.counts ≡ no_counts)
 
 abbrev pub IsNewLine : List Row → ℕ → Lined → Type 0
 IsNewLine rows depth line = (line.rows ≡ rows) × (line.depth ≡ depth) × IsFresh rows line.left × IsFresh rows line.right
@@ -91,17 +85,16 @@ abbrev pub SameRules : Lined → Lined → Type 0
 SameRules old new = (new.rows ≡ old.rows) × (new.depth ≡ old.depth)
 
 -- a put by a side, which leaves what waits for it, and of its peer the state and the counts
-pub record PutsOn (old new : Lined) (side : ℕ) (note : Option Noted) (tag : ℕ) (blocks : ArrayVec ℕ) (result : Result ℕ Unsent) : Type 0 where
-  pub put : PutsBetween old.rows old.depth side (end_of old side) (end_of new side) (end_of old (1 - side)) (end_of new (1 - side)) note tag blocks result
+pub record PutsOn (old new : Lined) (side tag : ℕ) (blocks : ArrayVec ℕ) (result : Result ℕ Unsent) : Type 0 where
+  pub put : PutsBetween old.rows old.depth side (end_of old side) (end_of new side) (end_of old (1 - side)) (end_of new (1 - side)) tag blocks result
   pub rules : SameRules old new
   pub waits : waiting (end_of new side) ≡ waiting (end_of old side)
-  pub notes : beside (end_of new side) ≡ beside (end_of old side)
   pub counts : (end_of new (1 - side)).counts ≡ (end_of old (1 - side)).counts
   pub state : (end_of new (1 - side)).state ≡ (end_of old (1 - side)).state
 
 -- a take by a side, which leaves its peer
-pub record TakesOn (old new : Lined) (side : ℕ) (heard : Option Noted) (result : Result Message Refused) : Type 0 where
-  pub taken : TakesBetween old.rows side (end_of old side) (end_of new side) (end_of old (1 - side)) heard result
+pub record TakesOn (old new : Lined) (side : ℕ) (result : Result Message Refused) : Type 0 where
+  pub taken : TakesBetween old.rows side (end_of old side) (end_of new side) (end_of old (1 - side)) result
   pub rules : SameRules old new
   pub peer : end_of new (1 - side) ≡ end_of old (1 - side)
 
@@ -110,7 +103,6 @@ pub record Shuts (old new : Lined) (side : ℕ) : Type 0 where
   pub shut : (end_of new side).counts ≡ now_shut (end_of old side).counts
   pub rules : SameRules old new
   pub waits : waiting (end_of new side) ≡ waiting (end_of old side)
-  pub notes : beside (end_of new side) ≡ beside (end_of old side)
   pub state : (end_of new side).state ≡ (end_of old side).state
   pub peer : end_of new (1 - side) ≡ end_of old (1 - side)
 

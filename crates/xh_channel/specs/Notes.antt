@@ -1,8 +1,7 @@
 -- What an end tells its peer, what the peer knows then, and what both ends of a channel show.
-use Rattle.std.specs.Prelude.{◌≡◌, ℕ, ◌+◌, ◌≤◌, max, Bool, true, false, not, cond, ◌||◌, ◌++◌, List, length, map}
+use Rattle.std.specs.Prelude.{◌≡◌, ℕ, ◌+◌, ◌≤◌, max, Bool, true, false, not, cond, ◌||◌, List, length}
 use Rattle.atomic_table.specs.Seated.{TableId}
-use Rattle.xh_channel.specs.declared.laid.Laid.{Laid}
-use Rattle.xh_channel.specs.Beside.{message_of, note_of}
+use Rattle.xh_channel.specs.declared.message.Message.{Message}
 use Rattle.xh_channel.specs.Directions.{WaitsAfter}
 use Rattle.xh_channel.specs.Queues.{Posted}
 
@@ -64,13 +63,12 @@ pub record ArePeers (one other : Posted) : Type 0 where
   pub line : other.line ≡ one.line
   pub contract : other.has_contract ≡ one.has_contract
 
--- What an end saw or was told of its peer is no more than the peer did, what it took is a prefix of what the peer pushed, each message with its note, and where it saw no shut peer it sent all that
--- it pushed.
+-- What an end saw or was told of its peer is no more than the peer did, what it took is a prefix of what the peer pushed, and where it saw no shut peer it sent all that it pushed.
 -- A drained end was shut, and took all that the peer pushed: nothing waits for it
 pub record AgreesWith (end peer : Posted) : Type 0 where
   pub told_put : end.told_put ≤ length peer.pushed
   pub told_taken : end.told_taken ≤ length peer.got
   pub told_shut : end.peer_shut ≡ true → peer.counts.shut ≡ true
-  pub taken : (items : List Laid) × WaitsAfter peer.pushed end.got (map message_of items) × (peer.pushed_notes ≡ end.got_notes ++ map note_of items)
+  pub taken : (items : List Message) × WaitsAfter peer.pushed end.got items
   pub sent : end.peer_shut ≡ false → end.pushed ≡ end.sent
-  pub drained : end.drained ≡ true → (end.counts.shut ≡ true) × (end.got ≡ peer.pushed) × (end.got_notes ≡ peer.pushed_notes)
+  pub drained : end.drained ≡ true → (end.counts.shut ≡ true) × (end.got ≡ peer.pushed)

@@ -12,9 +12,6 @@ pub record IsUnused (end : Posted) : Type 0 where
   pub sent : end.sent ≡ []
   pub pushed : end.pushed ≡ []
   pub got : end.got ≡ []
-  pub sent_notes : end.sent_notes ≡ []
-  pub pushed_notes : end.pushed_notes ≡ []
-  pub got_notes : end.got_notes ≡ []
   pub peer_shut : end.peer_shut ≡ false
   pub told_put : end.told_put ≡ 0
   pub told_taken : end.told_taken ≡ 0

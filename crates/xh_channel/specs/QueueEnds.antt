@@ -1,10 +1,9 @@
 -- What contracts see of an end of a queue. An endpoint has the sending end of one, and the receiving end of the other.
-use Rattle.std.specs.Prelude.{◌≡◌, ℕ, true, false, []}
+use Rattle.std.specs.Prelude.{◌≡◌, ℕ, true, false, [], ◌∷◌, ◌++◌}
 use Rattle.atomic_table.specs.Seated.{TableId}
-use Rattle.xh_channel.specs.declared.laid.Laid.{Laid}
-use Rattle.xh_channel.specs.declared.direction.Carried.{Carried}
+use Rattle.xh_channel.specs.declared.message.Message.{Message}
 use Rattle.xh_channel.specs.declared.direction.Role.{Role}
-use Rattle.xh_channel.specs.Directions.{after, nothing, role}
+use Rattle.xh_channel.specs.Directions.{role}
 use Rattle.xh_channel.specs.Numbers.{Numbered}
 
 -- its queue, the depth, and its role: whether it pushes or pops, what it pushed or popped, and how many messages it was told that the other end sent and took
@@ -21,18 +20,14 @@ pub record Telling : Type 0 where
 
 -- what it pushed and what it popped is numbered, and nothing where it doesn't push or pop
 abbrev pub IsRole : Role → Type 0
-IsRole v = Numbered v.sent.messages × Numbered v.got.messages × (v.pushes ≡ false → v.sent.messages ≡ []) × (v.pops ≡ false → v.got.messages ≡ [])
+IsRole v = Numbered v.sent × Numbered v.got × (v.pushes ≡ false → v.sent ≡ []) × (v.pops ≡ false → v.got ≡ [])
 
-abbrev pub sending : QueueView → Laid → QueueView
-sending e x = record e { role = record e.role { sent = after e.role.sent x } }
+abbrev pub sending : QueueView → Message → QueueView
+sending e m = record e { role = record e.role { sent = e.role.sent ++ m ∷ [] } }
 
-abbrev pub getting : QueueView → Laid → QueueView
-getting e x = record e { role = record e.role { got = after e.role.got x } }
-
--- nothing was pushed, or popped
-abbrev pub IsUncarried : Carried → Type 0
-IsUncarried c = (c.messages ≡ []) × (c.notes ≡ [])
+abbrev pub getting : QueueView → Message → QueueView
+getting e m = record e { role = record e.role { got = e.role.got ++ m ∷ [] } }
 
 -- the ends of a direction that was just made
 abbrev pub IsNewDirection : ℕ → QueueView → QueueView → Type 0
-IsNewDirection depth o i = (o.depth ≡ depth) × (i.queue ≡ o.queue) × (o.role ≡ role true false nothing nothing 0 0) × (i.role ≡ role false true nothing nothing 0 0)
+IsNewDirection depth o i = (o.depth ≡ depth) × (i.queue ≡ o.queue) × (o.role ≡ role true false [] [] 0 0) × (i.role ≡ role false true [] [] 0 0)

@@ -10,19 +10,16 @@ use Rattle.xh_channel.specs.declared.message.Message.{Message}
 use Rattle.xh_channel.specs.declared.refused.Refused.{Refused}
 use Rattle.xh_channel.specs.declared.spot.Spot.{Spot}
 use Rattle.xh_channel.specs.declared.unsent.Unsent.{Unsent}
-use Rattle.xh_records.specs.Seats.{Noted}
-use Rattle.xh_channel.specs.Beside.{IsOf}
 use Rattle.xh_channel.specs.inner.ClosedWords.{ClosedView}
 use Rattle.xh_channel.specs.Numbers.{Numbered}
 use Rattle.xh_channel.specs.Ends.{Puts, Takes, now_shut}
 use Rattle.xh_channel.specs.LineSeats.{LineView, IsBegun, IsBlank, counts_at}
-use Rattle.xh_channel.specs.QueueEnds.{IsUncarried, QueueView}
+use Rattle.xh_channel.specs.QueueEnds.{QueueView}
 
 -- its spot, whether its channel has a contract, the depth, its two queues and its line; the contract's rows and its state, [] and 0 without a contract.
 -- Of what it did: its counts, the messages that it sent and took, all that it pushed, and whether it is drained:
 -- its channel has a contract, it was shut, and nothing waits for it, so nothing comes any more, whatever its peer does.
--- Of its peer: whether it saw or was told that it is shut, and how many messages it was told that the peer put and took.
--- Notes of the one log lie beside messages: the lists of notes go with those of messages; `note` goes with the next message that is put, and `heard` lay beside the last one that was taken
+-- Of its peer: whether it saw or was told that it is shut, and how many messages it was told that the peer put and took
 pub record Posted : Type 0 where
   pub channel : ℕ
   pub side : ℕ
@@ -42,16 +39,10 @@ pub record Posted : Type 0 where
   pub peer_shut : Bool
   pub told_put : ℕ
   pub told_taken : ℕ
-  pub log : TableId
-  pub note : Option Noted
-  pub heard : Option Noted
-  pub sent_notes : List (Option Noted)
-  pub pushed_notes : List (Option Noted)
-  pub got_notes : List (Option Noted)
 
 -- with a contract its line carries its messages, and else its queues
-abbrev pub posted : Spot → Bool → QueueView → QueueView → ClosedView → ℕ → LineView → Option Noted → Option Noted → Posted
-posted spot has_contract out into word put line note heard = record {
+abbrev pub posted : Spot → Bool → QueueView → QueueView → ClosedView → ℕ → LineView → Posted
+posted spot has_contract out into word put line = record {
   channel = spot.channel;
   side = spot.side;
   has_contract = has_contract;
@@ -62,42 +53,32 @@ posted spot has_contract out into word put line note heard = record {
   line = line.table;
   rows = cond has_contract line.rows [];
   state = cond has_contract line.state 0;
-  counts = cond has_contract (counts_at line) (record { put = put; taken = length into.role.got.messages; shut = word.shut });
-  sent = cond has_contract line.sent (take put out.role.sent.messages);
-  pushed = cond has_contract line.sent out.role.sent.messages;
-  got = cond has_contract line.got into.role.got.messages;
+  counts = cond has_contract (counts_at line) (record { put = put; taken = length into.role.got; shut = word.shut });
+  sent = cond has_contract line.sent (take put out.role.sent);
+  pushed = cond has_contract line.sent out.role.sent;
+  got = cond has_contract line.got into.role.got;
   drained = cond has_contract line.drained false;
   peer_shut = cond has_contract line.peer_shut word.peer_shut;
   told_put = cond has_contract line.told_put into.role.told_put;
   told_taken = cond has_contract line.told_taken out.role.told_taken;
-  log = out.role.sent.log;
-  note = note;
-  heard = heard;
-  sent_notes = cond has_contract line.sent_notes (take put out.role.sent.notes);
-  pushed_notes = cond has_contract line.sent_notes out.role.sent.notes;
-  got_notes = cond has_contract line.got_notes into.role.got.notes;
 }
 
 -- nothing was pushed, popped or shut, and nothing was told
 abbrev pub AreIdle : QueueView → QueueView → ClosedView → Type 0
-AreIdle out into word = IsUncarried out.role.sent × IsUncarried into.role.got × (word.shut ≡ false) × (word.peer_shut ≡ false) × (into.role.told_put ≡ 0) × (out.role.told_taken ≡ 0)
+AreIdle out into word = (out.role.sent ≡ []) × (into.role.got ≡ []) × (word.shut ≡ false) × (word.peer_shut ≡ false) × (into.role.told_put ≡ 0) × (out.role.told_taken ≡ 0)
 
 -- The parts of an endpoint are those of its spot, and of what it pushed it sent all but one message at most, which met a shut peer.
 -- With a contract its queues are idle and its line was begun with its depth, and else its line is blank
-pub record IsEnd (spot : Spot) (has_contract : Bool) (out into : QueueView) (word : ClosedView) (put : ℕ) (line : LineView) (note heard : Option Noted) : Type 0 where
+pub record IsEnd (spot : Spot) (has_contract : Bool) (out into : QueueView) (word : ClosedView) (put : ℕ) (line : LineView) : Type 0 where
   pub own_word : word.word ≡ 2 * spot.channel + spot.side
   pub own_seat : line.side ≡ spot.side
   pub pushes : out.role.pushes ≡ true
   pub pops : into.role.pops ≡ true
-  pub some_sent : put ≤ length out.role.sent.messages
-  pub all_sent : word.peer_shut ≡ false → put ≡ length out.role.sent.messages
+  pub some_sent : put ≤ length out.role.sent
+  pub all_sent : word.peer_shut ≡ false → put ≡ length out.role.sent
   pub numbers : put ≤ MAX_MESSAGES
   pub by_line : has_contract ≡ true → AreIdle out into word × IsBegun line × (line.depth ≡ out.depth)
   pub by_queues : has_contract ≡ false → IsBlank line
-  pub as_many : length out.role.sent.notes ≡ length out.role.sent.messages
-  pub into_log : into.role.got.log ≡ out.role.sent.log
-  pub line_log : line.log ≡ out.role.sent.log
-  pub of_log : IsOf out.role.sent.log note × IsOf out.role.sent.log heard
 
 -- the same end of the same channel, which was told the same
 pub record IsSameEnd (old new : Posted) : Type 0 where
@@ -112,35 +93,22 @@ pub record IsSameEnd (old new : Posted) : Type 0 where
   pub rows : new.rows ≡ old.rows
   pub told_put : new.told_put ≡ old.told_put
   pub told_taken : new.told_taken ≡ old.told_taken
-  pub log : new.log ≡ old.log
 
 -- of what it sent and got and saw, only what it sent may differ, only what it got, neither; and once drained it stays so
 abbrev pub IsSameBut : List Message → List Message → Posted → Posted → Type 0
 IsSameBut sent got old new = IsSameEnd old new × (new.sent ≡ sent) × (new.got ≡ got) × (old.peer_shut ≡ true → new.peer_shut ≡ true) × (old.drained ≡ true → new.drained ≡ true)
 
--- what lies beside what it sent, pushed and got, beside the next message and beside the last one
-pub record HasNotes (sent pushed got : List (Option Noted)) (next last : Option Noted) (end : Posted) : Type 0 where
-  pub sent_notes : end.sent_notes ≡ sent
-  pub pushed_notes : end.pushed_notes ≡ pushed
-  pub got_notes : end.got_notes ≡ got
-  pub note : end.note ≡ next
-  pub heard : end.heard ≡ last
-
-abbrev pub KeepsItsNotes : Posted → Posted → Type 0
-KeepsItsNotes old = HasNotes old.sent_notes old.pushed_notes old.got_notes old.note old.heard
-
--- its state stays, all that it sent, pushed and got, what it saw, and its notes
+-- its state stays, all that it sent, pushed and got, and what it saw
 abbrev pub KeepsItsMessages : Posted → Posted → Type 0
-KeepsItsMessages old new = IsSameBut old.sent old.got old new × (new.pushed ≡ old.pushed) × (new.state ≡ old.state) × KeepsItsNotes old new
+KeepsItsMessages old new = IsSameBut old.sent old.got old new × (new.pushed ≡ old.pushed) × (new.state ≡ old.state)
 
 -- the state after a message with this tag by this side; without a contract the state stays
 abbrev pub next_state : Posted → ℕ → ℕ → Option ℕ
 next_state end tag side = cond end.has_contract (allowed end.rows end.state tag side) (Some end.state)
 
--- it went to the back of what was sent, which is numbered, with the note beside it, and the contract moved the state
+-- it went to the back of what was sent, which is numbered, and the contract moved the state
 abbrev pub GoesBack : Posted → Posted → Message → Type 0
 GoesBack old new m = IsSameBut (old.sent ++ m ∷ []) old.got old new × (new.pushed ≡ old.pushed ++ m ∷ []) × Numbered new.sent × (next_state old m.tag old.side ≡ Some new.state)
-    × HasNotes (old.sent_notes ++ old.note ∷ []) (old.pushed_notes ++ old.note ∷ []) old.got_notes None old.heard new
 
 -- nothing comes to a drained end
 abbrev pub IsUndrained : Posted → Type 0
@@ -150,10 +118,10 @@ IsUndrained end = end.drained ≡ false
 abbrev pub HasBoundedNumber : Posted → Message → Type 0
 HasBoundedNumber end m = end.has_contract ≡ true → m.no ≤ MAX_MESSAGES
 
--- it comes after what was taken, which is numbered, to an end that isn't drained, the contract moved the state, and what lay beside it is heard
+-- it comes after what was taken, which is numbered, to an end that isn't drained, and the contract moved the state
 abbrev pub ComesNext : Posted → Posted → Message → Type 0
 ComesNext old new m = IsSameBut old.sent (old.got ++ m ∷ []) old new × (new.pushed ≡ old.pushed) × Numbered new.got × (next_state old m.tag (1 - old.side) ≡ Some new.state)
-    × IsUndrained old × HasBoundedNumber old m × HasNotes old.sent_notes old.pushed_notes (old.got_notes ++ new.heard ∷ []) old.note new.heard new
+    × IsUndrained old × HasBoundedNumber old m
 
 -- it put as many messages as the depth beyond those that it was told were taken
 abbrev pub IsFullAsTold : Posted → Type 0
@@ -179,10 +147,9 @@ PutsAs old new tag =
     Puts (GoesBack old new) (next_state old tag old.side ≡ None) (IsSome (next_state old tag old.side))
     (IsFullAsTold old) (SawShut old new) (SawOpen old new) old.counts new.counts tag
 
--- a put that is refused leaves nothing behind and the note where it was, or one message that only the shut peer can find, with the note
+-- a put that is refused leaves nothing behind, or one message that only the shut peer can find
 abbrev pub Unpushed : Posted → Posted → Message → Type 0
-Unpushed old new m = IsSameBut old.sent old.got old new × (new.state ≡ old.state) × (((new.pushed ≡ old.pushed) × KeepsItsNotes old new)
-    ⊎ ((new.pushed ≡ old.pushed ++ m ∷ []) × (new.peer_shut ≡ true) × HasNotes old.sent_notes (old.pushed_notes ++ old.note ∷ []) old.got_notes None old.heard new))
+Unpushed old new m = IsSameBut old.sent old.got old new × (new.state ≡ old.state) × ((new.pushed ≡ old.pushed) ⊎ ((new.pushed ≡ old.pushed ++ m ∷ []) × (new.peer_shut ≡ true)))
 
 -- the last message that was sent is only pushed: the peer was shut meanwhile
 pub record IsUnsent (old new : Posted) : Type 0 where
@@ -196,18 +163,9 @@ pub record IsUnsent (old new : Posted) : Type 0 where
   pub shut : new.counts.shut ≡ old.counts.shut
   pub drained : new.drained ≡ old.drained
   pub sent : (before : List Message) (m : Message) → old.sent ≡ before ++ m ∷ [] → new.sent ≡ before
-  pub sent_notes : (before : List (Option Noted)) (n : Option Noted) → old.sent_notes ≡ before ++ n ∷ [] → new.sent_notes ≡ before
-  pub pushed_notes : new.pushed_notes ≡ old.pushed_notes
-  pub got_notes : new.got_notes ≡ old.got_notes
-  pub note : new.note ≡ old.note
-  pub heard : new.heard ≡ old.heard
 
 abbrev pub TakesAs : Posted → Posted → Result Message Refused → Type 0
 TakesAs old new = Takes (ComesNext old new) (FindsNone old new) (SawShut old new) (SawOpen old new) old.counts new.counts
 
 abbrev pub ShutsAs : Posted → Posted → Type 0
 ShutsAs old new = (new.counts ≡ now_shut old.counts) × KeepsItsMessages old new
-
--- nothing but the log of its notes, and nothing is said or heard with a message
-abbrev pub IsRenamed : TableId → Posted → Posted → Type 0
-IsRenamed log old new = new ≡ record old { log = log; note = None; heard = None }

@@ -1,30 +1,26 @@
 //! One end of a channel, apart from where its number is free again.
-ghost use Rattle.std.specs.Prelude.{◌≡◌, ◌+◌, ◌*◌, ◌<◌, ◌≤◌, suc, true, false, None, Some, OnErr, IfOk, IfErr, MatchBool};
-ghost use Rattle.xh_model.specs.declared.limits.TheConstants.{CHANNELS, MAX_MESSAGES};
-ghost use Rattle.xh_channel.specs.Beside.{IsOf};
+ghost use Rattle.std.specs.Prelude.{◌≡◌, ◌+◌, ◌*◌, ◌<◌, ◌≤◌, suc, true, false, OnErr, IfOk, IfErr, MatchBool};
+ghost use Rattle.xh_model.specs.declared.limits.TheConstants.{CHANNELS, MAX_DEPTH, MAX_MESSAGES};
 ghost use Rattle.xh_channel.specs.Ends.{given_back};
-ghost use Rattle.xh_channel.specs.Notes.{IsOfPeer, hearing, told_by};
+ghost use Rattle.xh_channel.specs.Notes.{AgreesWith, ArePeers, IsOfPeer, hearing, told_by};
 ghost use Rattle.xh_channel.specs.LineSeats.{IsBlank};
 ghost use Rattle.xh_channel.specs.Numbers.{message};
-ghost use Rattle.xh_channel.specs.Pairs.{IsUnused, unruled};
+ghost use Rattle.xh_channel.specs.Pairs.{IsPair, IsUnused, ruled_by, unruled};
 ghost use Rattle.xh_channel.specs.Queues.{AreIdle, IsSameEnd, IsUnsent, KeepsItsMessages, PutsAs, ShutsAs, TakesAs, Unpushed};
 
-mod pair;
-
 use crate::closed_word::ClosedWord;
-use crate::laid::Laid;
-use crate::line_seat::LineSeat;
+use crate::line_seat::{self, LineSeat};
 use crate::message::Message;
 use crate::note::Note;
-use crate::queue_end::QueueEnd;
+use crate::queue_end::{self, QueueEnd};
 use crate::refused::Refused;
 use crate::signal::{OwnSignal, Signal};
 use crate::spot::Spot;
 use crate::unsent::Unsent;
 use arrayvec::ArrayVec;
-pub use pair::{begin, compare, with_log};
 use std::marker::Model;
 use std::sync::Wait;
+use xh_core::Contract;
 use xh_model::limits::{MAX_BLOCKS, MAX_MESSAGES};
 
 /// One end of a channel.
@@ -40,10 +36,6 @@ pub struct ChannelEnd {
     line: LineSeat,
     // its channel's, also where it is used on other channels
     signal: OwnSignal,
-    // goes with the next message that is put
-    carried: Option<xh_records::Note>,
-    // lay beside the message that was taken last
-    heard: Option<xh_records::Note>,
 }
 
 impl Model for ChannelEnd {
@@ -51,9 +43,9 @@ impl Model for ChannelEnd {
 
     ghost Value = { Posted };
 
-    ghost view = { λ e. posted e.spot e.has_contract e.sender e.receiver e.word e.put e.line e.carried e.heard };
+    ghost view = { λ e. posted e.spot e.has_contract e.sender e.receiver e.word e.put e.line };
 
-    ghost invariant = { λ e. IsEnd e.spot e.has_contract e.sender e.receiver e.word e.put e.line e.carried e.heard };
+    ghost invariant = { λ e. IsEnd e.spot e.has_contract e.sender e.receiver e.word e.put e.line };
 }
 
 fn copy_of(blocks: &ArrayVec<u16, MAX_BLOCKS>) -> ArrayVec<u16, MAX_BLOCKS>
@@ -63,6 +55,89 @@ fn copy_of(blocks: &ArrayVec<u16, MAX_BLOCKS>) -> ArrayVec<u16, MAX_BLOCKS>
         unreachable!()
     };
     copy
+}
+
+/// Both ends of a channel without a contract go by the contract from now on, from its first state.
+pub fn begin<R: Wait>(
+    rt: &R,
+    low: ChannelEnd,
+    high: ChannelEnd,
+    contract: Contract,
+    depth: u8,
+) -> (ChannelEnd, ChannelEnd)
+    requires pair { IsPair low high × (low.has_contract ≡ false) }
+    requires depth { (low.depth ≡ depth) × (1 ≤ depth) × (depth ≤ MAX_DEPTH) }
+    ensures { (result.0 ≡ ruled_by contract low) × (result.1 ≡ ruled_by contract high) }
+{
+    let (line, peers) = LineSeat::begin(rt, low.line, high.line, contract, depth);
+    let low = ChannelEnd {
+        has_contract: true,
+        line,
+        ..low
+    };
+    let high = ChannelEnd {
+        has_contract: true,
+        line: peers,
+        ..high
+    };
+    (low, high)
+}
+
+// As `compare`, by both queues and the closed words.
+fn compare_queues(one: ChannelEnd, other: ChannelEnd) -> (ChannelEnd, ChannelEnd)
+    requires { ArePeers one other × (one.has_contract ≡ false) }
+    ensures told { (result.0 ≡ hearing one (told_by other)) × (result.1 ≡ hearing other (told_by one)) }
+    ensures agree { AgreesWith one other × AgreesWith other one }
+{
+    let (sender, receiver) = queue_end::compare(one.sender, other.receiver);
+    let (peers, theirs) = queue_end::compare(other.sender, one.receiver);
+    let mut one = ChannelEnd {
+        sender,
+        receiver: theirs,
+        ..one
+    };
+    let mut other = ChannelEnd {
+        sender: peers,
+        receiver,
+        ..other
+    };
+    one.word.agree(&mut other.word);
+    other.word.agree(&mut one.word);
+    let note = one.word.note();
+    one.word.hear(other.word.note());
+    other.word.hear(note);
+    (one, other)
+}
+
+// As `compare`, by the line, side 0 first.
+fn compare_lines(low: ChannelEnd, high: ChannelEnd) -> (ChannelEnd, ChannelEnd)
+    requires { ArePeers low high × (low.has_contract ≡ true) × (low.side ≡ 0) }
+    ensures told { (result.0 ≡ hearing low (told_by high)) × (result.1 ≡ hearing high (told_by low)) }
+    ensures agree { AgreesWith low high × AgreesWith high low }
+{
+    let (line, peers) = line_seat::compare(low.line, high.line);
+    let low = ChannelEnd { line, ..low };
+    let high = ChannelEnd {
+        line: peers,
+        ..high
+    };
+    (low, high)
+}
+
+/// Shows, of both ends of a channel, that what each took is a prefix of what the other pushed, and tells each what the other did.
+pub fn compare(one: ChannelEnd, other: ChannelEnd) -> (ChannelEnd, ChannelEnd)
+    requires { ArePeers one other }
+    ensures told { (result.0 ≡ hearing one (told_by other)) × (result.1 ≡ hearing other (told_by one)) }
+    ensures agree { AgreesWith one other × AgreesWith other one }
+{
+    if !one.has_contract() {
+        return compare_queues(one, other);
+    }
+    if one.spot.side == 0 {
+        return compare_lines(one, other);
+    }
+    let (other, one) = compare_lines(other, one);
+    (one, other)
 }
 
 impl ChannelEnd {
@@ -77,7 +152,6 @@ impl ChannelEnd {
         requires own { (word.word ≡ 2 * spot.channel + spot.side) × (line.side ≡ spot.side) }
         requires roles { (queues.0.role.pushes ≡ true) × (queues.1.role.pops ≡ true) }
         requires new { AreIdle queues.0 queues.1 word × IsBlank line }
-        requires log { (queues.1.role.got.log ≡ queues.0.role.sent.log) × (line.log ≡ queues.0.role.sent.log) }
         ensures spot { (result.channel ≡ spot.channel) × (result.side ≡ spot.side) × (result.depth ≡ queues.0.depth) }
         ensures tables { (result.out ≡ queues.0.queue) × (result.into ≡ queues.1.queue) × (result.closed ≡ word.table) × (result.line ≡ line.table) }
         ensures unused { IsUnused result × (result ≡ unruled result) }
@@ -92,8 +166,6 @@ impl ChannelEnd {
             put: 0,
             line,
             signal,
-            carried: None,
-            heard: None,
         }
     }
 
@@ -156,22 +228,6 @@ impl ChannelEnd {
         }
     }
 
-    /// The next message that is put has this note beside it.
-    pub fn carry(&mut self, note: xh_records::Note)
-        requires { note.table ≡ self.old.log }
-        ensures { self.new ≡ record self.old { note = Some note } }
-    {
-        self.carried = Some(note);
-    }
-
-    /// What lay beside the message that was taken last, once.
-    pub fn heard(&mut self) -> Option<xh_records::Note>
-        ensures heard { (result ≡ self.old.heard) × (self.new ≡ record self.old { heard = None }) }
-        ensures of { IsOf self.old.log result }
-    {
-        self.heard.take()
-    }
-
     /// Looks at the peer's word, and pushes.
     pub fn push<R: Wait>(
         &mut self,
@@ -192,9 +248,7 @@ impl ChannelEnd {
         }
         let no = self.put + 1;
         let message = Message { no, tag, blocks };
-        let note = self.carried.take();
-        if let Err(Laid { message, note }) = self.sender.push(rt, Laid { message, note }) {
-            self.carried = note;
+        if let Err(message) = self.sender.push(rt, message) {
             return Err(Unsent::Full {
                 back: message.blocks,
             });
@@ -243,10 +297,7 @@ impl ChannelEnd {
     {
         let closed = self.word.peer_is_shut();
         match self.receiver.pop(rt) {
-            Some(Laid { message, note }) => {
-                self.heard = note;
-                Ok(message)
-            }
+            Some(message) => Ok(message),
             None if closed => Err(Refused::PeerClosed {
                 back: ArrayVec::new(),
             }),
@@ -268,7 +319,7 @@ impl ChannelEnd {
         ensures same { IsSameEnd self.old self.new }
     {
         if self.has_contract {
-            self.line.put(rt, tag, blocks, &mut self.carried)
+            self.line.put(rt, tag, blocks)
         } else {
             self.put_on_queue(rt, tag, blocks)
         }
@@ -281,7 +332,7 @@ impl ChannelEnd {
         ensures same { IsSameEnd self.old self.new }
     {
         if self.has_contract {
-            self.line.take(rt, &mut self.heard)
+            self.line.take(rt)
         } else {
             self.take_from_queue(rt)
         }

@@ -207,7 +207,7 @@ impl Channels {
     /// the depth were found to wait or the direction has carried 2^62 - 1 of them: this end has put the depth more than it was
     /// told were taken. Each hands the blocks back. After PeerClosed on a channel without a contract the shut end may still take
     /// a message with the numbers of these blocks, where it was shut between the push and the second look: who has a block is
-    /// what its owner word says. A note that this end carries goes with the message, and stays where none goes.
+    /// what its owner word says.
     pub fn put<R: Wait>(
         &self,
         rt: &R,
@@ -230,7 +230,6 @@ impl Channels {
     /// end's state. With none, PeerClosed where the peer was seen shut, and else Empty: this end has taken all that it was told
     /// were put. An end that was shut still takes what is left. On a channel with a contract it is drained once nothing is left: from
     /// then on it finds none, whatever its peer does, and `compare` of both ends shows that it took all that its peer put.
-    /// `heard` of the end then gives what lay beside the message.
     pub fn take<R: Wait>(&self, rt: &R, end: &mut Endpoint) -> Result<Message, Refused>
         ensures taken { TakesAs end.old end.new result }
         ensures kept { OnErr result (KeepsItsMessages end.old end.new) }

@@ -1,9 +1,5 @@
 //! One end of a channel.
-ghost use Rattle.std.specs.Prelude.{◌≡◌, ◌<◌, None, Some};
-ghost use Rattle.atomic_table.specs.Seated.{TableId};
-ghost use Rattle.xh_channel.specs.Beside.{IsOf};
-ghost use Rattle.xh_channel.specs.Pairs.{IsPair};
-ghost use Rattle.xh_channel.specs.Queues.{IsRenamed};
+ghost use Rattle.std.specs.Prelude.{◌≡◌, ◌<◌};
 ghost use Rattle.xh_model.specs.declared.limits.TheConstants.{CHANNELS};
 ghost use Rattle.xh_channel.specs.Notes.{AgreesWith, ArePeers, IsOfPeer, hearing, told_by};
 
@@ -12,7 +8,7 @@ use crate::free_numbers::Home;
 use crate::message::Message;
 use crate::note::Note;
 use crate::spot::Spot;
-use std::marker::{Brand, Model};
+use std::marker::Model;
 
 /// One end of a channel. It goes from owner to owner, and whoever has it may put, take and shut.
 #[derive(Drop)]
@@ -30,8 +26,7 @@ impl Model for Endpoint {
     ghost view = { λ e. e.inner };
 }
 
-/// Shows, of both ends of a channel, that what each took is a prefix of what the other pushed, each message once, with the numbers 1, 2, .. in order, and
-/// with the note that was put beside it.
+/// Shows, of both ends of a channel, that what each took is a prefix of what the other pushed, each message once, with the numbers 1, 2, .. in order.
 /// It takes both ends and gives them back, each told of all that the other did, as by a note of the other. What an end was told before is no more
 /// than that. All that an end pushed it also sent, but for a message that met a shut peer. A drained end took all that its peer pushed: nothing waits
 /// for it, and since it stays drained nothing ever will.
@@ -52,25 +47,6 @@ pub fn compare(one: Endpoint, other: Endpoint) -> (Endpoint, Endpoint)
     (one, other)
 }
 
-/// The notes that lie beside the messages of a channel that was never used are of this log from now on. Which log that is the
-/// caller's proof says, by what is shown here.
-pub fn with_log<A>(low: Endpoint, high: Endpoint, _shown: &A) -> (Endpoint, Endpoint)
-    ghost log: { TableId }
-    requires { IsPair low high }
-    ensures { IsRenamed log low result.0 × IsRenamed log high result.1 }
-{
-    let (first, second) = channel_end::with_log::<Brand>(low.inner, high.inner);
-    let low = Endpoint {
-        inner: first,
-        ..low
-    };
-    let high = Endpoint {
-        inner: second,
-        ..high
-    };
-    (low, high)
-}
-
 impl Endpoint {
     /// Its channel, 0 to 63, and its side, 0 or 1.
     pub fn spot(&self) -> Spot
@@ -84,22 +60,6 @@ impl Endpoint {
         ensures { result ≡ self.now.has_contract }
     {
         self.inner.has_contract()
-    }
-
-    /// The next message that this end puts has this note beside it. Where the put is refused, the note stays here for the next one.
-    pub fn carry(&mut self, note: xh_records::Note)
-        requires { note.table ≡ self.old.log }
-        ensures { self.new ≡ record self.old { note = Some note } }
-    {
-        self.inner.carry(note);
-    }
-
-    /// The note that lay beside the message that was taken last. It is given out once.
-    pub fn heard(&mut self) -> Option<xh_records::Note>
-        ensures heard { (result ≡ self.old.heard) × (self.new ≡ record self.old { heard = None }) }
-        ensures of { IsOf self.old.log result }
-    {
-        self.inner.heard()
     }
 
     /// How much it put and took until now, whether it was shut, and whether its channel has a contract, for its peer to hear.

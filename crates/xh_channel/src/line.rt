@@ -1,11 +1,9 @@
 //! The line of a channel with a contract, as it lies under the channel's lock.
 ghost use Rattle.std.specs.Prelude.{◌≡◌, ◌-◌, ◌<◌, ◌≤◌, length, IfOk, OnErr};
-ghost use Rattle.xh_channel.specs.Beside.{Goes};
 ghost use Rattle.xh_model.specs.Rows.{IsValid};
 ghost use Rattle.xh_model.specs.declared.limits.TheConstants.{MAX_DEPTH, MAX_MESSAGES};
-ghost use Rattle.xh_channel.specs.Lines.{AreInStep, Follows, IsNewLine, IsOrderly, PutsBetween, PutsOn, Shuts, TakesBetween, TakesOn, beside, waiting};
+ghost use Rattle.xh_channel.specs.Lines.{AreInStep, Follows, IsNewLine, IsOrderly, PutsBetween, PutsOn, Shuts, TakesBetween, TakesOn, waiting};
 
-use crate::laid::Laid;
 use crate::line_end::LineEnd;
 use crate::message::Message;
 use crate::refused::Refused;
@@ -14,7 +12,6 @@ use arrayvec::ArrayVec;
 use std::marker::Model;
 use xh_core::Contract;
 use xh_model::limits::{MAX_BLOCKS, MAX_MESSAGES};
-use xh_records::Note;
 
 /// Both directions of a channel, its contract, and both ends' states and counts: side 0 is the left
 /// end, side 1 the right one.
@@ -44,18 +41,16 @@ fn put_between(
     peer: &mut LineEnd,
     tag: u16,
     blocks: ArrayVec<u16, MAX_BLOCKS>,
-    note: &mut Option<Note>,
 ) -> Result<u64, Unsent>
     requires depth { (depth ≤ MAX_DEPTH) × (length (waiting peer.old) ≤ depth) }
     requires order { Follows own.old peer.old × (own.old.counts.put ≤ MAX_MESSAGES) }
     requires valid { IsValid contract.now }
     requires step { AreInStep contract.now side own.old peer.old }
-    ensures put { PutsBetween contract.now depth side own.old own.new peer.old peer.new note.old tag blocks result }
+    ensures put { PutsBetween contract.now depth side own.old own.new peer.old peer.new tag blocks result }
     ensures order { Follows own.new peer.new × (own.new.counts.put ≤ MAX_MESSAGES) }
     ensures step { AreInStep contract.now side own.new peer.new }
     ensures depth { length (waiting peer.new) ≤ depth }
-    ensures note { Goes result note.old note.new }
-    ensures rest { (waiting own.new ≡ waiting own.old) × (beside own.new ≡ beside own.old) × (peer.new.counts ≡ peer.old.counts) × (peer.new.state ≡ peer.old.state) }
+    ensures rest { (waiting own.new ≡ waiting own.old) × (peer.new.counts ≡ peer.old.counts) × (peer.new.state ≡ peer.old.state) }
     ensures refused { OnErr result ((peer.new ≡ peer.old) × (own.new ≡ own.old)) }
 {
     let Some(next) = contract.allows(own.state, tag, side) else {
@@ -68,11 +63,7 @@ fn put_between(
         return Err(Unsent::Full { back: blocks });
     }
     let no = own.counts.put + 1;
-    let message = Message { no, tag, blocks };
-    peer.waiting.push(Laid {
-        message,
-        note: note.take(),
-    });
+    peer.waiting.push(Message { no, tag, blocks });
     own.counts.put = no;
     own.state = next;
     Ok(no)
@@ -83,16 +74,15 @@ fn take_between(
     side: u8,
     own: &mut LineEnd,
     peer: &LineEnd,
-    heard: &mut Option<Note>,
 ) -> Result<Message, Refused>
     requires side { side < 2 }
     requires order { Follows peer.now own.old }
     requires step { AreInStep contract.now side own.old peer.now }
-    ensures taken { TakesBetween contract.now side own.old own.new peer.now heard.new result }
+    ensures taken { TakesBetween contract.now side own.old own.new peer.now result }
     ensures order { Follows peer.now own.new }
     ensures step { AreInStep contract.now side own.new peer.now }
     ensures depth { length (waiting own.new) ≤ length (waiting own.old) }
-    ensures refused { OnErr result ((own.new ≡ own.old) × (heard.new ≡ heard.old)) }
+    ensures refused { OnErr result (own.new ≡ own.old) }
 {
     if own.waiting.is_empty() {
         if peer.counts.shut {
@@ -101,13 +91,12 @@ fn take_between(
         }
         return Err(Refused::Empty);
     }
-    let Laid { message, note } = own.waiting.remove(0);
+    let message = own.waiting.remove(0);
     let Some(next) = contract.allows(own.state, message.tag, 1 - side) else {
         unreachable!()
     };
     own.counts.taken += 1;
     own.state = next;
-    *heard = note;
     Ok(message)
 }
 
@@ -130,17 +119,15 @@ impl Line {
     /// The number of the message, from 1, which went to the back. Protocol where the state of this
     /// end does not allow it, then PeerClosed where the peer is shut, then Full where as many wait
     /// as the depth or the direction has carried its last message. Each hands the blocks back and
-    /// changes nothing. The note goes with the message.
+    /// changes nothing.
     pub fn put(
         &mut self,
         side: u8,
         tag: u16,
         blocks: ArrayVec<u16, MAX_BLOCKS>,
-        note: &mut Option<Note>,
     ) -> Result<u64, Unsent>
         requires { side < 2 }
-        ensures put { PutsOn self.old self.new side note.old tag blocks result }
-        ensures note { Goes result note.old note.new }
+        ensures put { PutsOn self.old self.new side tag blocks result }
         ensures last { IfOk result (λ no. no ≤ MAX_MESSAGES) }
         ensures refused { OnErr result (self.new ≡ self.old) }
         ensures orderly { IsOrderly self.new }
@@ -155,7 +142,6 @@ impl Line {
                 &mut self.right,
                 tag,
                 blocks,
-                note,
             )
         } else {
             put_between(
@@ -166,25 +152,23 @@ impl Line {
                 &mut self.left,
                 tag,
                 blocks,
-                note,
             )
         }
     }
 
     /// The message at the front toward this side, also after its shut. Where none waits, PeerClosed
-    /// if the peer is shut, else Empty; both change nothing. What lay beside the message is heard.
-    pub fn take(&mut self, side: u8, heard: &mut Option<Note>) -> Result<Message, Refused>
+    /// if the peer is shut, else Empty; both change nothing.
+    pub fn take(&mut self, side: u8) -> Result<Message, Refused>
         requires { side < 2 }
-        ensures taken { TakesOn self.old self.new side heard.new result }
-        ensures heard { OnErr result (heard.new ≡ heard.old) }
+        ensures taken { TakesOn self.old self.new side result }
         ensures last { IfOk result (λ m. m.no ≤ MAX_MESSAGES) }
         ensures refused { OnErr result (self.new ≡ self.old) }
         ensures orderly { IsOrderly self.new }
     {
         if side == 0 {
-            take_between(&self.contract, 0, &mut self.left, &self.right, heard)
+            take_between(&self.contract, 0, &mut self.left, &self.right)
         } else {
-            take_between(&self.contract, 1, &mut self.right, &self.left, heard)
+            take_between(&self.contract, 1, &mut self.right, &self.left)
         }
     }
 

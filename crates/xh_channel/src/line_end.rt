@@ -1,26 +1,26 @@
 //! One end of a channel with a contract.
 ghost use Rattle.std.specs.Prelude.{◌≡◌, []};
 ghost use Rattle.xh_channel.specs.Ends.{no_counts};
-ghost use Rattle.xh_channel.specs.Lines.{beside, waiting};
+ghost use Rattle.xh_channel.specs.Lines.{waiting};
 
 use crate::counts::Counts;
-use crate::laid::Laid;
+use crate::message::Message;
 use arrayvec::ArrayVec;
 use xh_model::limits::MAX_DEPTH;
 
 const ROOM: usize = MAX_DEPTH as usize;
 
-/// Its state, the messages on their way to it, the front one first, each with its note, and its counts.
+/// Its state, the messages on their way to it, the front one first, and its counts.
 #[derive(Drop)]
 pub struct LineEnd {
     pub state: u8,
-    pub waiting: ArrayVec<Laid, ROOM>,
+    pub waiting: ArrayVec<Message, ROOM>,
     pub counts: Counts,
 }
 
 impl LineEnd {
     pub fn new(state: u8) -> LineEnd
-        ensures { (result.state ≡ state) × (waiting result ≡ []) × (beside result ≡ []) × (result.counts ≡ no_counts) }
+        ensures { (result.state ≡ state) × (waiting result ≡ []) × (result.counts ≡ no_counts) }
     {
         LineEnd {
             state,

@@ -1,35 +1,27 @@
 // The line of a channel with a contract, in the one slot of a table. Its first word is the lock: 0 at home, 1 out, 2 out and waited for. No value of a `Part` is made.
 use crate::counts::Counts;
 use crate::line::Line;
-use crate::log::{LogName, Of};
 use crate::message::Message;
 use atomic_table::{Join, Play, Split, Table, TableRule};
 use std::alloc::Global;
 use std::collections::LinkedList;
-use std::marker::PhantomData;
 use xh_model::Row;
-use xh_records::Note;
 
-/// What a side did: the contract's rows and the depth that it goes by, its state, what it put and took and the notes beside that, whether it was shut,
-/// and whether nothing comes to it any more: it was shut, and nothing waits for it.
+/// What a side did: the contract's rows and the depth that it goes by, its state, what it put and took, whether it was shut, and
+/// whether nothing comes to it any more: it was shut, and nothing waits for it.
 pub struct Account {
     pub rows: LinkedList<Row>,
     pub depth: u64,
     pub state: u64,
     pub sent: LinkedList<Message>,
-    pub sent_notes: LinkedList<Option<Note>>,
     pub got: LinkedList<Message>,
-    pub got_notes: LinkedList<Option<Note>>,
     pub shut: bool,
     pub drained: bool,
 }
 
 /// What a seat knows. It owns the account of its side, or that of both sides, and knows its peer's while it holds the line.
-/// `told` and `peer_told` are no more than what the peer and its own side did. The notes are of one
-/// log, which a seat of both sides has from each.
+/// `told` and `peer_told` are no more than what the peer and its own side did.
 pub struct Part {
-    pub log: LogName,
-    pub peer_log: LogName,
     pub side: u64,
     pub owns: bool,
     pub both: bool,
@@ -86,19 +78,6 @@ impl Split<Part> for Sides {
     ghost left = { low_side };
 
     ghost right = { high_side };
-}
-
-/// The seat of both sides stays, and the notes are of this log from now on.
-pub struct Names<S> {
-    of: PhantomData<S>,
-}
-
-impl<S: Of> Split<Part> for Names<S> {
-    ghost use Rattle.xh_channel.specs.inner.LineRule.{named, no_part};
-
-    ghost left = { named S.log };
-
-    ghost right = { λ _. no_part };
 }
 
 /// The seat of side 0 has both sides.

@@ -1,16 +1,13 @@
 //! An end's seat at the line of its channel.
-ghost use Rattle.std.specs.Prelude.{◌≡◌, ◌+◌, ◌<◌, ◌≤◌, IfOk, OnErr, OnOk};
-ghost use Rattle.xh_channel.specs.Beside.{Goes, IsOf};
-ghost use Rattle.xh_records.specs.Seats.{no_table};
+ghost use Rattle.std.specs.Prelude.{◌+◌, ◌<◌, IfOk, OnErr};
 ghost use Rattle.xh_model.specs.declared.limits.TheConstants.{MAX_DEPTH, MAX_MESSAGES};
-ghost use Rattle.xh_channel.specs.LineSeats.{AreAcross, IsBegun, IsBlank, IsDelivered, IsLessTold, IsUncarried, OnlySaw, PutsBy, ShutsBy, TakesBy, TookAllOf, begun, hearing_on_line, told_all, told_on_line};
+ghost use Rattle.xh_channel.specs.LineSeats.{AreAcross, IsBegun, IsBlank, IsDelivered, IsLessTold, OnlySaw, PutsBy, ShutsBy, TakesBy, TookAllOf, begun, hearing_on_line, told_all, told_on_line};
 ghost use Rattle.std.specs.Arc.{arc_value};
 ghost use Rattle.xh_channel.specs.inner.LineRule.{IsWhole, high_side, line_view, low_side};
 
 use crate::line::Line;
-use crate::line_rule::{BothSides, Compares, Hears, LineTable, Names, Sides, Tells};
+use crate::line_rule::{BothSides, Compares, Hears, LineTable, Sides, Tells};
 use crate::line_steps::{HOME, Token, hold, lock, settle};
-use crate::log::Of;
 use crate::message::Message;
 use crate::refused::Refused;
 use crate::unsent::Unsent;
@@ -21,7 +18,6 @@ use std::marker::Model;
 use std::sync::{Arc, Wait};
 use xh_core::Contract;
 use xh_model::limits::MAX_BLOCKS;
-use xh_records::Note;
 
 /// The lock's word lies in a block of these: no two locks are on one cache line.
 const WORDS: usize = 16;
@@ -67,7 +63,7 @@ impl Model for LineNote {
 type OwnTable = Arc<LineTable, Global>;
 
 // The table's seat of both sides, cut in two.
-#[tactic(auto, using(crate::proofs::LineMoves::has_word, crate::proofs::LineViews::sides))]
+#[tactic(auto, using(crate::proofs::LineMoves::has_word, crate::proofs::LineSteps::sides))]
 fn cut(low: OwnTable, high: OwnTable, mut token: Token) -> (LineSeat, LineSeat)
     requires { IsWhole (arc_value low).shared.table_id (arc_value high).shared.table_id token.table_id token.me }
     ensures { (result.0 ≡ line_view token.table_id (low_side token.me.0)) × (result.1 ≡ line_view token.table_id (high_side token.me.0)) }
@@ -120,23 +116,11 @@ pub fn compare(low: LineSeat, high: LineSeat) -> (LineSeat, LineSeat)
     cut(low, high, token)
 }
 
-/// The notes of a line on which nothing was put are of this log from now on.
-#[tactic(auto, using(crate::proofs::LineMoves::has_word, crate::proofs::LineViews::names))]
-pub fn with_log<S: Of>(low: LineSeat, high: LineSeat) -> (LineSeat, LineSeat)
-    requires { AreAcross low high × IsUncarried low × IsUncarried high }
-    ensures { (result.0 ≡ record low { log = S.log }) × (result.1 ≡ record high { log = S.log }) }
-{
-    let (low, high, mut token) = join(low, high);
-    drop(low.shared.split_seat::<Names<S>>(&mut token));
-    cut(low, high, token)
-}
-
 impl LineSeat {
     /// Both seats of a new table, where no line is yet.
-    #[tactic(auto, using(crate::proofs::LineViews::begins))]
+    #[tactic(auto, using(crate::proofs::LineSteps::begins))]
     pub fn pair(alloc: Global) -> Result<(LineSeat, LineSeat), AllocError>
-        ensures blank { IfOk result (λ s. AreAcross s.0 s.1 × IsBlank s.0 × IsBlank s.1 × (s.0.depth ≡ 0) × (s.1.depth ≡ 0)) }
-        ensures log { IfOk result (λ s. (s.0.log ≡ no_table) × (s.1.log ≡ no_table)) }
+        ensures { IfOk result (λ s. AreAcross s.0 s.1 × IsBlank s.0 × IsBlank s.1 × (s.0.depth ≡ 0) × (s.1.depth ≡ 0)) }
     {
         let (table, token) = Table::vacant(alloc, &[HOME; WORDS], 1, &())?;
         let low = Arc::new(alloc, table)?;
@@ -169,11 +153,9 @@ impl LineSeat {
         rt: &R,
         tag: u16,
         blocks: ArrayVec<u16, MAX_BLOCKS>,
-        note: &mut Option<Note>,
     ) -> Result<u64, Unsent>
-        requires { IsBegun self.old × IsOf self.old.log note.old }
-        ensures put { PutsBy self.old self.new note.old tag blocks result }
-        ensures note { Goes result note.old note.new }
+        requires { IsBegun self.old }
+        ensures put { PutsBy self.old self.new tag blocks result }
         ensures last { IfOk result (λ no. no ≤ MAX_MESSAGES) }
         ensures refused { OnErr result (OnlySaw self.old self.new) }
     {
@@ -182,17 +164,15 @@ impl LineSeat {
         let Some(line) = self.seat.slot_mut(board, 0) else {
             unreachable!()
         };
-        let put = line.put(self.side, tag, blocks, note);
+        let put = line.put(self.side, tag, blocks);
         settle(board, &mut self.seat);
         put
     }
 
     /// The message that comes next. Where none waits, PeerClosed if the peer is shut, else Empty, and if it was shut itself it is drained.
-    pub fn take<R: Wait>(&mut self, rt: &R, heard: &mut Option<Note>) -> Result<Message, Refused>
+    pub fn take<R: Wait>(&mut self, rt: &R) -> Result<Message, Refused>
         requires { IsBegun self.old }
-        ensures taken { TakesBy self.old self.new heard.new result }
-        ensures heard { OnErr result (heard.new ≡ heard.old) }
-        ensures log { OnOk result (IsOf self.old.log heard.new) }
+        ensures taken { TakesBy self.old self.new result }
         ensures last { IfOk result (λ m. m.no ≤ MAX_MESSAGES) }
         ensures refused { OnErr result (OnlySaw self.old self.new) }
     {
@@ -201,7 +181,7 @@ impl LineSeat {
         let Some(line) = self.seat.slot_mut(board, 0) else {
             unreachable!()
         };
-        let taken = line.take(self.side, heard);
+        let taken = line.take(self.side);
         settle(board, &mut self.seat);
         taken
     }
@@ -221,7 +201,7 @@ impl LineSeat {
     }
 
     /// What its peer may hear of it.
-    #[tactic(auto, using(crate::proofs::LineMoves::has_word, crate::proofs::LineViews::tells))]
+    #[tactic(auto, using(crate::proofs::LineMoves::has_word, crate::proofs::LineSteps::tells))]
     pub fn note(&mut self) -> LineNote
         ensures told { result ≡ told_on_line self.old }
         ensures same { self.new ≡ self.old }
@@ -232,7 +212,7 @@ impl LineSeat {
         }
     }
 
-    #[tactic(auto, using(crate::proofs::LineMoves::has_word, crate::proofs::LineViews::hears))]
+    #[tactic(auto, using(crate::proofs::LineMoves::has_word, crate::proofs::LineSteps::hears))]
     pub fn hear(&mut self, note: LineNote)
         requires { (note.table ≡ self.old.table) × (note.side + self.old.side ≡ 1) }
         ensures { self.new ≡ hearing_on_line self.old note }

@@ -1,14 +1,11 @@
 // The ends of a direction's queue. An endpoint has the sending end of one, and the receiving end of the other.
 ghost use Rattle.std.specs.Prelude.{◌≡◌, ◌<◌, ◌≤◌, ◌+◌, suc, true, false, List, [], length, MatchOption, MatchResult, IfOk};
-ghost use Rattle.xh_channel.specs.QueueEnds.{IsNewDirection, IsUncarried, sending, getting};
-ghost use Rattle.xh_channel.specs.Beside.{IsOf};
-ghost use Rattle.xh_channel.specs.declared.laid.Laid.{Laid};
-ghost use Rattle.xh_channel.specs.Directions.{LiesAfter, carried, hearing, nothing, role};
+ghost use Rattle.xh_channel.specs.QueueEnds.{IsNewDirection, sending, getting};
+ghost use Rattle.xh_channel.specs.Directions.{WaitsAfter, hearing, role};
 ghost use Rattle.xh_channel.specs.Numbers.{Numbered};
 
-use crate::direction::{Gets, Halves, HalvesOf, Hears, Port, Queue, Sends, Tells, Together, Total};
-use crate::laid::Laid;
-use crate::log::Of;
+use crate::direction::{Gets, Halves, Hears, Port, Queue, Sends, Tells, Together, Total};
+use crate::message::Message;
 use std::alloc::{AllocError, Global};
 use std::marker::Model;
 use std::sync::{Arc, Wait};
@@ -76,10 +73,10 @@ pub fn direction(alloc: Global, depth: usize) -> Result<(QueueEnd, QueueEnd), Al
 pub fn compare(sender: QueueEnd, receiver: QueueEnd) -> (QueueEnd, QueueEnd)
     requires queue { receiver.queue ≡ sender.queue }
     requires roles { (sender.role.pushes ≡ true) × (receiver.role.pops ≡ true) }
-    ensures sender { result.0 ≡ record sender { role = role true false sender.role.sent nothing 0 (length receiver.role.got.messages) } }
-    ensures receiver { result.1 ≡ record receiver { role = role false true nothing receiver.role.got (length sender.role.sent.messages) 0 } }
-    ensures grows { (sender.role.told_taken ≤ length receiver.role.got.messages) × (receiver.role.told_put ≤ length sender.role.sent.messages) }
-    ensures prefix { (items : List Laid) × LiesAfter sender.role.sent receiver.role.got items }
+    ensures sender { result.0 ≡ record sender { role = role true false sender.role.sent [] 0 (length receiver.role.got) } }
+    ensures receiver { result.1 ≡ record receiver { role = role false true [] receiver.role.got (length sender.role.sent) 0 } }
+    ensures grows { (sender.role.told_taken ≤ length receiver.role.got) × (receiver.role.told_put ≤ length sender.role.sent) }
+    ensures prefix { (items : List Message) × WaitsAfter sender.role.sent receiver.role.got items }
 {
     let QueueEnd { queue, mut pass } = sender;
     let QueueEnd {
@@ -98,31 +95,6 @@ pub fn compare(sender: QueueEnd, receiver: QueueEnd) -> (QueueEnd, QueueEnd)
     (sender, receiver)
 }
 
-/// The notes of a direction on which nothing was pushed are of this log from now on.
-#[tactic(auto, using(crate::proofs::Moves::merges, crate::proofs::Moves::names))]
-pub fn with_log<S: Of>(sender: QueueEnd, receiver: QueueEnd) -> (QueueEnd, QueueEnd)
-    requires queue { receiver.queue ≡ sender.queue }
-    requires roles { (sender.role.pushes ≡ true) × (receiver.role.pops ≡ true) }
-    requires unused { IsUncarried sender.role.sent × IsUncarried receiver.role.got }
-    ensures sender { result.0 ≡ record sender { role = role true false (carried S.log [] []) nothing 0 0 } }
-    ensures receiver { result.1 ≡ record receiver { role = role false true nothing (carried S.log [] []) 0 0 } }
-{
-    let QueueEnd { queue, mut pass } = sender;
-    let QueueEnd {
-        queue: theirs,
-        pass: receiving,
-    } = receiver;
-    let line: &Queue = &queue;
-    line.absorb::<Together>(&mut pass, receiving);
-    let receiving = line.another::<HalvesOf<S>>(&mut pass);
-    let sender = QueueEnd { queue, pass };
-    let receiver = QueueEnd {
-        queue: theirs,
-        pass: receiving,
-    };
-    (sender, receiver)
-}
-
 impl QueueEnd {
     pub fn depth(&self) -> usize
         ensures { result ≡ self.now.depth }
@@ -130,20 +102,19 @@ impl QueueEnd {
         self.queue.capacity()
     }
 
-    pub fn push<R: Wait>(&mut self, rt: &R, laid: Laid) -> Result<(), Laid>
-        requires { (self.old.role.pushes ≡ true) × (laid.message.no ≡ suc (length self.old.role.sent.messages)) × IsOf self.old.role.sent.log laid.note }
-        ensures { MatchResult result (λ _. (self.new ≡ sending self.old laid) × Numbered self.new.role.sent.messages)
-            (λ back. (back ≡ laid) × (self.new ≡ self.old) × (self.old.role.told_taken + self.old.depth ≤ length self.old.role.sent.messages)) }
+    pub fn push<R: Wait>(&mut self, rt: &R, message: Message) -> Result<(), Message>
+        requires { (self.old.role.pushes ≡ true) × (message.no ≡ suc (length self.old.role.sent)) }
+        ensures { MatchResult result (λ _. (self.new ≡ sending self.old message) × Numbered self.new.role.sent)
+            (λ back. (back ≡ message) × (self.new ≡ self.old) × (self.old.role.told_taken + self.old.depth ≤ length self.old.role.sent)) }
     {
         let queue = &self.queue;
-        queue.push_as::<Sends, R>(rt, &mut self.pass, laid)
+        queue.push_as::<Sends, R>(rt, &mut self.pass, message)
     }
 
-    pub fn pop<R: Wait>(&mut self, rt: &R) -> Option<Laid>
+    pub fn pop<R: Wait>(&mut self, rt: &R) -> Option<Message>
         requires { self.old.role.pops ≡ true }
-        ensures { MatchOption result ((self.new ≡ self.old) × (self.old.role.told_put ≤ length self.old.role.got.messages))
-            (λ x. (self.new ≡ getting self.old x) × (x.message.no ≡ suc (length self.old.role.got.messages)) × Numbered self.new.role.got.messages
-            × IsOf self.old.role.got.log x.note) }
+        ensures { MatchOption result ((self.new ≡ self.old) × (self.old.role.told_put ≤ length self.old.role.got))
+            (λ x. (self.new ≡ getting self.old x) × (x.no ≡ suc (length self.old.role.got)) × Numbered self.new.role.got) }
     {
         let queue = &self.queue;
         queue.pop_as::<Gets, R>(rt, &mut self.pass)
@@ -152,7 +123,7 @@ impl QueueEnd {
     /// How much it has pushed and popped.
     #[tactic(auto, using(crate::proofs::Moves::tells))]
     pub fn note(&mut self) -> QueueNote
-        ensures note { result ≡ record { queue = self.old.queue; put = length self.old.role.sent.messages; taken = length self.old.role.got.messages } }
+        ensures note { result ≡ record { queue = self.old.queue; put = length self.old.role.sent; taken = length self.old.role.got } }
         ensures same { self.new ≡ self.old }
     {
         let queue = &self.queue;

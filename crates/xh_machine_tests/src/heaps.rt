@@ -119,10 +119,7 @@ fn on_parts<N: Names, R: Wait + Abort>(
             let books = close_kernel(alloc, kernel, accounts, looks)?;
             Ok(books.ledger)
         }
-        Err(_refused) => {
-            kernel.discard();
-            Err(Refused::OutOfMemory)
-        }
+        Err(_refused) => Err(Refused::OutOfMemory),
     }
 }
 

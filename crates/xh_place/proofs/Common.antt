@@ -1,5 +1,5 @@
 -- What the proofs of functions cite most, passed on from one place. Declares nothing.
-pub use Rattle.xh_place.proofs.Words.{ArePassed, Came, IsOf, Laid, Noted, Passed, Saw, SeatSawAfter, TableId, records_of}
+pub use Rattle.xh_place.proofs.Words.{ArePassed, Came, SeatSawAfter}
 pub use Rattle.xh_place.proofs.Words.{Accept, Among, Answers, AreBlocks, AreGot, Body, CameBack, Clears, Data, Distinct, End, Err, Event, HasGivenBack, HasNow, Held, IfErr, IsBlock, IsClosed, IsCut}
 pub use Rattle.xh_place.proofs.Words.{IsElsewhere, IsGot, IsLotOf, IsRecord, IsSameDesk, IsSeen, IsSent, IsSwept, IsSweptBy, IsSweptLate, IsTaken, IsUntaken, Item, List, Lists, LotDoes, LotOf}
 pub use Rattle.xh_place.proofs.Words.{MAX_BUDGET, MatchResult, Message, None, Nothing, OnErr, OnOk, Pass, PlaceOf, Posted, Process, Puts, SawFull, SawWord, SeatSaw, SeatSeesMore, SeesMore, Shuts}
@@ -15,9 +15,9 @@ pub use Rattle.xh_place.proofs.Found.{all_found, end_listed, entry_some, found, 
 pub use Rattle.xh_place.proofs.Listing.{among_get, distinct_unless, get_at, key_at, keys_without, lens_none, less_absent, removed_number, shown_keys, shown_long, total_without}
 pub use Rattle.xh_place.proofs.Moves.{all_move, claims, heard, heard_shows, more_twice, moved_twice, vacates}
 pub use Rattle.xh_place.proofs.Seeing.{advanced, all_got_as, away_as, clears_as, drains_as, fronted, full_later, full_wide, got_as, looked, no_record, place_gone, place_saw, placed, saw_later}
-pub use Rattle.xh_place.proofs.Seeing.{came_before, came_last, came_more, saw_also, saw_heard, seen_wide, since, starts_more, starts_same, swept_as, swept_by_as, word_wide, one_more}
+pub use Rattle.xh_place.proofs.Seeing.{came_before, came_last, came_more, seen_wide, since, starts_more, starts_same, swept_as, swept_by_as, word_wide, one_more}
 pub use Rattle.xh_place.proofs.Steps.{IsNow, block_small, count_room, enough, held_is, held_record, holds_nothing, list_distinct, list_few, list_room, listed, lost, over_running, stays, total_bound}
 pub use Rattle.xh_place.proofs.Steps.{won, moved_last, without_long}
-pub use Rattle.xh_place.proofs.Ends.{end_did, end_held, end_log, takes_log, took_none, took_one}
+pub use Rattle.xh_place.proofs.Ends.{end_did, end_held}
 pub use Rattle.xh_place.proofs.Gained.{has, undone}
 pub use Rattle.xh_place.proofs.Swept.{unrefused, untested}

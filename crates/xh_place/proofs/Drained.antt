@@ -1,8 +1,7 @@
 -- An endpoint of a place that takes one message after another.
 use Rattle.xh_place.proofs.Words.{on_err_weaker, ◌≡◌, ℕ, ◌≤◌, inl, inr, List, [], ◌∷◌, ◌++◌, append_assoc, append-nil, length, refl, sym, ap, ◌∙◌, subst, Some, None, Option, Ok, Err, Result}
-use Rattle.xh_place.proofs.Words.{MatchResult, Message, Posted, Refused, put, value_at, front_at, put_at, put_same, put_twice, Content, bytes, endpoint, kind_of, toward, Taken, AreGot}
-use Rattle.xh_place.proofs.Words.{AreUnpacked, EndsWith, IsDrained, Shuts, TakesEach, EndDoes, end_block, toward_in, away_in, Clears, Drains, IsUntaken, Unpacks, IsSent}
-use Rattle.xh_place.proofs.Words.{IsOf, IsUnpacked, Laid, Noted, TakesNone, TakesOne}
+use Rattle.xh_place.proofs.Words.{MatchResult, map-append, Message, Posted, Refused, put, value_at, front_at, put_at, put_same, put_twice, Content, bytes, endpoint, kind_of, toward, Taken, AreGot}
+use Rattle.xh_place.proofs.Words.{AreUnpacked, EndsWith, IsDrained, Shuts, Takes, TakesEach, blocks_of, record_of, EndDoes, end_block, toward_in, away_in, Clears, Drains, IsUntaken, Unpacks, IsSent}
 use Rattle.xh_place.proofs.Words.{IsTaken, Item, PlaceOf, with_blocks, with_more, IsSeen, PlaceSeen, SawAfter, Stays, Event, Pass}
 use Rattle.xh_place.proofs.Words.{true, false, ⊎_elim, ◌+◌, arith}
 use Rattle.std.proofs.Common.{true≢false}
@@ -12,7 +11,7 @@ use Rattle.xh_channel.specs.declared.refused.Refused.{Refused as NoMessage}
 use Rattle.xh_model.specs.declared.limits.TheConstants.{MAX_MESSAGES}
 use Rattle.xh_place.proofs.Listing.{put_front}
 use Rattle.xh_place.proofs.Ends.{found_none, way_shut, way_taken}
-use Rattle.xh_place.proofs.Seeing.{all_got_as, unpacked_as, away_as, came_before, seen_wide, starts_same}
+use Rattle.xh_place.proofs.Seeing.{got_both, all_got_as, unpacked_as, away_as, came_before, seen_wide, starts_same}
 use Rattle.xh_place.proofs.Moves.{more_none, more_twice}
 use Rattle.xh_core.specs.declared.header.Kind.TheVariants as kind
 
@@ -29,19 +28,19 @@ end_in p (Some x) = end_of p x.content
 one_end : (p q : Posted) → Some (end_block p) ≡ Some (end_block q) → p ≡ q
 one_end p q e = ap (end_in p) e
 
-each_more : (ms : List Laid) (x : Laid) (old mid new : Posted) → TakesEach ms old mid → TakesOne x mid new → TakesEach (ms ++ x ∷ []) old new
-each_more [] x old mid new each one = (new, subst (λ (p : Posted). TakesOne x p new) each one, refl)
-each_more (y ∷ ms) x old mid new each one = (each.0, each.1, each_more ms x each.0 mid new each.2 one)
+each_more : (ms : List Message) (m : Message) (old mid new : Posted) → TakesEach ms old mid → Takes (Ok m) mid new → TakesEach (ms ++ m ∷ []) old new
+each_more [] m old mid new each one = (new, subst (λ (p : Posted). Takes (Ok m) p new) each one, refl)
+each_more (n ∷ ms) m old mid new each one = (each.0, each.1, each_more ms m each.0 mid new each.2 one)
 
 -- it stays what it was
-each_stays : (ms : List Laid) (old new : Posted) → TakesEach ms old new → (new.has_contract ≡ old.has_contract) × (new.counts.shut ≡ old.counts.shut)
+each_stays : (ms : List Message) (old new : Posted) → TakesEach ms old new → (new.has_contract ≡ old.has_contract) × (new.counts.shut ≡ old.counts.shut)
 each_stays [] old new each = ((λ i. (each i).has_contract), (λ i. (each i).counts.shut))
 each_stays (m ∷ ms) old new each =
     let later = each_stays ms each.0 new each.2 in
     (later.0 ∙ each.1.same.has_contract, later.1 ∙ ap (λ (c : Counts). c.shut) each.1.answer.1)
 
 -- no more messages come with a contract than may be numbered
-each_few : (ms : List Laid) (old new : Posted) → TakesEach ms old new → old.has_contract ≡ true → 1 ≤ length ms → old.counts.taken + length ms ≤ MAX_MESSAGES
+each_few : (ms : List Message) (old new : Posted) → TakesEach ms old new → old.has_contract ≡ true → 1 ≤ length ms → old.counts.taken + length ms ≤ MAX_MESSAGES
 each_few [] old new each has some = absurd (omega arith)
 each_few (m ∷ []) old new each has some = let no = each.1.answer.0 in let few = each.1.answer.2.5 has in omega (arith, no, few)
 each_few (m ∷ n ∷ ms) old new each has some =
@@ -49,60 +48,60 @@ each_few (m ∷ n ∷ ms) old new each has some =
     let more = each_few (n ∷ ms) each.0 new each.2 (each.1.same.has_contract ∙ has) (omega arith) in
     omega (arith, one, more)
 
-each_many : (ms : List Laid) (old new : Posted) → TakesEach ms old new → 18446744073709551615 ≤ length ms → new.has_contract ≡ false
+each_many : (ms : List Message) (old new : Posted) → TakesEach ms old new → 18446744073709551615 ≤ length ms → new.has_contract ≡ false
 each_many ms old new each many = false_from_ne_true new.has_contract (λ has. let few = each_few ms old new each (sym (each_stays ms old new each).0 ∙ has) (omega arith) in
     absurd (omega (arith, few, many)))
 
-ends_drained : (ms : List Laid) (old shut new : Posted) → Shuts old shut → IsDrained ms shut new → old.has_contract ≡ true → new.drained ≡ true
+ends_drained : (ms : List Message) (old shut new : Posted) → Shuts old shut → IsDrained ms shut new → old.has_contract ≡ true → new.drained ≡ true
 ends_drained ms old shut new shuts drain has =
     let last : Posted = drain.0 in let stays = each_stays ms shut last drain.1 in
     let still : last.has_contract ≡ true = stays.0 ∙ shuts.1.0.0.has_contract ∙ has in
     ⊎_elim
-    (λ (none : (why : NoMessage) × TakesNone why last new). found_none none.0 last new none.1 still (stays.1 ∙ ap (λ (c : Counts). c.shut) shuts.0))
+    (λ (none : (why : NoMessage) × Takes (Err why) last new). found_none none.0 last new none.1 still (stays.1 ∙ ap (λ (c : Counts). c.shut) shuts.0))
     (λ (many : (18446744073709551615 ≤ length ms) × (new ≡ last) × (last.has_contract ≡ false)). absurd (true≢false (sym still ∙ many.2)))
     drain.2
 
-each_way : (ms : List Laid) (old new : Posted) → TakesEach ms old new → toward (endpoint new) ≡ toward (endpoint old)
+each_way : (ms : List Message) (old new : Posted) → TakesEach ms old new → toward (endpoint new) ≡ toward (endpoint old)
 each_way [] old new each = ap (λ (p : Posted). toward (endpoint p)) each
 each_way (m ∷ ms) old new each = each_way ms each.0 new each.2 ∙ way_taken m old each.0 each.1
 
--- what came with one more
-unpacked_more : (saw : Option Noted → ℕ → ℕ → Type 0) (d : ℕ) (ms : List Laid) (x : Laid) (ys zs : List (ℕ × Item)) → AreUnpacked saw d ms ys → IsUnpacked saw d x zs
-    → AreUnpacked saw d (ms ++ x ∷ []) (ys ++ zs)
-unpacked_more saw d [] x ys zs all one = (zs, [], ap (λ (l : List (ℕ × Item)). l ++ zs) all ∙ sym (append-nil zs), one, refl)
-unpacked_more saw d (y ∷ ms) x ys zs all one =
-    (all.0, all.1 ++ zs, ap (λ (l : List (ℕ × Item)). l ++ zs) all.2 ∙ append_assoc all.0 all.1 zs, all.3, unpacked_more saw d ms x all.1 zs all.4 one)
+blocks_more : (ms : List Message) (m : Message) → blocks_of (ms ++ m ∷ []) ≡ blocks_of ms ++ m.blocks.items
+blocks_more [] m = append-nil m.blocks.items
+blocks_more (n ∷ ms) m = ap (λ (l : List ℕ). n.blocks.items ++ l) (blocks_more ms m) ∙ sym (append_assoc n.blocks.items (blocks_of ms) m.blocks.items)
 
 -- until now the endpoint took these messages, and what came with them is at the end of the list
-abbrev pub Draining : (Option Noted → ℕ → ℕ → Type 0) → ℕ → List Laid → PlaceOf → PlaceOf → Type 0
+abbrev pub Draining : (ℕ → ℕ → Type 0) → ℕ → List Message → PlaceOf → PlaceOf → Type 0
 Draining saw e ms old new = (mid : PlaceOf) × (ys : List (ℕ × Item)) × EndDoes e old mid (TakesEach ms) × AreUnpacked saw (toward_in (value_at e old.blocks)) ms ys
     × (new ≡ with_more (toward_in (value_at e old.blocks)) ys mid)
 
-pub draining_none : (saw : Option Noted → ℕ → ℕ → Type 0) (e : ℕ) (p : Posted) (old : PlaceOf)
-    → value_at e old.blocks ≡ Some (end_block p) → put e (end_block p) old.blocks ≡ old.blocks → Draining saw e [] old old
+pub draining_none : (saw : ℕ → ℕ → Type 0) (e : ℕ) (p : Posted) (old : PlaceOf) → value_at e old.blocks ≡ Some (end_block p) → put e (end_block p) old.blocks ≡ old.blocks → Draining saw e [] old old
 draining_none saw e p old at same =
-    (old, [], (p, p, at, ap (with_blocks old) (sym same), refl), refl, more_none (toward_in (value_at e old.blocks)) old)
+    (old, [], (p, p, at, ap (with_blocks old) (sym same), refl), ([], refl, refl), more_none (toward_in (value_at e old.blocks)) old)
 
 -- the looks are looks in another sense
-pub draining_as : (P Q : Option Noted → ℕ → ℕ → Type 0) → ((note : Option Noted) (r word : ℕ) → P note r word → Q note r word)
-    → (e : ℕ) (ms : List Laid) (old new : PlaceOf) → Draining P e ms old new → Draining Q e ms old new
+pub draining_as : (P Q : ℕ → ℕ → Type 0) → ((r word : ℕ) → P r word → Q r word) → (e : ℕ) (ms : List Message) (old new : PlaceOf) → Draining P e ms old new → Draining Q e ms old new
 draining_as P Q f e ms old new is = (is.0, is.1, is.2, unpacked_as P Q f (toward_in (value_at e old.blocks)) ms is.1 is.3, is.4)
 
 -- the endpoint took a message, and its blocks came
-abbrev pub Unpacking : (Option Noted → ℕ → ℕ → Type 0) → ℕ → PlaceOf → PlaceOf → Taken → Type 0
-Unpacking saw e old new taken = (mid : PlaceOf) × (x : Laid) × EndDoes e old mid (TakesOne x) × Unpacks (saw x.note) (toward_in (value_at e old.blocks)) x.message mid new taken
+abbrev pub TakesOne : (ℕ → ℕ → Type 0) → ℕ → PlaceOf → PlaceOf → Taken → Type 0
+TakesOne saw e old new taken = (mid : PlaceOf) × (m : Message) × EndDoes e old mid (Takes (Ok m)) × Unpacks saw (toward_in (value_at e old.blocks)) m mid new taken
 
-pub unpacks_as : (P Q : ℕ → ℕ → Type 0) → ((r word : ℕ) → P r word → Q r word) → (d : ℕ) (m : Message) (old new : PlaceOf) (taken : Taken) → Unpacks P d m old new taken → Unpacks Q d m old new taken
-unpacks_as P Q f d m old new taken u = record {
-  number = u.number;
-  tag = u.tag;
-  records = u.records;
-  gained = u.gained;
-  list = u.list;
-  got = all_got_as P Q f d u.gained taken.blocks.items u.got;
-}
+pub takes_as : (P Q : ℕ → ℕ → Type 0) → ((r word : ℕ) → P r word → Q r word) → (e : ℕ) (old new : PlaceOf) (taken : Taken) → TakesOne P e old new taken → TakesOne Q e old new taken
+takes_as P Q f e old new taken t = let u = t.3 in (
+  t.0,
+  t.1,
+  t.2,
+  record {
+    number = u.number;
+    tag = u.tag;
+    records = u.records;
+    gained = u.gained;
+    list = u.list;
+    got = all_got_as P Q f (toward_in (value_at e old.blocks)) u.gained taken.blocks.items u.got;
+  },
+)
 
-module _ (saw : Option Noted → ℕ → ℕ → Type 0) (e : ℕ) (ms : List Laid) (old mid : PlaceOf) (is : Draining saw e ms old mid) where
+module _ (saw : ℕ → ℕ → Type 0) (e : ℕ) (ms : List Message) (old mid : PlaceOf) (is : Draining saw e ms old mid) where
   abbrev d : ℕ
   d = toward_in (value_at e old.blocks)
 
@@ -132,32 +131,35 @@ module _ (saw : Option Noted → ℕ → ℕ → Type 0) (e : ℕ) (ms : List La
   same_after : (p : Posted) → value_at e mid.blocks ≡ Some (end_block p) → p ≡ after
   same_after p at = one_end p after (sym at ∙ draining_at)
 
-  pub draining_more : (new : PlaceOf) (taken : Taken) → (t : Unpacking saw e mid new taken) → Draining saw e (ms ++ t.1 ∷ []) old new
+  pub draining_more : (new : PlaceOf) (taken : Taken) → (t : TakesOne saw e mid new taken) → Draining saw e (ms ++ t.1 ∷ []) old new
   draining_more new taken t =
       let does = t.2 in let q : Posted = does.1 in
-      let one : TakesOne t.1 after q = subst (λ (p : Posted). TakesOne t.1 p q) (same_after does.0 does.2) does.4 in
+      let one : Takes (Ok t.1) after q = subst (λ (p : Posted). Takes (Ok t.1) p q) (same_after does.0 does.2) does.4 in
       let base : PlaceOf = with_blocks old (put e (end_block q) old.blocks) in (
         base,
         is.1 ++ t.3.gained,
         (before, q, is.2.2, refl, each_more ms t.1 before after q is.2.4 one),
-        unpacked_more saw d ms t.1 is.1 t.3.gained is.3
-            (taken.blocks.items, t.3.records, subst (λ (n : ℕ). AreGot (saw t.1.note) n t.3.gained taken.blocks.items) draining_way t.3.got),
+        (
+          is.3.0 ++ taken.blocks.items,
+          map-append record_of is.3.0 taken.blocks.items ∙ (λ i. is.3.1 i ++ t.3.records i) ∙ sym (blocks_more ms t.1),
+          got_both saw d is.1 t.3.gained is.3.0 taken.blocks.items is.3.2 (subst (λ (n : ℕ). AreGot saw n t.3.gained taken.blocks.items) draining_way t.3.got),
+        ),
         t.3.list ∙ (λ i. with_more (draining_way i) t.3.gained ((does.3 ∙ draining_put q) i)) ∙ more_twice d is.1 t.3.gained base,
       )
 
   pub drained : (new : PlaceOf) (refused : Refused) → IsUntaken e mid new refused → Drains saw e old new
   drained new refused t =
       let does = t.1 in let q : Posted = does.1 in
-      let one : TakesNone t.0 after q = subst (λ (p : Posted). TakesNone t.0 p q) (same_after does.0 does.2) does.4 in
+      let one : Takes (Err t.0) after q = subst (λ (p : Posted). Takes (Err t.0) p q) (same_after does.0 does.2) does.4 in
       (with_blocks old (put e (end_block q) old.blocks), is.1, ms, (before, q, is.2.2, refl, (after, is.2.4, inl (t.0, one))), is.3, does.3 ∙ draining_put q)
 
   pub drained_all : 18446744073709551615 ≤ length ms → Drains saw e old mid
   drained_all all = (is.0, is.1, ms, (before, after, is.2.2, is.2.3, (after, is.2.4, inr (all, refl, each_many ms before after is.2.4 all))), is.3, is.4)
 
 -- it was shut before
-pub cleared : (saw : Option Noted → ℕ → ℕ → Type 0) (r : ℕ) (old mid new : PlaceOf) → EndDoes r old mid Shuts → Drains saw r mid new → Clears saw r old new
+pub cleared : (saw : ℕ → ℕ → Type 0) (r : ℕ) (old mid new : PlaceOf) → EndDoes r old mid Shuts → Drains saw r mid new → Clears saw r old new
 cleared saw r old mid new shut drain =
-    let p : Posted = shut.0 in let s : Posted = shut.1 in let does = drain.3 in let q : Posted = does.1 in let ms : List Laid = drain.2 in
+    let p : Posted = shut.0 in let s : Posted = shut.1 in let does = drain.3 in let q : Posted = does.1 in let ms : List Message = drain.2 in
     let at : value_at r mid.blocks ≡ Some (end_block s) = ap (λ (z : PlaceOf). value_at r z.blocks) shut.3 ∙ put_at r (end_block s) (end_block p) old.blocks shut.2 in
     let one : does.0 ≡ s = one_end does.0 s (sym does.2 ∙ at) in
     let drained' : IsDrained ms s q = subst (λ (z : Posted). IsDrained ms z q) one does.4 in
@@ -174,7 +176,7 @@ cleared saw r old mid new shut drain =
     )
 
 -- nothing came with bytes
-pub cleared_bytes : (saw : Option Noted → ℕ → ℕ → Type 0) (r : ℕ) (x : Item) (old new : PlaceOf) → value_at r old.blocks ≡ Some x → kind_of x.content ≡ kind.Data → new ≡ old → Clears saw r old new
+pub cleared_bytes : (saw : ℕ → ℕ → Type 0) (r : ℕ) (x : Item) (old new : PlaceOf) → value_at r old.blocks ≡ Some x → kind_of x.content ≡ kind.Data → new ≡ old → Clears saw r old new
 cleared_bytes saw r x old new at plain same = (
   x,
   x,
@@ -192,11 +194,8 @@ cleared_bytes saw r x old new at plain same = (
 
 pub taken_from : (e : ℕ) (old mid new : PlaceSeen) (result : Result Taken Refused) → Stays old mid → MatchResult result (IsTaken e mid new) (IsUntaken e mid.place new.place)
     → MatchResult result (IsTaken e old new) (IsUntaken e old.place new.place)
-taken_from e old mid new (Ok taken) same is =
-    let x : Laid = is.1 in let wide = seen_wide mid new old new (ap (λ (p : PlaceOf). p.shape) same.0) same.1 (starts_same refl) x.note in
-    subst (λ (p : PlaceOf). (z : PlaceOf) × (x : Laid) × EndDoes e p z (TakesOne x) × Unpacks (IsSeen old new x.note) (toward_in (value_at e p.blocks)) x.message z new.place taken
-    × IsOf p.table x.note) same.0
-    (is.0, x, is.2, unpacks_as (IsSeen mid new x.note) (IsSeen old new x.note) wide (toward_in (value_at e mid.place.blocks)) x.message is.0 new.place taken is.3, is.4)
+taken_from e old mid new (Ok taken) same is = subst (λ (p : PlaceOf). TakesOne (IsSeen old new) e p new.place taken) same.0
+    (takes_as (IsSeen mid new) (IsSeen old new) (seen_wide mid new old new (ap (λ (p : PlaceOf). p.shape) same.0) same.1 (starts_same refl)) e mid.place new.place taken is)
 taken_from e old mid new (Err refused) same is = subst (λ (p : PlaceOf). IsUntaken e p new.place refused) same.0 is
 
 pub sent_from : (e tag : ℕ) (given : List ℕ) (old mid new : PlaceSeen) (result : Result ℕ Refused) → Stays old mid → IsSent e tag given mid new result → IsSent e tag given old new result
@@ -208,13 +207,10 @@ sent_from e tag given old mid new result same is =
       answered = is.answered;
       back = is.back;
       all = is.all;
-      records = is.records;
-      note = is.note;
-      noted = (is.noted.0, λ r among. came_before (Pass mid.place.process r (away_in (value_at e mid.place.blocks))) old.front same.1 (is.noted.1 r among));
       made = is.made;
       moved = is.moved;
-      lost = on_err_weaker is.answered (λ h r among.
+      lost = on_err_weaker is.answered (λ h r among missed.
           let d : ℕ = away_in (value_at e mid.place.blocks) in let passed : Event = Pass mid.place.process r d in
-          away_as (SawAfter passed mid new) (SawAfter passed seen new) (λ q word w. (w.0, came_before passed old.front same.1 w.1, w.2)) d r (h r among)) is.lost;
+          away_as (SawAfter passed mid new) (SawAfter passed seen new) (λ q word w. (w.0, came_before passed old.front same.1 w.1, w.2)) d r (h r among missed)) is.lost;
       answer = is.answer;
     })

@@ -1,7 +1,6 @@
 -- An endpoint that a call works on in its lot, and what follows of the channel's clauses.
-use Rattle.xh_place.proofs.Words.{rules, ◌≡◌, ℕ, List, true, sym, ap, ◌∙◌, subst, Some, LotOf, Status, END_BYTES, put, value_at, IsLotOf, Held, with_lots, Posted, Body, End, content_of}
+use Rattle.xh_place.proofs.Words.{rules, ◌≡◌, ℕ, List, true, sym, ap, ◌∙◌, subst, Some, LotOf, Status, END_BYTES, put, value_at, Shape, IsLotOf, Held, with_lots, Posted, Body, End, content_of}
 use Rattle.xh_place.proofs.Words.{endpoint, fits_in, kind_of, IsEnd, LotDoes, bare, EndDoes, end_block, Item, PlaceOf, IsBlock, IsPlace, item_of, shown, with_blocks, Ok, Err, Result, IfErr}
-use Rattle.xh_place.proofs.Words.{false, is_err, hearing, KeepsItsMessages, Laid, Noted, OnErr, Option, TableId, TakesAs, refl, ◌<◌, None, RecordsOf, TakesNone, TakesOne, log_of}
 use Rattle.xh_place.proofs.Words.{MatchResult, Message, IsSameEnd, Refused, put_same, toward, Taken, Shuts, Takes, IsTaken, IsUntaken, PlaceSeen}
 use Rattle.xh_channel.specs.declared.refused.Refused.{Refused as NoMessage}
 use Rattle.xh_channel.specs.Refusals.{same_refusal}
@@ -14,18 +13,13 @@ use Rattle.xh_channel.specs.declared.refused.Refused.TheVariants as none
 end_long : (n : ℕ) (p : Posted) → fits_in (End p) n ≡ true → n ≡ END_BYTES
 end_long n p e = search rules
 
-module _ (does : Posted → Posted → Type 0) {all : RecordsOf} {e : ℕ} {l m : LotOf Body} (block : IsBlock all e l) (moved : LotDoes does l m) where
+module _ (does : Posted → Posted → Type 0) {s : Shape} {e : ℕ} {l m : LotOf Body} (block : IsBlock s e l) (moved : LotDoes does l m) where
   fits : fits_in (End moved.0) l.len ≡ true
   fits = sym (ap (λ (b : Body). fits_in b l.len) moved.2) ∙ block.full.1
 
-  -- the lot is a block still, where its notes are of the log that they were of
-  pub still_block : moved.1.log ≡ moved.0.log → IsBlock all e m
-  still_block same = subst (IsBlock all e) (sym moved.3) record {
-    exists = block.exists;
-    lot = block.lot;
-    full = (block.full.0, fits);
-    own = λ t some at. block.own t some (ap log_of moved.2 ∙ ap (λ (t : TableId). Some t) (sym same) ∙ at);
-  }
+  -- the lot is a block still
+  pub still_block : IsBlock s e m
+  still_block = subst (IsBlock s e) (sym moved.3) record { exists = block.exists; lot = block.lot; full = (block.full.0, fits) }
 
   pub same_len : m.len ≡ l.len
   same_len = ap (λ (z : LotOf Body). z.len) moved.3
@@ -37,13 +31,6 @@ module _ (does : Posted → Posted → Type 0) {all : RecordsOf} {e : ℕ} {l m 
   pub item_now : item_of m ≡ end_block moved.1
   item_now = ap item_of moved.3 ∙ (λ i. record { len = end_long l.len moved.0 fits i; content = endpoint moved.1 })
 
--- its notes are of the records' log
-pub end_log : {all : RecordsOf} {e : ℕ} {l : LotOf Body} → IsBlock all e l → IsEnd l → log_of l.body ≡ Some all.table
-end_log {all} {e} {l} block end = go l.body end block.own where
-  go : (b : Body) → kind_of (content_of b) ≡ kind.End → ((t : TableId) → 0 < l.len → log_of b ≡ Some t → t ≡ all.table) → log_of b ≡ Some all.table
-  go (End p) h own = ap (λ (t : TableId). Some t) (own p.log block.full.0 refl)
-  go b h own = absurd (cc)
-
 -- an endpoint of the list, on whose lot a call works
 module _ {seat : Held Body} (rs : List ℕ) {room total : ℕ} {state : Status} (is : IsPlace seat (shown seat.lots rs) room total state) {p : PlaceOf} (view : view_of seat (shown seat.lots rs) state ≡ p)
     (e : ℕ) (end : (x : Item) × (value_at e p.blocks ≡ Some x) × (kind_of x.content ≡ kind.End)) where
@@ -51,60 +38,38 @@ module _ {seat : Held Body} (rs : List ℕ) {room total : ℕ} {state : Status} 
   end_held = let f = found is view e end.1 in (f.lot, f.held, f.block.lot, ap (λ (x : Item). kind_of x.content) f.same ∙ end.2)
 
   -- it did what its lot did
-  pub end_did : (last : Held Body) (rel : Posted → Posted → Type 0) → ((p q : Posted) → rel p q → q.log ≡ p.log)
-      → ((l : LotOf Body) → value_at e seat.lots ≡ Some l → (m : LotOf Body) × LotDoes rel l m
+  pub end_did : (last : Held Body) (rel : Posted → Posted → Type 0) → ((l : LotOf Body) → value_at e seat.lots ≡ Some l → (m : LotOf Body) × LotDoes rel l m
       × (last ≡ with_lots seat (put e m seat.lots)))
       → IsPlace last (shown last.lots rs) room total state × EndDoes e p (view_of last (shown last.lots rs) state) rel
-  end_did last rel same did =
+  end_did last rel did =
       let f = found is view e end.1 in let t = did f.lot f.held in let moved = t.1 in
-      let both = turned rs is last f.held (ap bare t.2) (still_block rel f.block moved (same moved.0 moved.1 moved.4)) (same_len rel f.block moved) in
+      let both = turned rs is last f.held (ap bare t.2) (still_block rel f.block moved) (same_len rel f.block moved) in
       let here : value_at e p.blocks ≡ Some (end_block moved.0) = end.1 ∙ ap (λ (x : Item). Some x) (sym f.same ∙ item_was rel f.block moved) in
       (both.0, (moved.0, moved.1, here, both.1 p view ∙ ap (λ (z : Item). with_blocks p (put e z p.blocks)) (item_now rel f.block moved), moved.4))
 
 -- ---- what follows of the channel's clauses
-
--- ---- a take, from what the channel says
-
-pub took_none : (old new : Posted) (r : Result Message NoMessage) → is_err r ≡ true → TakesAs old new r → OnErr r (KeepsItsMessages old new) → IsSameEnd old new → Takes None r old new
-took_none old new (Ok m) is t kept same = absurd (cc)
-took_none old new (Err why) is t kept same = record { answer = t; kept = kept; same = same }
-
--- what it heard was given out
-pub took_one : (note : Option Noted) (old mid new : Posted) (r : Result Message NoMessage) → is_err r ≡ false → TakesAs old mid r → IsSameEnd old mid → note ≡ mid.heard
-    → new ≡ hearing None mid → Takes note r old new
-took_one n old mid new (Err why) is t same heard out = absurd (cc)
-took_one n old mid new (Ok m) is t same heard out =
-    let back : mid ≡ hearing n new = sym (ap (hearing n) out ∙ ap (λ (h : Option Noted). hearing h mid) heard) in record {
-      answer = subst (λ (p : Posted). TakesAs old p (Ok m)) back t;
-      out = ap (λ (p : Posted). p.heard) out;
-      same = subst (IsSameEnd old) back same;
-    }
-
-pub takes_log : (note : Option Noted) (r : Result Message NoMessage) (old new : Posted) → Takes note r old new → new.log ≡ old.log
-takes_log n (Ok m) old new t = t.same.log
-takes_log n (Err why) old new t = t.same.log
 
 -- ---- an endpoint stays at its direction
 
 way : (old new : Posted) → IsSameEnd old new → toward (endpoint new) ≡ toward (endpoint old)
 way old new same = λ i. toward (endpoint (record old { channel = same.channel i; side = same.side i }))
 
-pub way_taken : (x : Laid) (old new : Posted) → TakesOne x old new → toward (endpoint new) ≡ toward (endpoint old)
-way_taken x old new t = way old (hearing x.note new) t.same
+pub way_taken : (m : Message) (old new : Posted) → Takes (Ok m) old new → toward (endpoint new) ≡ toward (endpoint old)
+way_taken m old new t = way old new t.same
 
 pub way_shut : (old new : Posted) → Shuts old new → toward (endpoint new) ≡ toward (endpoint old)
 way_shut old new t = way old new t.1.0.0
 
 -- ---- a take that finds none drains an end that was shut, with a contract
 
-pub found_none : (why : NoMessage) (old new : Posted) → TakesNone why old new → old.has_contract ≡ true → old.counts.shut ≡ true → new.drained ≡ true
+pub found_none : (why : NoMessage) (old new : Posted) → Takes (Err why) old new → old.has_contract ≡ true → old.counts.shut ≡ true → new.drained ≡ true
 found_none (none.PeerClosed back) old new t has closed = t.answer.2.2 has closed
 found_none none.Empty old new t has closed = t.answer.1.2 has closed
 found_none why old new t has closed = absurd t.answer
 
 -- ---- a take that answers Empty changes nothing
 
-same_end : (p q : Posted) → TakesNone none.Empty p q → q ≡ p
+same_end : (p q : Posted) → Takes (Err none.Empty) p q → q ≡ p
 same_end p q t = let h = t.answer in let s = t.same in let k = t.kept in let open_ : q.peer_shut ≡ p.peer_shut = h.2.1 ∙ sym h.2.0 in λ i. record {
   channel = s.channel i;
   side = s.side i;
@@ -124,17 +89,11 @@ same_end p q t = let h = t.answer in let s = t.same in let k = t.kept in let ope
   peer_shut = open_ i;
   told_put = s.told_put i;
   told_taken = s.told_taken i;
-  log = s.log i;
-  note = k.3.note i;
-  heard = k.3.heard i;
-  sent_notes = k.3.sent_notes i;
-  pushed_notes = k.3.pushed_notes i;
-  got_notes = k.3.got_notes i;
 }
 
 untaken_empty : (e : ℕ) (old new : PlaceOf) → IsUntaken e old new Empty → new ≡ old
 untaken_empty e old new t = go t.0 t.1 t.2 where
-  go : (n : NoMessage) → EndDoes e old new (TakesNone n) → Empty ≡ same_refusal n → new ≡ old
+  go : (n : NoMessage) → EndDoes e old new (Takes (Err n)) → Empty ≡ same_refusal n → new ≡ old
   go none.Empty d h = d.3 ∙ ap (λ (q : Posted). with_blocks old (put e (end_block q) old.blocks)) (same_end d.0 d.1 d.4)
       ∙ ap (with_blocks old) (put_same e (end_block d.0) old.blocks d.2)
   go n d h = absurd (cc)

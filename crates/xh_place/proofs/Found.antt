@@ -1,6 +1,6 @@
 -- What a call that names a block of the list knows of it, and what the value of a place keeps.
 use Rattle.xh_place.proofs.Words.{◌≡◌, ℕ, List, refl, sym, ap, ◌∙◌, subst, Some, None, Option, LotOf, Status, Among, value_at, put, put_same, Held, IsRecord, IsSeatOf, RecordsOf, with_lots, Body}
-use Rattle.xh_place.proofs.Words.{records_of, Item, PlaceOf, entry_of, item_of, IsBlock, IsPlace, IsPlaceOf, ◌≤◌, true, rules, End, content_of, fits_in, AreBlocks, Fits, IsWhole, Lists, item_at, Bool}
+use Rattle.xh_place.proofs.Words.{Item, PlaceOf, entry_of, item_of, IsBlock, IsPlace, IsPlaceOf, ◌≤◌, true, rules, Shape, End, content_of, fits_in, AreBlocks, Fits, IsWhole, Lists, item_at, Bool}
 use Rattle.xh_place.proofs.Words.{⊎_elim, inl, inr, [], ◌∷◌, map, eq-eqb, dite, ℕ_discrete, MatchBool, ◌==◌, Process, keys, index_of, word_of, Knows, owned_by}
 use Rattle.xh_core.specs.Headers.{has_end}
 use Rattle.xh_core.specs.declared.header.Header.{Header}
@@ -14,14 +14,14 @@ pub record Found (seat : Held Body) (xs : List (ℕ × Item)) (r : ℕ) (x : Ite
   pub held : value_at r seat.lots ≡ Some lot
   pub entry : value_at r xs ≡ Some x
   pub same : item_of lot ≡ x
-  pub block : IsBlock (records_of seat) r lot
+  pub block : IsBlock seat.shape r lot
 
 module _ {seat : Held Body} {xs : List (ℕ × Item)} {room total : ℕ} {state : Status} (is : IsPlace seat xs room total state) {p : PlaceOf} (shows : view_of seat xs state ≡ p) where
   pub found : (r : ℕ) {x : Item} → value_at r p.blocks ≡ Some x → Found seat xs r x
   found r {x} at = let here : value_at r xs ≡ Some x = listed is shows r at in let t = lot_of is r x here in record { lot = t.0; held = t.1; entry = here; same = sym t.2; block = t.3 }
 
   pub all_found : (given : List ℕ) → ((r : ℕ) → Among given r → (x : Item) × (value_at r p.blocks ≡ Some x))
-      → (r : ℕ) → Among given r → (k : LotOf Body) × (value_at r seat.lots ≡ Some k) × IsBlock (records_of seat) r k
+      → (r : ℕ) → Among given r → (k : LotOf Body) × (value_at r seat.lots ≡ Some k) × IsBlock seat.shape r k
   all_found given listed r a = let f = found r (listed r a).1 in (f.lot, f.held, f.block)
 
   -- its record is one of the table that gave the seat
@@ -48,8 +48,8 @@ fits_whole : (b : Body) (n : ℕ) → fits_in b n ≡ true → Fits (content_of 
 fits_whole (End p) n e = search rules
 fits_whole b n e = (search rules, search rules)
 
-pub block_whole : {all : RecordsOf} {r : ℕ} {l : LotOf Body} → IsBlock all r l → IsWhole (item_of l)
-block_whole {all} {r} {l} is = (is.full.0, fits_whole l.body l.len is.full.1)
+pub block_whole : {s : Shape} {r : ℕ} {l : LotOf Body} → IsBlock s r l → IsWhole (item_of l)
+block_whole {s} {r} {l} is = (is.full.0, fits_whole l.body l.len is.full.1)
 
 module _ {seat : Held Body} {xs : List (ℕ × Item)} {room total : ℕ} {state : Status} (is : IsPlace seat xs room total state) where
   has : (r : ℕ) (x : Item) → value_at r xs ≡ Some x → Found seat xs r x

@@ -1,6 +1,6 @@
 -- A seat that has gained a record, or two at once.
 use Rattle.xh_place.proofs.Words.{◌≡◌, ℕ, ◌<◌, ◌≤◌, List, [], ◌∷◌, ◌++◌, length, sym, ap, ◌∙◌, subst, true, eq-eqb, eqb, arith, rules, Some, ◌&&◌, nat_le, nat_lt, LotOf, Among, keys, value_at, put}
-use Rattle.xh_place.proofs.Words.{IsOwn, None, TableId, log_of, without, last_at, last_put, last_without, IsLotOf, Held, with_lots, HasNow, bare, Body, Nothing, Data, End, bytes, content_of, fits_in}
+use Rattle.xh_place.proofs.Words.{without, last_at, last_put, last_without, IsLotOf, Held, with_lots, HasNow, bare, Body, Nothing, Data, End, bytes, content_of, fits_in}
 use Rattle.xh_place.proofs.Words.{◌≢◌, ◌+◌, ⊎_elim}
 use Rattle.xh_place.proofs.Words.{append_assoc, refl, Status, among_either, keys_push, last_other, put_split, IsRecord, Item, with_blocks, item_at, item_of, shown, IsPlace, is_over}
 use Rattle.xh_place.specs.inner.Opening.{AreMade, HasTwoMore}
@@ -26,15 +26,6 @@ fits_bytes Nothing xs n e long some most = let same : [] ≡ xs = cc in let none
 fits_bytes (Data v) xs n e long some most = let same : v.items ≡ xs = cc in let a : eqb (length v.items) n ≡ true = eq-eqb (length v.items) n (ap length same ∙ long) in
     let b : nat_le n 1048576 ≡ true = search rules in let d : nat_lt 0 n ≡ true = search rules in (λ i. a i && (d i && b i))
 fits_bytes (End p) xs n e long some most = absurd (cc)
-
-no_log : (b : Body) (xs : List ℕ) → content_of b ≡ bytes xs → log_of b ≡ None
-no_log Nothing xs e = refl
-no_log (Data v) xs e = refl
-no_log (End p) xs e = absurd (cc)
-
--- bytes keep notes of no log
-pub bytes_own : (table : TableId) (l : LotOf Body) (xs : List ℕ) → content_of l.body ≡ bytes xs → IsOwn log_of table l
-bytes_own table l xs e = λ t some at. let f : None ≡ Some t = sym (no_log l.body xs e) ∙ at in absurd (cc)
 
 -- ---- a seat, and a place, that gained two records at once
 

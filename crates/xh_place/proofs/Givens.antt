@@ -2,9 +2,10 @@
 use Rattle.xh_place.proofs.Words.{dec_among, map-append, arith, eqb, eq-eqb, ◌≡◌, ℕ, Bool, true, false, ⊎_elim, List, [], ◌∷◌, refl, sym, ap, ◌∙◌, ◌==◌, ◌||◌, ◌&&◌, Option, Some, None, is_some}
 use Rattle.xh_place.proofs.Words.{nat_tests, list_all, list_any, first_refusal, Among, Distinct, value_at, given_tests, is_listed, Item, ◌≢◌, ◌+◌, ◌*◌, ◌≤◌, inl, inr, length, subst, cond, dite}
 use Rattle.xh_place.proofs.Words.{ℕ_discrete, LotOf, Status, is_over, keys, put, without, distinct_without, put_at, put_keys, put_other, without_at, without_other, Held, with_lots, HasNow, AreBack}
-use Rattle.xh_place.proofs.Words.{RecordsOf, records_of, lens, less_all, Body, item_at, item_of, item_in, shown, total_of, with_blocks, IsBlock, IsPlace, settle, settled, append-nil, length-append}
+use Rattle.xh_place.proofs.Words.{lens, less_all, Body, item_at, item_of, item_in, shown, total_of, with_blocks, IsBlock, IsPlace, settle, settled, append-nil, length-append}
 use Rattle.xh_place.proofs.Words.{◌++◌, Event, Accept}
 use Rattle.xh_place.proofs.Words.{Pass, among_either, last_at, last_other, did, accepted_on, moves, passed_on, SeatSaw, SeatSeesMore, with_done, IsElsewhere, CameBack}
+use Rattle.xh_place.proofs.Words.{among_back, among_front}
 use Rattle.xh_place.proofs.Words.{ArePassed, Came}
 use Rattle.xh_core.specs.Several.{has_twice}
 use Rattle.std.proofs.Math.Bool.{or-false}
@@ -103,7 +104,7 @@ total_settled (r ∷ rs) was now xs once d held is =
 
 -- what was passed is at most all
 pub passed_below : {seat : Held Body} (rs given : List ℕ) {room total : ℕ} {state : Status} → IsPlace seat (shown seat.lots rs) room total state → Distinct given
-    → ((r : ℕ) → Among given r → (k : LotOf Body) × (value_at r seat.lots ≡ Some k) × IsBlock (records_of seat) r k) → {lost : ℕ} → lost ≡ lens given (λ r. value_at r seat.lots) → lost ≤ total
+    → ((r : ℕ) → Among given r → (k : LotOf Body) × (value_at r seat.lots ≡ Some k) × IsBlock seat.shape r k) → {lost : ℕ} → lost ≡ lens given (λ r. value_at r seat.lots) → lost ≤ total
 passed_below {seat} rs given {room} {total} {state} is d held {lost} all =
     let was : ℕ → Option (LotOf Body) = λ r. value_at r seat.lots in let none : ℕ → Option (LotOf Body) = λ r. None in
     let a = total_settled given was none (shown seat.lots rs) is.distinct d (λ r h. let k = held r h in (k.0, k.1)) (λ r h. is.same r) in
@@ -146,7 +147,7 @@ settled_place seat last rs ys given back room cap total total' state alive is d 
           (λ n. settled_other q given f xs n ∙ is.same q ∙ sym (ap item_at (others q n)));
       blocks = λ q k a. dite (dec_among given q)
           (λ b. came.good q k b a)
-          (λ n. subst (λ (s : RecordsOf). IsBlock s q k) (sym (ap records_of same)) (is.blocks q k (sym (others q n) ∙ a)));
+          (λ n. subst (λ s. IsBlock s q k) (sym shape) (is.blocks q k (sym (others q n) ∙ a)));
       distinct = distinct_settled given f xs is.distinct;
       sum = omega arith;
       room = subst (λ s. (length s.names * s.records ≤ room) × (length s.names ≤ 8)) (sym shape) is.room;
@@ -155,8 +156,8 @@ settled_place seat last rs ys given back room cap total total' state alive is d 
 
 -- the same where the end e did something
 module _ {seat last : Held Body} (rs : List ℕ) {ys given back : List ℕ} {room cap total total' : ℕ} {state : Status} {e : ℕ} {l m : LotOf Body} (alive : is_over state ≡ true → ⊥)
-    (is : IsPlace seat (shown seat.lots rs) room total state) (at : value_at e seat.lots ≡ Some l) (good : IsBlock (records_of seat) e m) (len : m.len ≡ l.len) (now : value_at e last.lots ≡ Some m)
-    (d : Distinct given) (apart : Among given e → ⊥) (held : (r : ℕ) → Among given r → (k : LotOf Body) × (value_at r seat.lots ≡ Some k) × IsBlock (records_of seat) r k)
+    (is : IsPlace seat (shown seat.lots rs) room total state) (at : value_at e seat.lots ≡ Some l) (good : IsBlock seat.shape e m) (len : m.len ≡ l.len) (now : value_at e last.lots ≡ Some m)
+    (d : Distinct given) (apart : Among given e → ⊥) (held : (r : ℕ) → Among given r → (k : LotOf Body) × (value_at r seat.lots ≡ Some k) × IsBlock seat.shape r k)
     (same : HasNow seat last.lots last) (others : (q : ℕ) → (Among given q → ⊥) → e ≢ q → value_at q last.lots ≡ value_at q seat.lots) (came : AreBack given back last)
     (items : ys ≡ less_all given (λ r. list_any (λ q. q == r) back) rs) (caps : cap ≡ room)
     (sum : total' + lens given (λ r. value_at r seat.lots) ≡ total + lens given (λ r. value_at r last.lots)) where
@@ -248,14 +249,14 @@ accepting_none d given seat back new none once = subst (λ (l : List ℕ). IsAcc
 pub accepting : (d : ℕ) (given more : List ℕ) (r bytes n : ℕ) (old seat last : Held Body) (back new : List ℕ) → Distinct given → Among given r → IsAccepting d given (r ∷ more) old seat back bytes
     → CameBack d r seat last back new n → IsAccepting d given more old last new (bytes + n)
 accepting d given more r bytes n old seat last back new once among is came = ⊎_elim
-    (λ h. let lots : last.lots ≡ seat.lots = ap (λ (k : Held Body). k.lots) h.1 in let home : records_of seat ≡ records_of last = sym (ap records_of h.1) in
+    (λ h. let lots : last.lots ≡ seat.lots = ap (λ (k : Held Body). k.lots) h.1 in let shape : seat.shape ≡ last.shape = sym (ap (λ (k : Held Body). k.shape) h.1) in
     let sum : bytes + n ≡ bytes = (let z : n ≡ 0 = h.2 in omega arith) in
     subst (λ (z : List ℕ). IsAccepting d given more old last z (bytes + n)) (sym h.0) (
       own_lots (with_done (accepted_on old.process d back) old) last _ (h.1 ∙ is.0),
       record {
         here = λ q a. is.1.here q a ∙ ap (λ (l : List (ℕ × LotOf Body)). is_some (value_at q l)) (sym lots);
         only = is.1.only;
-        good = λ q m a f. subst (λ (s : RecordsOf). IsBlock s q m) home (is.1.good q m a (ap (value_at q) (sym lots) ∙ f));
+        good = λ q m a f. subst (λ s. IsBlock s q m) shape (is.1.good q m a (ap (value_at q) (sym lots) ∙ f));
       },
       (λ q a. ap (value_at q) lots ∙ is.2 q (inr a)),
       (λ q o. ap (value_at q) lots ∙ is.3 q o),
@@ -271,7 +272,7 @@ accepting d given more r bytes n old seat last back new once among is came = ⊎
     let mine : value_at r last.lots ≡ Some l = ap (value_at r) lots ∙ last_at r l seat.lots h.2 in
     let at : (q : ℕ) → r ≢ q → value_at q last.lots ≡ value_at q seat.lots = λ q o. ap (value_at q) lots ∙ last_other q r l seat.lots o in
     let any : (q : ℕ) → list_any (λ z. z == q) new ≡ (list_any (λ z. z == q) back || (r == q || false)) = λ q. ap (list_any (λ z. z == q)) h.1 ∙ list_any-append (λ z. z == q) back (r ∷ []) in
-    let home : records_of seat ≡ records_of last = sym (ap records_of h.3) in
+    let shape : seat.shape ≡ last.shape = sym (ap (λ (k : Held Body). k.shape) h.3) in
     let more_bytes : lens given (λ q. value_at q last.lots) ≡ lens given (λ q. value_at q seat.lots) + (item_in (value_at r last.lots)).len =
     lens_one given r (λ q. value_at q seat.lots) (λ q. value_at q last.lots) once among none at in
     let len : (item_in (value_at r last.lots)).len ≡ l.len = ap (λ (o : Option (LotOf Body)). (item_in o).len) mine in let told : n ≡ l.len = h.5 in
@@ -286,8 +287,8 @@ accepting d given more r bytes n old seat last back new once among is came = ⊎
             (among_either back (r ∷ []) q (subst (λ (ks : List ℕ). Among ks q) h.1 a));
         good = λ q m a f. dite (ℕ_discrete r q)
             (λ e. let two : Some l ≡ Some m = sym mine ∙ ap (λ (z : ℕ). value_at z last.lots) e ∙ f in let one : l ≡ m = cc in
-            subst (λ (z : ℕ × LotOf Body). IsBlock (records_of last) z.0 z.1) (λ i. (e i, one i)) (subst (λ (s : RecordsOf). IsBlock s r l) home h.4))
-            (λ o. subst (λ (s : RecordsOf). IsBlock s q m) home (is.1.good q m a (sym (at q o) ∙ f)));
+            subst (λ (z : ℕ × LotOf Body). IsBlock last.shape z.0 z.1) (λ i. (e i, one i)) (subst (λ s. IsBlock s r l) shape h.4))
+            (λ o. subst (λ s. IsBlock s q m) shape (is.1.good q m a (sym (at q o) ∙ f)));
       },
       (λ q a. at q (λ e. is.4.0 (subst (λ (z : ℕ). Among more z) (sym e) a)) ∙ is.2 q (inr a)),
       (λ q o. at q (λ e. o (subst (λ (z : ℕ). Among given z) e among)) ∙ is.3 q o),
@@ -305,17 +306,25 @@ passed_more d gone r old seat last whose before after all one q among = ⊎_elim
     (came_before (Pass old.process r d) old.front before (subst (λ (p : ℕ). Came (Pass p r d) seat.front last.front) whose one))) (λ z. absurd z) a)
     (among_either gone (r ∷ []) q among)
 
--- each of these had another word
-abbrev pub HaveLeft : ℕ → List ℕ → Held Body → Held Body → Type 0
-HaveLeft d gone old new = (r : ℕ) → Among gone r → IsElsewhere (SeatSaw old new) d r
+-- each of these that didn't come back had another word
+abbrev pub AreLost : ℕ → List ℕ → List ℕ → Held Body → Held Body → Type 0
+AreLost d gone back old new = (r : ℕ) → Among gone r → (Among back r → ⊥) → IsElsewhere (SeatSaw old new) d r
 
-pub left_more : (d : ℕ) (gone : List ℕ) (r : ℕ) (old seat last : Held Body) → seat.shape ≡ old.shape → SeatSeesMore old seat → SeatSeesMore seat last → HaveLeft d gone old seat
-    → IsElsewhere (SeatSaw seat last) d r → HaveLeft d (gone ++ r ∷ []) old last
-left_more d gone r old seat last shape before after all one q among = ⊎_elim
-    (λ a. away_as (SeatSaw old seat) (SeatSaw old last) (saw_later old old seat last refl (starts_same refl) after) d q (all q a))
-    (λ a. ⊎_elim (λ (e : q ≡ r). subst (λ (z : ℕ). IsElsewhere (SeatSaw old last) d z) (sym e)
-    (away_as (SeatSaw seat last) (SeatSaw old last) (saw_later old seat last last shape before (starts_same refl)) d r one)) (λ z. absurd z) a)
-    (among_either gone (r ∷ []) q among)
+pub lost_more : (d : ℕ) (gone : List ℕ) (r n : ℕ) (old seat last : Held Body) (back new : List ℕ) → seat.shape ≡ old.shape → SeatSeesMore old seat → SeatSeesMore seat last
+    → AreLost d gone back old seat → CameBack d r seat last back new n → AreLost d (gone ++ r ∷ []) new old last
+lost_more d gone r n old seat last back new shape before after lost came q among missed = ⊎_elim
+    (λ a. away_as (SeatSaw old seat) (SeatSaw old last) (saw_later old old seat last refl (starts_same refl) after) d q (lost q a (λ b. missed (kept q b))))
+    (λ a. ⊎_elim (λ (e : q ≡ r). here e) (λ z. absurd z) a)
+    (among_either gone (r ∷ []) q among) where
+      kept : (z : ℕ) → Among back z → Among new z
+      kept z b = ⊎_elim (λ h. subst (λ (l : List ℕ). Among l z) (sym h.0) b) (λ h. subst (λ (l : List ℕ). Among l z) (sym h.1) (among_front back (r ∷ []) z b)) came
+
+      here : q ≡ r → IsElsewhere (SeatSaw old last) d q
+      here e = ⊎_elim
+          (λ h. subst (λ (z : ℕ). IsElsewhere (SeatSaw old last) d z) (sym e)
+          (away_as (SeatSaw seat last) (SeatSaw old last) (saw_later old seat last last shape before (starts_same refl)) d r h.3))
+          (λ h. absurd (missed (subst (λ (l : List ℕ). Among l q) (sym h.1) (among_back back (r ∷ []) q (inl e)))))
+          came
 
 pub one_longer : (d r bytes : ℕ) (old new : Held Body) (had back : List ℕ) → CameBack d r old new had back bytes → (k : ℕ) → length had ≤ k → length back ≤ k + 1
 one_longer d r bytes old new had back came k few = ⊎_elim

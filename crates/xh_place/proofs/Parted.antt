@@ -1,11 +1,11 @@
 -- A block cut in two, and one in which some bytes were overwritten.
 use Rattle.xh_place.proofs.Words.{◌≡◌, ◌≢◌, ℕ, ◌+◌, ◌-◌, ◌/◌, ◌<◌, ◌≤◌, List, [], ◌∷◌, ◌++◌, length, drop, take, true, refl, sym, ap, ◌∙◌, subst, arith, rules, length-take-le, length-drop, Some}
 use Rattle.xh_place.proofs.Words.{None, LotOf, start, Tests, first_refusal, is_running, is_over, Status, Running, Among, keys, value_at, put, at_key, front_at, keys_push, last_put, put_keys}
-use Rattle.xh_place.proofs.Words.{IsLotOf, Held, IsRecord, IsSeatOf, with_lots, HasNow, IsCut, IsData, bare, Body, Nothing, Data, End, bytes, content_of, fits_in, front, kind_of, rest}
-use Rattle.xh_place.proofs.Words.{RecordsOf, records_of, Item, item_at, item_of, shown, total_of, IsBlock, IsPlace, length-append, patched}
+use Rattle.xh_place.proofs.Words.{IsLotOf, Held, IsRecord, IsSeatOf, RecordsOf, with_lots, HasNow, IsCut, IsData, bare, Body, Nothing, Data, End, bytes, content_of, fits_in, front, kind_of, rest}
+use Rattle.xh_place.proofs.Words.{Item, item_at, item_of, shown, total_of, IsBlock, IsPlace, length-append, Shape, patched}
 use Rattle.xh_model.specs.Arena.{IsGoodCut}
 use Rattle.xh_place.proofs.Listing.{put_front, shown_keys, total_put}
-use Rattle.xh_place.proofs.Gained.{bytes_own, fits_bytes, has}
+use Rattle.xh_place.proofs.Gained.{fits_bytes, has}
 use Rattle.xh_place.proofs.Steps.{IsNow, changes, gains, is_now, quiet_alive, stays, turned}
 use Rattle.xh_core.specs.declared.header.Kind.TheVariants as kind
 use Rattle.std.specs.Prelude.{Bool, Err, Ok, OnErr, Option, Result, Some, cond, is_none, not}
@@ -35,8 +35,7 @@ data_of (End p) n k e = absurd (cc)
 
 -- the list and its place after the cut
 module _ {seat : Held Body} (last : Held Body) (rs : List ℕ) {ys : List ℕ} {room cap total : ℕ} {state : Status} {r t : ℕ} {l h m : LotOf Body} (alive : is_over state ≡ true → ⊥)
-    (is : IsPlace seat (shown seat.lots rs) room total state) (at : value_at r seat.lots ≡ Some l) (head : IsBlock (records_of seat) r h) (tail : IsBlock (records_of seat) t m)
-    (fresh : Among (keys seat.lots) t → ⊥)
+    (is : IsPlace seat (shown seat.lots rs) room total state) (at : value_at r seat.lots ≡ Some l) (head : IsBlock seat.shape r h) (tail : IsBlock seat.shape t m) (fresh : Among (keys seat.lots) t → ⊥)
     (new : HasNow seat (put r h seat.lots ++ (t, m) ∷ []) last) (lens : h.len + m.len ≡ l.len) (items : ys ≡ rs ++ t ∷ []) (caps : cap ≡ room) where
   pub parted : IsNow seat rs state last ys cap total (λ (es : List (ℕ × Item)). put r (item_of h) es ++ (t, item_of m) ∷ [])
   parted =
@@ -61,7 +60,7 @@ pub record Cutting (all : RecordsOf) (seat mid : Held Body) (r t : ℕ) (l l0 : 
   pub exist : IsRecord all.shape r × IsRecord all.shape t
   pub is : HasNow seat (seat.lots ++ (t, l0) ∷ []) mid
 
-pub cutting : (all : RecordsOf) (seat mid : Held Body) (r t : ℕ) (l l0 : LotOf Body) → IsSeatOf all seat → value_at r seat.lots ≡ Some l → IsBlock (records_of seat) r l → IsRecord all.shape t
+pub cutting : (all : RecordsOf) (seat mid : Held Body) (r t : ℕ) (l l0 : LotOf Body) → IsSeatOf all seat → value_at r seat.lots ≡ Some l → IsBlock seat.shape r l → IsRecord all.shape t
     → IsLotOf seat.shape t l0
     → (Among (keys seat.lots) t → ⊥) → HasNow seat (seat.lots ++ (t, l0) ∷ []) mid → Cutting all seat mid r t l l0
 cutting all seat mid r t l l0 own at block exists lot fresh is = record {
@@ -76,8 +75,7 @@ cutting all seat mid r t l l0 own at block exists lot fresh is = record {
   is = is;
 }
 
-pub is_cut : (all : RecordsOf) (seat mid last : Held Body) (r t k : ℕ) (l l0 h m : LotOf Body) (b : Body) → Cutting all seat mid r t l l0 → (Among (keys seat.lots) t → ⊥)
-    → IsBlock (records_of seat) r l
+pub is_cut : (all : RecordsOf) (seat mid last : Held Body) (r t k : ℕ) (l l0 h m : LotOf Body) (b : Body) → Cutting all seat mid r t l l0 → (Among (keys seat.lots) t → ⊥) → IsBlock seat.shape r l
     → IsLotOf seat.shape t l0 → IsRecord seat.shape t → IsData l → IsGoodCut k l.len → t / 256 ≡ r / 256
     → h ≡ record l { len = k; body = h.body } → content_of h.body ≡ front k (content_of l.body) → m ≡ record l0 { len = l.len - k; body = b } → content_of b ≡ rest k (content_of l.body)
     → last ≡ with_lots mid (put t m (put r h mid.lots)) → IsCut seat last r k l t
@@ -99,14 +97,12 @@ is_cut all seat mid last r t k l l0 h m b c fresh block lot exists held good are
         lot = (ap (λ (z : LotOf Body). z.index) head ∙ block.lot.0, block.lot.1 ∙ ap (λ (z : LotOf Body). Some z.id) (sym head));
         full =
             (omega arith, fits_bytes h.body (take k xs) h.len h_bytes h_long (omega arith) (omega arith));
-        own = bytes_own seat.table h (take k xs) h_bytes;
       },
       record {
         exists = exists;
         lot = (ap (λ (z : LotOf Body). z.index) tail ∙ lot.0, lot.1 ∙ ap (λ (z : LotOf Body). Some z.id) (sym tail));
         full =
             (omega arith, fits_bytes m.body (drop k xs) m.len m_bytes m_long (omega arith) (omega arith));
-        own = bytes_own seat.table m (drop k xs) m_bytes;
       },
       h_len,
       omega arith,
@@ -144,10 +140,10 @@ patch_long at ys xs fits =
     let d : length (take at xs ++ (ys ++ drop (at + length ys) xs)) ≡ length (take at xs) + length (ys ++ drop (at + length ys) xs) = length-append (take at xs) (ys ++ drop (at + length ys) xs) in
     omega arith
 
-is_patched : {all : RecordsOf} {r : ℕ} (at : ℕ) (ys : List ℕ) {l m : LotOf Body} {x : Item} → IsBlock all r l → item_of l ≡ x → kind_of x.content ≡ kind.Data → at + length ys ≤ x.len
+is_patched : {s : Shape} {r : ℕ} (at : ℕ) (ys : List ℕ) {l m : LotOf Body} {x : Item} → IsBlock s r l → item_of l ≡ x → kind_of x.content ≡ kind.Data → at + length ys ≤ x.len
     → m ≡ record l { body = m.body } → content_of m.body ≡ patched at ys (content_of l.body)
-    → IsBlock all r m × (m.len ≡ l.len) × (item_of m ≡ record x { content = patched at ys x.content })
-is_patched {all} {r} at ys {l} {m} {x} block same data_kind fits lot content =
+    → IsBlock s r m × (m.len ≡ l.len) × (item_of m ≡ record x { content = patched at ys x.content })
+is_patched {s} {r} at ys {l} {m} {x} block same data_kind fits lot content =
     let d = data_of l.body l.len (ap (λ (z : Item). kind_of z.content) same ∙ data_kind) block.full.1 in let xs : List ℕ = d.0 in
     let long : length xs ≡ l.len = d.2 in let most : l.len ≤ 1048576 = d.3 in
     let len : m.len ≡ l.len = ap (λ (z : LotOf Body). z.len) lot in let x_len : l.len ≡ x.len = ap (λ (z : Item). z.len) same in
@@ -159,7 +155,6 @@ is_patched {all} {r} at ys {l} {m} {x} block same data_kind fits lot content =
         lot = (ap (λ (z : LotOf Body). z.index) lot ∙ block.lot.0, block.lot.1 ∙ ap (λ (z : LotOf Body). Some z.id) (sym lot));
         full =
             (omega arith, fits_bytes m.body (take at xs ++ (ys ++ drop (at + length ys) xs)) m.len new new_long (omega arith) (omega arith));
-        own = bytes_own all.table m (take at xs ++ (ys ++ drop (at + length ys) xs)) new;
       },
       len,
       (λ i. record { len = (len ∙ x_len) i; content = (content ∙ ap (λ (z : Item). patched at ys z.content) same) i }),
@@ -167,7 +162,7 @@ is_patched {all} {r} at ys {l} {m} {x} block same data_kind fits lot content =
 
 -- what a write leaves: the bytes stand in the block, or the seat is as it was
 pub overwritten : {seat : Held Body} (last : Held Body) (rs : List ℕ) {room total : ℕ} {state : Status} {r : ℕ} {l : LotOf Body} {x : Item} {A : Type 0} (at : ℕ) (ys : List ℕ)
-    (result : Result A Refused) → IsPlace seat (shown seat.lots rs) room total state → value_at r seat.lots ≡ Some l → IsBlock (records_of seat) r l → item_of l ≡ x
+    (result : Result A Refused) → IsPlace seat (shown seat.lots rs) room total state → value_at r seat.lots ≡ Some l → IsBlock seat.shape r l → item_of l ≡ x
     → Tested (range_tests (Some (header_of (item_of l))) at (length ys)) result (λ _. IsData l × (at + length ys ≤ l.len)
     × ((m : LotOf Body) × (m ≡ record l { body = m.body }) × (content_of m.body ≡ patched at ys (content_of l.body)) × (last ≡ with_lots seat (put r m seat.lots))))
     → OnErr result (last ≡ seat)

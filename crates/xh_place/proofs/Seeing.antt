@@ -1,9 +1,8 @@
 -- What was seen stays seen, and a word that was seen between two fronts was seen between wider ones.
 use Rattle.xh_place.proofs.Words.{◌≡◌, ℕ, ◌+◌, ◌*◌, ⊎_elim, inl, inr, List, [], ◌∷◌, ◌++◌, append_assoc, append-nil, refl, sym, ap, ◌∙◌, subst, slice_index, Event, value_at, index_of, Shape}
-use Rattle.xh_place.proofs.Words.{HasHeard, IsUnpacked, Laid, None, Noted, Option, Saw, SawFrom, told}
-use Rattle.xh_place.proofs.Words.{StartsWith, Advances, Held, IsRecord, HasSeen, SawTaken, Body, Got, Content, bytes, endpoint, toward, AreEnded, IsSwept, IsSweptBy, AreGot, AreUnpacked}
+use Rattle.xh_place.proofs.Words.{StartsWith, Advances, Held, IsRecord, HasSeen, SawTaken, Body, Got, Message, Content, bytes, endpoint, toward, AreEnded, IsSwept, IsSweptBy, AreGot, AreUnpacked}
 use Rattle.xh_place.proofs.Words.{EndsWith, IsGot, toward_in, Clears, Drains, SeatFull, SeatSaw, SeatSeesMore, Item, PlaceOf, Status, IsElsewhere, IsSeen, PlaceSeen, SawAt, SawFull, SawWord}
-use Rattle.xh_place.proofs.Words.{SeesMore, Came, Pass, SeatSawAfter, among_back, among_front, Accept, HasGained, LotOf, Process, Some, arith, record_of, word_of}
+use Rattle.xh_place.proofs.Words.{SeesMore, Came, Pass, SeatSawAfter, among_back, among_front}
 use Rattle.xh_place.specs.declared.got.Got.TheVariants.{Here, Missing}
 use Rattle.xh_place.proofs.Steps.{view_of}
 
@@ -12,10 +11,6 @@ starts_same {a} {b} e = ([], e ∙ sym (append-nil a))
 
 pub starts_more : (a : List Event) {b c : List Event} → StartsWith b a → StartsWith c b → StartsWith c a
 starts_more a {b} {c} one two = (one.0 ++ two.0, two.1 ∙ ap (λ (l : List Event). l ++ two.0) one.1 ∙ append_assoc a one.0 two.0)
-
--- where there is no note, nothing was told
-pub heard_none : (note : Option Noted) (front : List Event) → note ≡ None → StartsWith front (told note)
-heard_none n front is = subst (λ (o : Option Noted). StartsWith front (told o)) (sym is) (front, refl)
 
 -- a step of the seat
 pub advanced : (own : List Event) (x y : Held Body) → Advances own x y → SeatSeesMore x y
@@ -38,11 +33,6 @@ came_last e x y h = (h.0 ++ e ∷ [], h.1, among_back h.0 (e ∷ []) e (inl refl
 -- a look, as the seat says it
 pub looked : (x y : Held Body) (r word : ℕ) → HasSeen r word x y → SeatSaw x y r word
 looked x y r word h = (y.front, advanced [] x y h.1.1, starts_same refl, h.0.1)
-
--- a record that came is elsewhere: its word is the process's own then
-pub came_elsewhere : (p r d : ℕ) (is : LotOf Body → Type 0) (x y last : Held Body) → HasGained (Accept p r d) is x y → last ≡ y → IsElsewhere (SeatSaw x last) d r
-came_elsewhere p r d is x y last gained same =
-    (word_of (Some (Process x.process)), (λ w. absurd (omega arith)), (y.front, advanced (Accept p r d ∷ []) x y gained.4, starts_same (ap (λ (h : Held Body). h.front) same), gained.5))
 
 pub saw_wide : (s : Shape) (from to from' to' : List Event) (k word : ℕ) → StartsWith from from' → StartsWith to' to → SawAt s from to k word → SawAt s from' to' k word
 saw_wide s from to from' to' k word before after h = (h.0, starts_more from' before h.1, starts_more h.0 h.2 after, h.3)
@@ -69,24 +59,8 @@ module _ (old new old' new' : PlaceSeen) (shape : old.place.shape ≡ old'.place
   word_wide r word h = subst (λ (s : Shape). SawAt s old'.front new'.front (index_of s.records r) word) shape
       (saw_wide old.place.shape old.front new.front old'.front new'.front (index_of old.place.shape.records r) word before after h)
 
-  none_wide : (r word : ℕ) → (IsRecord old.place.shape r → ⊥) × (word ≡ 0) → (IsRecord old'.place.shape r → ⊥) × (word ≡ 0)
-  none_wide r word n = subst (λ (s : Shape). (IsRecord s r → ⊥) × (word ≡ 0)) shape n
-
-  pub saw_also : (r word : ℕ) → Saw old new r word → Saw old' new' r word
-  saw_also r word h = ⊎_elim (λ w. inl (word_wide r word w)) (λ n. inr (none_wide r word n)) h
-
-  pub seen_wide : (note : Option Noted) (r word : ℕ) → IsSeen old new note r word → IsSeen old' new' note r word
-  seen_wide note r word h = ⊎_elim
-      (λ w. inl (subst (λ (s : Shape). SawFrom (HasHeard old'.front note) s new'.front (index_of s.records r) word) shape
-      (w.0, (starts_more old'.front before w.1.0, w.1.1), saw_wide old.place.shape w.0 new.front w.0 new'.front (index_of old.place.shape.records r) word (starts_same refl) after w.2)))
-      (λ n. inr (none_wide r word n)) h
-
-  -- what it saw once it had heard the note
-  pub saw_heard : (note : Option Noted) → StartsWith old.front (told note) → (r word : ℕ) → Saw old new r word → IsSeen old' new' note r word
-  saw_heard note heard r word h = ⊎_elim
-      (λ w. inl (subst (λ (s : Shape). SawFrom (HasHeard old'.front note) s new'.front (index_of s.records r) word) shape
-      (old.front, (before, heard), saw_wide old.place.shape old.front new.front old.front new'.front (index_of old.place.shape.records r) word (starts_same refl) after w)))
-      (λ n. inr (none_wide r word n)) h
+  pub seen_wide : (r word : ℕ) → IsSeen old new r word → IsSeen old' new' r word
+  seen_wide r word h = ⊎_elim (λ w. inl (word_wide r word w)) (λ n. inr (subst (λ (s : Shape). (IsRecord s r → ⊥) × (word ≡ 0)) shape n)) h
 
 -- ---- what is told of looks, where each is a look in another sense
 
@@ -95,20 +69,15 @@ module _ (P Q : ℕ → ℕ → Type 0) (f : (r word : ℕ) → P r word → Q r
   away_as d r h = (h.0, h.1, f r h.0 h.2)
 
   pub got_as : (d : ℕ) (ys : List (ℕ × Item)) (got : Got) → IsGot P d ys got → IsGot Q d ys got
-  got_as d ys (Here block) h = (h.0, h.1, h.2, away_as d block.rec h.3)
+  got_as d ys (Here block) h = h
   got_as d ys (Missing r word) h = (h.0, h.1, f r word h.2)
 
   pub all_got_as : (d : ℕ) (ys : List (ℕ × Item)) (gots : List Got) → AreGot P d ys gots → AreGot Q d ys gots
   all_got_as d ys [] h = h
   all_got_as d ys (got ∷ gots) h = (h.0, h.1, h.2, got_as d h.0 got h.3, all_got_as d h.1 gots h.4)
 
-module _ (P Q : Option Noted → ℕ → ℕ → Type 0) (f : (note : Option Noted) (r word : ℕ) → P note r word → Q note r word) where
-  pub one_unpacked_as : (d : ℕ) (x : Laid) (came : List (ℕ × Item)) → IsUnpacked P d x came → IsUnpacked Q d x came
-  one_unpacked_as d x came h = (h.0, h.1, all_got_as (P x.note) (Q x.note) (f x.note) d came h.0 h.2)
-
-  pub unpacked_as : (d : ℕ) (ms : List Laid) (came : List (ℕ × Item)) → AreUnpacked P d ms came → AreUnpacked Q d ms came
-  unpacked_as d [] came h = h
-  unpacked_as d (x ∷ xs) came h = (h.0, h.1, h.2, one_unpacked_as d x h.0 h.3, unpacked_as d xs h.1 h.4)
+  pub unpacked_as : (d : ℕ) (ms : List Message) (came : List (ℕ × Item)) → AreUnpacked P d ms came → AreUnpacked Q d ms came
+  unpacked_as d ms came h = (h.0, h.1, all_got_as d came h.0 h.2)
 
   pub ends_as : (c : Content) (came : List (ℕ × Item)) → EndsWith P c came → EndsWith Q c came
   ends_as (bytes xs) came h = h
@@ -152,7 +121,7 @@ since {p} {q} e {last} h = subst (λ (f : List Event). StartsWith last f) (front
 
 -- what the seat saw since an event that it did, by the place that it was
 abbrev SeenSince : PlaceSeen → Held Body → Event → ℕ → ℕ → Type 0
-SeenSince p last e r word = SawFrom (Came e p.front) p.place.shape last.front (index_of p.place.shape.records r) word
+SeenSince p last e r word = (from : List Event) × Came e p.front from × SawAt p.place.shape from last.front (index_of p.place.shape.records r) word
 
 -- what the seat saw, as the place says it
 module _ (seat : Held Body) {xs : List (ℕ × Item)} {state : Status} {p : PlaceSeen} (is : record { place = view_of seat xs state; front = seat.front } ≡ p) (last : Held Body) where

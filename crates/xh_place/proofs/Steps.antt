@@ -3,7 +3,7 @@ use Rattle.xh_place.proofs.Words.{◌≡◌, ℕ, ◌+◌, ◌-◌, ◌*◌, ◌
 use Rattle.xh_place.proofs.Words.{length-map, Some, None, Option, MatchBool, is_some, number_of, dite, ℕ_discrete, LotOf, Status, Vacant, Running, Ending, Ended, index_of, Shape, Among, Distinct}
 use Rattle.xh_place.proofs.Words.{keys, value_at, put, without, at_key, distinct_push, distinct_without, here_first, keys_push, length-keys, last_at, last_other, no_key, none_at, not_here, put_at}
 use Rattle.xh_place.proofs.Words.{put_keys, put_other, without_at, without_other, Held, IsRecord, with_lots, moves, HasNow, Body, Nothing, fits_in, is_over, is_running, Item, PlaceOf, with_blocks}
-use Rattle.xh_place.proofs.Words.{RecordsOf, records_of, item_of, item_in, item_at, shown, total_of, IsBlock, IsQuiet, IsPlace, less, suc, nat_tests, absent, alone, last}
+use Rattle.xh_place.proofs.Words.{item_of, item_in, item_at, shown, total_of, IsBlock, IsQuiet, IsPlace, less, suc, nat_tests, absent, alone, last}
 use Rattle.std.proofs.Math.Nat.{mul_comm}
 use Rattle.std.proofs.lemmas.Nat.{mul-add-lt}
 use Rattle.xh_model.proofs.Words.{number_back}
@@ -48,8 +48,8 @@ fit_small : (b : Body) (n : ℕ) → fits_in b n ≡ true → n ≤ 1048576
 fit_small Nothing n e = search rules
 fit_small b n e = search rules
 
-pub block_small : {all : RecordsOf} {r : ℕ} {l : LotOf Body} → IsBlock all r l → l.len ≤ 1048576
-block_small {all} {r} {l} is = fit_small l.body l.len is.full.1
+pub block_small : {s : Shape} {r : ℕ} {l : LotOf Body} → IsBlock s r l → l.len ≤ 1048576
+block_small {s} {r} {l} is = fit_small l.body l.len is.full.1
 
 pub quiet_alive : (s : Status) (xs : List (ℕ × Item)) → (is_over s ≡ true → ⊥) → IsQuiet s xs
 quiet_alive Running xs e = tt
@@ -65,7 +65,7 @@ still_quiet s f xs e q = ap f q ∙ e
 pub kept : (seat last : Held Body) (xs : List (ℕ × Item)) (room total : ℕ) (state : Status) → HasNow seat seat.lots last → IsPlace seat xs room total state → IsPlace last xs room total state
 kept seat last xs room total state e is = record {
   same = λ r. is.same r ∙ ap (λ (h : Held Body). item_at (value_at r h.lots)) (sym e);
-  blocks = λ r l at. subst (λ (h : Held Body). IsBlock (records_of h) r l) (sym e) (is.blocks r l (ap (λ (h : Held Body). value_at r h.lots) (sym e) ∙ at));
+  blocks = λ r l at. subst (λ (h : Held Body). IsBlock h.shape r l) (sym e) (is.blocks r l (ap (λ (h : Held Body). value_at r h.lots) (sym e) ∙ at));
   distinct = is.distinct;
   sum = is.sum;
   room = subst (λ (h : Held Body). (length h.shape.names * h.shape.records ≤ room) × (length h.shape.names ≤ 8)) (sym e) is.room;
@@ -86,7 +86,7 @@ item_one (Some l) x e = let f : x ≡ item_of l = cc in (l, refl, f)
 
 module _ {seat : Held Body} {xs : List (ℕ × Item)} {room total : ℕ} {state : Status} (is : IsPlace seat xs room total state) where
   -- a record of the list has its lot in the seat, and a lot its record
-  pub lot_of : (r : ℕ) (x : Item) → value_at r xs ≡ Some x → (l : LotOf Body) × (value_at r seat.lots ≡ Some l) × (x ≡ item_of l) × IsBlock (records_of seat) r l
+  pub lot_of : (r : ℕ) (x : Item) → value_at r xs ≡ Some x → (l : LotOf Body) × (value_at r seat.lots ≡ Some l) × (x ≡ item_of l) × IsBlock seat.shape r l
   lot_of r x e = let t = item_one (value_at r seat.lots) x (sym e ∙ is.same r) in (t.0, t.1, t.2, is.blocks r t.0 t.1)
 
   -- so the list of numbers is what shows it
@@ -143,7 +143,7 @@ module _ {seat : Held Body} {xs : List (ℕ × Item)} {room total : ℕ} {state 
   total_bound = let a : length xs ≤ 2048 = count_bound in let b : total ≤ length xs * 1048576 = small in omega arith
 
   -- a record more
-  module _ (last : Held Body) (r : ℕ) (l : LotOf Body) (fresh : Among (keys seat.lots) r → ⊥) (new : HasNow seat (seat.lots ++ (r, l) ∷ []) last) (good : IsBlock (records_of seat) r l) where
+  module _ (last : Held Body) (r : ℕ) (l : LotOf Body) (fresh : Among (keys seat.lots) r → ⊥) (new : HasNow seat (seat.lots ++ (r, l) ∷ []) last) (good : IsBlock seat.shape r l) where
     pub gains : IsQuiet state (xs ++ (r, item_of l) ∷ []) → IsPlace last (xs ++ (r, item_of l) ∷ []) room (total + l.len) state
     gains quiet = kept (with_lots seat (seat.lots ++ (r, l) ∷ [])) last (xs ++ (r, item_of l) ∷ []) room (total + l.len) state new record {
       same = λ q. dite (ℕ_discrete r q)
@@ -152,7 +152,7 @@ module _ {seat : Held Body} {xs : List (ℕ × Item)} {room total : ℕ} {state 
           (λ n. last_other q r (item_of l) xs n ∙ is.same q ∙ sym (ap item_at (last_other q r l seat.lots n)));
       blocks = λ q m. dite (ℕ_discrete r q)
           (λ e at. let same : Some l ≡ Some m = sym (last_at r l seat.lots fresh) ∙ ap (λ (z : ℕ). value_at z (seat.lots ++ (r, l) ∷ [])) e ∙ at in let one : l ≡ m = cc in
-          subst (λ (z : ℕ × LotOf Body). IsBlock (records_of seat) z.0 z.1) (λ i. (e i, one i)) good)
+          subst (λ (z : ℕ × LotOf Body). IsBlock seat.shape z.0 z.1) (λ i. (e i, one i)) good)
           (λ n at. is.blocks q m (sym (last_other q r l seat.lots n) ∙ at));
       distinct = subst Distinct (sym (keys_push xs (r, item_of l))) (distinct_push (keys xs) r is.distinct (not_listed r fresh));
       sum = ap (λ (z : ℕ). z + l.len) is.sum ∙ sym (total_last xs r (item_of l));
@@ -189,7 +189,7 @@ module _ {seat : Held Body} {xs : List (ℕ × Item)} {room total : ℕ} {state 
         })
 
   -- another lot in the place of one
-  module _ (last : Held Body) (r : ℕ) (l m : LotOf Body) (at : value_at r seat.lots ≡ Some l) (new : HasNow seat (put r m seat.lots) last) (good : IsBlock (records_of seat) r m) where
+  module _ (last : Held Body) (r : ℕ) (l m : LotOf Body) (at : value_at r seat.lots ≡ Some l) (new : HasNow seat (put r m seat.lots) last) (good : IsBlock seat.shape r m) where
     was : value_at r xs ≡ Some (item_of l)
     was = is.same r ∙ ap item_at at
 
@@ -201,7 +201,7 @@ module _ {seat : Held Body} {xs : List (ℕ × Item)} {room total : ℕ} {state 
           (λ n. put_other q r (item_of m) xs n ∙ is.same q ∙ sym (ap item_at (put_other q r m seat.lots n)));
       blocks = λ q k. dite (ℕ_discrete r q)
           (λ e a. let same : Some m ≡ Some k = sym (put_at r m l seat.lots at) ∙ ap (λ (z : ℕ). value_at z (put r m seat.lots)) e ∙ a in let one : m ≡ k = cc in
-          subst (λ (z : ℕ × LotOf Body). IsBlock (records_of seat) z.0 z.1) (λ i. (e i, one i)) good)
+          subst (λ (z : ℕ × LotOf Body). IsBlock seat.shape z.0 z.1) (λ i. (e i, one i)) good)
           (λ n a. is.blocks q k (sym (put_other q r m seat.lots n) ∙ a));
       distinct = subst Distinct (sym (put_keys r (item_of m) xs)) is.distinct;
       sum = refl;
@@ -248,7 +248,7 @@ module _ {seat : Held Body} (rs : List ℕ) {room total : ℕ} {state : Status} 
   abbrev xs : List (ℕ × Item)
   xs = shown seat.lots rs
 
-  pub list_room : {r : ℕ} {l : LotOf Body} → IsBlock (records_of seat) r l → (Among (keys seat.lots) r → ⊥) → length rs < room
+  pub list_room : {r : ℕ} {l : LotOf Body} → IsBlock seat.shape r l → (Among (keys seat.lots) r → ⊥) → length rs < room
   list_room {r} {l} good fresh = subst (λ (n : ℕ). n < room) (shown_long seat.lots rs) (has_room is r good.exists fresh)
 
   pub list_few : length rs ≤ 2048
@@ -264,7 +264,7 @@ module _ {seat : Held Body} (rs : List ℕ) {room total : ℕ} {state : Status} 
       (items ∙ ap (less r) (sym (shown_keys seat.lots rs)) ∙ sym (keys_without r xs)) same (ap (λ (z : ℕ). total - z) len)
 
   pub won : (last : Held Body) {r : ℕ} {l : LotOf Body} {ys : List ℕ} {room' n : ℕ} → (Among (keys seat.lots) r → ⊥) → HasNow seat (seat.lots ++ (r, l) ∷ []) last
-      → IsBlock (records_of seat) r l → (is_over state ≡ true → ⊥) → ys ≡ rs ++ r ∷ [] → room' ≡ room → n ≡ l.len
+      → IsBlock seat.shape r l → (is_over state ≡ true → ⊥) → ys ≡ rs ++ r ∷ [] → room' ≡ room → n ≡ l.len
       → IsNow seat rs state last ys room' (total + n) (λ (es : List (ℕ × Item)). es ++ (r, item_of l) ∷ [])
   won last {r} {l} {ys} {room'} {n} fresh new good alive items same len =
       is_now seat rs state last (seat.lots ++ (r, l) ∷ []) ys room (total + l.len) room' (total + n) (λ (es : List (ℕ × Item)). es ++ (r, item_of l) ∷ []) new
@@ -272,7 +272,7 @@ module _ {seat : Held Body} (rs : List ℕ) {room total : ℕ} {state : Status} 
       (items ∙ ap (λ (z : List ℕ). z ++ r ∷ []) (sym (shown_keys seat.lots rs)) ∙ sym (keys_push xs (r, item_of l))) same (ap (λ (z : ℕ). total + z) len)
 
   -- its list does not move where one of its lots does
-  pub turned : (last : Held Body) {r : ℕ} {l m : LotOf Body} → value_at r seat.lots ≡ Some l → HasNow seat (put r m seat.lots) last → IsBlock (records_of seat) r m → m.len ≡ l.len
+  pub turned : (last : Held Body) {r : ℕ} {l m : LotOf Body} → value_at r seat.lots ≡ Some l → HasNow seat (put r m seat.lots) last → IsBlock seat.shape r m → m.len ≡ l.len
       → IsNow seat rs state last rs room total (put r (item_of m))
   turned last {r} {l} {m} at new good len =
       is_now seat rs state last (put r m seat.lots) rs room (total_of (put r (item_of m) xs)) room total (put r (item_of m)) new (changes is last r l m at new good)

@@ -3,7 +3,7 @@ use Rattle.xh_place.proofs.Words.{◌≡◌, ℕ, zero, suc, ◌+◌, ◌-◌, �
 use Rattle.xh_place.proofs.Words.{take-append-drop, Option, None, Result, Err, MatchOption, TallyOf, Refused, reclaimed, Tests, first_refusal, Status, Ending, Ended, true, MAX_BUDGET, is_over}
 use Rattle.xh_place.proofs.Words.{HasGivenBack, IsSwept, ending, RefusedOr, IsTooLate, ending_again, IsSweptLate, Item, PlaceOf, total_of, with_list, with_more, append_assoc, append-nil, Some}
 use Rattle.xh_place.proofs.Words.{drop-append-le, drop_at, drop-drop, length-drop, length-take-le, take-append-le, take_at, Event, nat_tests, Among, Distinct, keys, put, value_at, without}
-use Rattle.xh_place.proofs.Words.{Noted, keys_append, absent, here_first, not_here, put_keys, put_without, toward, accepted_on, AreEnded, IsSweptBy, back_of, EndsWith, Clears, with_blocks, gave}
+use Rattle.xh_place.proofs.Words.{keys_append, absent, here_first, not_here, put_keys, put_without, toward, accepted_on, AreEnded, IsSweptBy, back_of, EndsWith, Clears, with_blocks, gave}
 use Rattle.std.proofs.Math.Seq.{drop-append_seam, take-append_seam, take-add}
 use Rattle.xh_place.proofs.Listing.{total_both, total_last, total_put}
 
@@ -12,7 +12,7 @@ again_same Ended xs none = ap (λ (l : List (ℕ × Item)). ending_again Ended (
 again_same s xs none = refl
 
 -- a sweep says nothing of how far the process has come
-any_state : (saw : Option Noted → ℕ → ℕ → Type 0) (from budget bytes left : ℕ) (old new : PlaceOf) (s t : Status) → IsSwept saw from budget old new bytes left
+any_state : (saw : ℕ → ℕ → Type 0) (from budget bytes left : ℕ) (old new : PlaceOf) (s t : Status) → IsSwept saw from budget old new bytes left
     → IsSwept saw from budget (record old { state = s }) (record new { state = t }) bytes left
 any_state saw from budget bytes left old new s t is = let by = is.by in record {
   count = is.count;
@@ -23,7 +23,7 @@ any_state saw from budget bytes left old new s t is = let by = is.by in record {
 }
 
 -- a stop: the process is ending while the list is swept, and then is as far as the blocks that are left say
-pub stopped : (saw : Option Noted → ℕ → ℕ → Type 0) (budget bytes left count : ℕ) (old mid swept new : PlaceOf) (result : Result ℕ Refused) → mid ≡ record old { state = Ending }
+pub stopped : (saw : ℕ → ℕ → Type 0) (budget bytes left count : ℕ) (old mid swept new : PlaceOf) (result : Result ℕ Refused) → mid ≡ record old { state = Ending }
     → IsSwept saw 0 budget mid swept bytes left → swept ≡ with_list mid swept → count ≡ length swept.blocks - 0 → new ≡ record swept { state = ending count } → result ≡ reclaimed bytes count
     → IsSwept saw 0 budget old new bytes (length new.blocks) × (new ≡ record (with_list old new) { state = ending (length new.blocks) }) × (result ≡ reclaimed bytes (length new.blocks))
 stopped saw budget bytes left count old mid swept new result start is list counted end told =
@@ -54,10 +54,9 @@ untested tests told refusal passed h = subst (λ (o : Option Refused). MatchOpti
 total_left : (k : ℕ) (xs : List (ℕ × Item)) → total_of (drop k xs) ≤ total_of xs
 total_left k xs = omega (arith, total_both (take k xs) (drop k xs), ap total_of (take-append-drop k xs))
 
--- what a sweep from the last record on gave back is no less than its length
-pub last_bytes : (saw : Option Noted → ℕ → ℕ → Type 0) (front : List (ℕ × Item)) (r : ℕ) (x : Item) (old new : PlaceOf) (bytes left : ℕ) → old.blocks ≡ front ++ (r, x) ∷ []
-    → IsSwept saw (length front) MAX_BUDGET old new bytes left → x.len ≤ bytes
-last_bytes saw front r x old new bytes left whole is = go is.count refl is.by.accepted is.by.list is.by.sum where
+late_bytes : (saw : ℕ → ℕ → Type 0) (d r : ℕ) (x : Item) (old new : PlaceOf) (bytes left : ℕ) → IsSwept saw (length old.blocks) MAX_BUDGET (with_more d ((r, x) ∷ []) old) new bytes left
+    → x.len ≤ bytes
+late_bytes saw d r x old new bytes left is = go is.count refl is.by.accepted is.by.list is.by.sum where
   from : ℕ
   from = length front
 
@@ -78,7 +77,7 @@ last_bytes saw front r x old new bytes left whole is = go is.count refl is.by.ac
       let less : total_of (drop k accepted) ≤ total_of accepted = total_left k accepted in omega (arith, here, less, sum, all)
 
 -- an endpoint came, or none did, and the place is as far as it was, or ending again; `none` is what is known where none did
-pub turned : (saw : Option Noted → ℕ → ℕ → Type 0) (none : Type 0) (d r n : ℕ) (old mid swept new : PlaceOf) (told now : List TallyOf) → (is_over old.state ≡ true → old.blocks ≡ [])
+pub turned : (saw : ℕ → ℕ → Type 0) (none : Type 0) (d r n : ℕ) (old mid swept new : PlaceOf) (told now : List TallyOf) → (is_over old.state ≡ true → old.blocks ≡ [])
     → mid ≡ record old { state = Ending }
     → ((swept ≡ mid) × (now ≡ told) × none) ⊎ ((sum : ℕ) × IsSweptLate saw d r mid swept sum × HasGivenBack sum told now)
     → n ≡ length swept.blocks - 0 → new ≡ record swept { state = ending_again old.state n }
@@ -112,7 +111,7 @@ turned saw none d r n old mid swept new told now quiet woken came left last =
 
 -- ---- the blocks that went
 
-ended_both : (saw : Option Noted → ℕ → ℕ → Type 0) (p : ℕ) (gone more ys zs : List (ℕ × Item)) (es fs : List Event) → AreEnded saw p gone ys es → AreEnded saw p more zs fs
+ended_both : (saw : ℕ → ℕ → Type 0) (p : ℕ) (gone more ys zs : List (ℕ × Item)) (es fs : List Event) → AreEnded saw p gone ys es → AreEnded saw p more zs fs
     → AreEnded saw p (gone ++ more) (ys ++ zs) (es ++ fs)
 ended_both saw p [] more ys zs es fs one two =
     subst (λ (z : List (ℕ × Item) × List Event). AreEnded saw p more (z.0 ++ zs) (z.1 ++ fs)) (λ i. (sym one.0 i, sym one.1 i)) two
@@ -127,7 +126,7 @@ ended_both saw p (y ∷ gone) more ys zs es fs one two = (
 )
 
 -- one sweep after another from the same place
-pub swept_more : (saw : Option Noted → ℕ → ℕ → Type 0) (from u k a b : ℕ) (old mid new : PlaceOf) → from ≤ length old.blocks → mid.process ≡ old.process → IsSweptBy saw from u old mid a
+pub swept_more : (saw : ℕ → ℕ → Type 0) (from u k a b : ℕ) (old mid new : PlaceOf) → from ≤ length old.blocks → mid.process ≡ old.process → IsSweptBy saw from u old mid a
     → IsSweptBy saw from k mid new b
     → IsSweptBy saw from (u + k) old new (a + b)
 swept_more saw from u k a b old mid new inside whose one two =
@@ -172,7 +171,7 @@ cut_out (suc from) r x more (y ∷ w) d e =
       among_drop (suc k) q (z ∷ w) h = inr (among_drop k q w h)
 
 -- some came to an end at `from`, and then it went
-swept_one : (saw : Option Noted → ℕ → ℕ → Type 0) (from r bytes d : ℕ) (x : Item) (more : List (ℕ × Item)) (old mid new : PlaceOf) (ys : List (ℕ × Item)) → from ≤ length old.blocks
+swept_one : (saw : ℕ → ℕ → Type 0) (from r bytes d : ℕ) (x : Item) (more : List (ℕ × Item)) (old mid new : PlaceOf) (ys : List (ℕ × Item)) → from ≤ length old.blocks
     → drop from old.blocks ≡ (r, x) ∷ more
     → mid ≡ with_more d ys old → Distinct (keys mid.blocks) → AreEnded saw old.process ((r, x) ∷ []) ys (accepted_on old.process d (keys ys))
     → new ≡ with_blocks mid (without r mid.blocks)
@@ -199,7 +198,7 @@ without_both r [] ys = refl
 without_both r (x ∷ xs) ys = grind (arith, nat_tests, without_both r xs ys)
 
 -- the block at `from` went, an endpoint after it was shut and drained
-pub swept_clear : (saw : Option Noted → ℕ → ℕ → Type 0) (from r bytes : ℕ) (x : Item) (more : List (ℕ × Item)) (old mid new : PlaceOf) → from ≤ length old.blocks → drop from old.blocks ≡ (r, x) ∷ more
+pub swept_clear : (saw : ℕ → ℕ → Type 0) (from r bytes : ℕ) (x : Item) (more : List (ℕ × Item)) (old mid new : PlaceOf) → from ≤ length old.blocks → drop from old.blocks ≡ (r, x) ∷ more
     → value_at r old.blocks ≡ Some x
     → Clears saw r old mid → Distinct (keys mid.blocks) → new ≡ with_blocks mid (without r mid.blocks) → bytes + total_of new.blocks ≡ total_of mid.blocks → IsSweptBy saw from 1 old new bytes
 swept_clear saw from r bytes x more old mid new inside first at clear once is sum =

@@ -8,11 +8,8 @@ pub use Rattle.std.proofs.lemmas.Bool.Decides.{nat_tests}
 pub use Rattle.std.proofs.lemmas.List.{drop-append-le, drop-drop, drop_at, drop_more, length-map, length-replicate, map-append, set-get_or, take-append-drop, take-append-le, take_at, take_more}
 pub use Rattle.std.proofs.lemmas.Result.{on_err_weaker, on_ok_weaker}
 pub use Rattle.std.specs.List.{list_all, list_any}
-pub use Rattle.std.specs.Prelude.{is_err}
 pub use Rattle.xh_arena.specs.Views.{LotOf, TallyOf}
-pub use Rattle.xh_channel.specs.Queues.{IsSameEnd, KeepsItsMessages, Posted, TakesAs}
-pub use Rattle.xh_channel.specs.Beside.{IsOf}
-pub use Rattle.xh_channel.specs.declared.laid.Laid.{Laid}
+pub use Rattle.xh_channel.specs.Queues.{IsSameEnd, Posted}
 pub use Rattle.xh_channel.specs.declared.message.Message.{Message}
 pub use Rattle.xh_core.specs.Calls.{alloc_tests, arena_tests, end_tests, given_tests, reclaimed, split_tests}
 pub use Rattle.xh_core.specs.Refusing.{Tests, first_refusal}
@@ -30,17 +27,16 @@ pub use Rattle.xh_model.specs.declared.event.Event.{Event}
 pub use Rattle.xh_model.specs.declared.event.Event.TheVariants.{Accept, Claim, Pass, Vacate}
 pub use Rattle.xh_model.specs.declared.event.Holder.TheVariants.{Process}
 pub use Rattle.xh_model.specs.declared.limits.TheConstants.{END_BYTES, MAX_BUDGET}
-pub use Rattle.xh_place.specs.Bodies.{Content, away, bytes, content_of, endpoint, fits_in, front, kind_of, log_of, part, patched, rest, toward}
+pub use Rattle.xh_place.specs.Bodies.{Content, away, bytes, content_of, endpoint, fits_in, front, kind_of, part, patched, rest, toward}
 pub use Rattle.xh_place.specs.Desk.{IsSameDesk, IsSeatAt}
 pub use Rattle.xh_place.specs.Ending.{AreEnded, HasGivenBack, IsClosed, IsSwept, IsSweptBy, alone, back_of, ending, last}
-pub use Rattle.xh_place.specs.Endpoints.{AreGot, AreUnpacked, EndsWith, IsDrained, IsGot, IsUnpacked, Puts, Shuts, Takes, TakesEach, TakesNone, TakesOne, carrying, hearing, record_of}
-pub use Rattle.xh_place.specs.Ends.{EndDoes, IsTooLate, RefusedOr, at_home, away_in, end_block, ending_again, toward_in}
+pub use Rattle.xh_place.specs.Endpoints.{AreGot, AreUnpacked, EndsWith, IsDrained, IsGot, Puts, Shuts, Takes, TakesEach, blocks_of, record_of}
+pub use Rattle.xh_place.specs.Ends.{EndDoes, IsTooLate, RefusedOr, away_in, end_block, ending_again, toward_in}
 pub use Rattle.xh_place.specs.Messages.{Answers, IsSent, IsTaken, IsUntaken, Unpacks, is_listed, settle, settled}
 pub use Rattle.xh_place.specs.Moves.{accepted_on, moves, passed_on, there_and_back}
-pub use Rattle.xh_place.specs.Places.{AreBlocks, Fits, IsBlock, IsPlace, IsPlaceOf, IsQuiet, IsWhole, Item, Lists, PlaceOf, entry_of, found as found_at, header_of, item_at, item_in, item_of}
-pub use Rattle.xh_place.specs.Places.{records_of, shown}
+pub use Rattle.xh_place.specs.Places.{Lists}
 pub use Rattle.xh_place.specs.Places.{total_of, with_blocks, with_list, with_more, with_moved}
-pub use Rattle.xh_place.specs.Seen.{Came, HasHeard, HasLeft, IsElsewhere, IsSamePlace, IsSeen, Passed, PlaceSeen, Saw, SawAfter, SawAt, SawFrom, SawFull, SawWord, SeesMore, Stays, told}
+pub use Rattle.xh_place.specs.Seen.{Came, HasLeft, IsElsewhere, IsSamePlace, IsSeen, PlaceSeen, SawAfter, SawAt, SawFull, SawWord, SeesMore, Stays}
 pub use Rattle.xh_place.specs.Starts.{start, stop}
 pub use Rattle.xh_place.specs.Tallies.{gave, ids_of, took}
 pub use Rattle.xh_place.specs.declared.body.Body.{Body}
@@ -48,11 +44,11 @@ pub use Rattle.xh_place.specs.declared.body.Body.TheVariants.{Data, End, Nothing
 pub use Rattle.xh_place.specs.declared.got.Got.{Got}
 pub use Rattle.xh_place.specs.declared.got.Taken.{Taken}
 pub use Rattle.xh_place.specs.inner.Lists.{AreBack, CameBack, lens, less, less_all}
-pub use Rattle.xh_place.specs.inner.Lots.{ArePassed, HasNow, IsCut, IsData, IsEnd, LotDoes, LotPuts, SeatFull, SeatSaw, SeatSawAfter, SeatSeesMore, bare, with_done}
+pub use Rattle.xh_place.specs.inner.Lots.{ArePassed, HasNow, IsCut, IsData, IsEnd, LotDoes, SeatFull, SeatSaw, SeatSawAfter, SeatSeesMore, bare, with_done}
 pub use Rattle.xh_place.specs.inner.Reclaiming.{Clears, Drains, IsSweptLate}
 pub use Rattle.xh_records.specs.History.{StartsWith}
-pub use Rattle.xh_records.specs.Seats.{Advances, HasGained, HasSeen, Held, IsRecord, IsSeatOf, Knows, Noted, RecordsOf, SawTaken, did, owned_by, seen, with_lots}
-pub use Rattle.xh_records.specs.Showing.{IsLotOf, IsOwn}
+pub use Rattle.xh_records.specs.Seats.{Advances, HasSeen, Held, IsRecord, IsSeatOf, Knows, RecordsOf, SawTaken, did, owned_by, seen, with_lots}
+pub use Rattle.xh_records.specs.Showing.{IsLotOf}
 pub use Rattle.xh_records.specs.declared.shape.Shape.{Shape}
 pub use mathlib.Core.Logic.{dite}
 pub use native.Mathlib.Decide.{ℕ_discrete}

@@ -1,6 +1,5 @@
 -- What contracts see of what a block carries.
-use Rattle.std.specs.Prelude.{◌≡◌, ℕ, Bool, ◌==◌, ◌&&◌, nat_le, nat_lt, ◌+◌, ◌-◌, ◌*◌, List, [], ◌++◌, take, drop, length, Option, Some, None}
-use Rattle.atomic_table.specs.Seated.{TableId}
+use Rattle.std.specs.Prelude.{◌≡◌, ℕ, Bool, ◌==◌, ◌&&◌, nat_le, nat_lt, ◌+◌, ◌-◌, ◌*◌, List, [], ◌++◌, take, drop, length}
 use Rattle.xh_channel.specs.Queues.{Posted}
 use Rattle.xh_model.specs.declared.limits.TheConstants.{DIRECTIONS, END_BYTES, MAX_BYTES}
 use Rattle.xh_place.specs.declared.body.Body.{Body}
@@ -27,12 +26,6 @@ abbrev pub fits_in : Body → ℕ → Bool
 fits_in Nothing n = n == 0
 fits_in (Data v) n = (length v.items == n) && (nat_lt 0 n && nat_le n MAX_BYTES)
 fits_in (End e) n = n == END_BYTES
-
--- the table whose log it keeps notes of
-abbrev pub log_of : Body → Option TableId
-log_of Nothing = None
-log_of (Data v) = None
-log_of (End e) = Some e.log
 
 -- the direction toward an endpoint, and that toward its peer
 abbrev pub toward : Content → ℕ

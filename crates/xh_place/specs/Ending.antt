@@ -8,15 +8,14 @@ use Rattle.xh_model.specs.declared.event.Event.{Event}
 use Rattle.xh_model.specs.Keyed.{keys, value_at, without}
 use Rattle.xh_core.specs.Calls.{reclaimed}
 use Rattle.xh_model.specs.declared.limits.TheConstants.{MAX_BUDGET}
-use Rattle.xh_records.specs.Seats.{Noted}
 use Rattle.xh_place.specs.Bodies.{toward}
 use Rattle.xh_place.specs.Endpoints.{EndsWith}
 use Rattle.xh_place.specs.Moves.{accepted_on}
 use Rattle.xh_place.specs.Places.{Item, PlaceOf, with_blocks, with_list, total_of}
 use Rattle.xh_place.specs.Seen.{IsSeen, PlaceSeen}
 
--- `saw note r word` says that this word was seen at the record r, once the note was heard
-module _ (saw : Option Noted → ℕ → ℕ → Type 0) where
+-- `saw r word` says that this word was seen at the record r
+module _ (saw : ℕ → ℕ → Type 0) where
   -- These went, one after another, each as it ends. What was accepted is what came with each, in their order, which the process accepted on the direction toward it.
   abbrev pub AreEnded : ℕ → List (ℕ × Item) → List (ℕ × Item) → List Event → Type 0
   AreEnded p [] accepted log = (accepted ≡ []) × (log ≡ [])

@@ -1,7 +1,6 @@
 -- Endpoints of a place: what opening and handing over do.
 use Rattle.std.specs.Prelude.{◌≡◌, ◌≢◌, ◌⊎◌, ℕ, ◌*◌, ◌/◌, ◌≤◌, ◌==◌, ◌&&◌, Bool, true, false, cond, List, [], ◌∷◌, ◌++◌, length, Option}
 use Rattle.std.specs.Prelude.{Some, None, Result, Err, MatchOption, MatchResult, IfErr, IfOk, OnOk}
-use Rattle.atomic_table.specs.Seated.{TableId}
 use Rattle.xh_channel.specs.Queues.{Posted}
 use Rattle.xh_core.specs.declared.block.Block.{Block}
 use Rattle.xh_core.specs.declared.refused.Refused.{Refused}
@@ -12,7 +11,7 @@ use Rattle.xh_model.specs.declared.limits.TheConstants.{DIRECTIONS, END_BYTES, M
 use Rattle.xh_core.specs.Refusing.{Tests, first_refusal}
 use Rattle.xh_core.specs.Statuses.{is_running}
 use Rattle.xh_model.specs.Keyed.{put, value_at}
-use Rattle.xh_records.specs.Seats.{IsRecord, Noted}
+use Rattle.xh_records.specs.Seats.{IsRecord}
 use Rattle.xh_place.specs.Bodies.{away, endpoint, toward}
 use Rattle.xh_arena.specs.Views.{TallyOf}
 use Rattle.xh_place.specs.declared.opening.Unopened.{Unopened}
@@ -43,10 +42,6 @@ abbrev pub EndDoes : ℕ → PlaceOf → PlaceOf → (Posted → Posted → Type
 EndDoes e p q does = (before after : Posted) × (value_at e p.blocks ≡ Some (end_block before)) × (q ≡ with_blocks p (put e (end_block after) p.blocks)) × does before after
 
 -- ---- open
-
--- an end beside whose messages notes of this table's log lie, and that carries and heard none yet
-abbrev pub at_home : TableId → Posted → Posted
-at_home t e = record e { log = t; note = None; heard = None }
 
 -- an endpoint's length, and a record of the arena
 abbrev pub IsEndIn : ℕ → Block → Type 0
@@ -82,7 +77,7 @@ ending_again status.Running left = status.Running
 ending_again status.Ending left = status.Ending
 
 -- An endpoint came that nobody is here for: so it was swept, and no fewer bytes than it has were given back.
-abbrev pub IsTooLate : (Option Noted → ℕ → ℕ → Type 0) → ℕ → ℕ → PlaceOf → PlaceOf → ℕ → Type 0
+abbrev pub IsTooLate : (ℕ → ℕ → Type 0) → ℕ → ℕ → PlaceOf → PlaceOf → ℕ → Type 0
 IsTooLate saw d r old new sum = (x : Item) × (left : ℕ) × IsSwept saw (length old.blocks) MAX_BUDGET (with_more d ((r, x) ∷ []) old) new sum left
     × (new ≡ record (with_list old new) { state = ending_again old.state (length new.blocks) }) × IsWhole x × (x.len ≤ sum)
 

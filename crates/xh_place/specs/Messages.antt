@@ -1,8 +1,6 @@
 -- Give and take: what they do to the place.
 use Rattle.std.specs.Prelude.{◌≡◌, ℕ, Bool, List, [], ◌∷◌, Option, Some, None, is_some, map, Result, Ok, Err, MatchResult, OnErr}
 use Rattle.arrayvec.specs.ArrayVec.{ArrayVec}
-use Rattle.xh_channel.specs.Beside.{IsOf}
-use Rattle.xh_channel.specs.declared.laid.Laid.{Laid}
 use Rattle.xh_channel.specs.declared.message.Message.{Message}
 use Rattle.xh_channel.specs.declared.refused.Refused.{Refused as NoMessage}
 use Rattle.xh_channel.specs.declared.unsent.Unsent.{Unsent}
@@ -11,13 +9,13 @@ use Rattle.xh_channel.specs.Refusals.{same_refusal}
 use Rattle.xh_core.specs.declared.refused.Refused.{Refused}
 use Rattle.xh_core.specs.declared.refused.Refused.TheVariants.{Protocol, PeerClosed, Full}
 use Rattle.xh_model.specs.Keyed.{Among, keys, put, value_at, without}
-use Rattle.xh_records.specs.Seats.{IsRecord, Noted}
-use Rattle.xh_place.specs.Endpoints.{AreGot, TakesNone, Puts, TakesOne, record_of}
+use Rattle.xh_place.specs.Endpoints.{AreGot, Puts, record_of}
+use Rattle.xh_place.specs.Endpoints.{Takes}
 use Rattle.xh_place.specs.Ends.{EndDoes, away_in, toward_in}
 use Rattle.xh_place.specs.Moves.{there_and_back}
 use Rattle.xh_place.specs.declared.got.Taken.{Taken}
 use Rattle.xh_place.specs.Places.{Item, PlaceOf, with_blocks, with_moved, with_more}
-use Rattle.xh_place.specs.Seen.{HasLeft, IsSeen, Passed, PlaceSeen}
+use Rattle.xh_place.specs.Seen.{HasLeft, IsSeen, PlaceSeen}
 
 -- ---- give
 
@@ -51,21 +49,17 @@ abbrev pub GoesOrReturns : ℕ → List ℕ → List (ℕ × Item) → PlaceOf �
 GoesOrReturns d given back old new = (new ≡ with_moved (with_blocks old (settled given (λ r. value_at r back) old.blocks)) (there_and_back old.process d given (keys back)))
     × ((r : ℕ) → Among (keys back) r → Among given r)
 
--- The endpoint put the blocks with the tag, each of a record that there is, they went or came back, and the answer is that of the put.
--- Beside the message went a note of the records' log, and in what it tells each of the blocks was passed in this call.
--- Where it was refused, each given block, also one that came back, had another word than "in flight on the direction", which was seen after the block was passed there.
+-- The endpoint put the blocks with the tag, they went or came back, and the answer is that of the put.
+-- Where it was refused, each given block that didn't come back had another word than "in flight on the direction", which was seen after the block was passed there.
 pub record IsSent (e tag : ℕ) (given : List ℕ) (old new : PlaceSeen) (result : Result ℕ Refused) : Type 0 where
   pub mid : PlaceOf
   pub blocks : ArrayVec ℕ
   pub answered : Result ℕ Unsent
   pub back : List (ℕ × Item)
   pub all : blocks.items ≡ given
-  pub records : (r : ℕ) → Among given r → IsRecord old.place.shape r
-  pub note : Noted
-  pub noted : (note.table ≡ old.place.table) × Passed old.place.process (away_in (value_at e old.place.blocks)) given old.front note.front
-  pub made : EndDoes e old.place mid (Puts note tag blocks answered)
+  pub made : EndDoes e old.place mid (Puts tag blocks answered)
   pub moved : GoesOrReturns (away_in (value_at e old.place.blocks)) given back mid new.place
-  pub lost : OnErr answered ((r : ℕ) → Among given r → HasLeft old new (away_in (value_at e old.place.blocks)) r)
+  pub lost : OnErr answered ((r : ℕ) → Among given r → (Among (keys back) r → ⊥) → HasLeft old new (away_in (value_at e old.place.blocks)) r)
   pub answer : Answers (keys back) answered result
 
 -- ---- take
@@ -80,12 +74,10 @@ pub record Unpacks (saw : ℕ → ℕ → Type 0) (d : ℕ) (m : Message) (old n
   pub list : new ≡ with_more d gained old
   pub got : AreGot saw d gained taken.blocks.items
 
--- The endpoint took a message, and its blocks came. What lay beside the message is of the records' log, and each of its blocks, here or missing, was seen elsewhere
--- than on the direction once that was heard: so where the give's note lay there, after the give had passed it.
+-- the endpoint took a message, and its blocks came
 abbrev pub IsTaken : ℕ → PlaceSeen → PlaceSeen → Taken → Type 0
-IsTaken e old new taken = (mid : PlaceOf) × (x : Laid) × EndDoes e old.place mid (TakesOne x) × Unpacks (IsSeen old new x.note) (toward_in (value_at e old.place.blocks)) x.message mid new.place taken
-    × IsOf old.place.table x.note
+IsTaken e old new taken = (mid : PlaceOf) × (m : Message) × EndDoes e old.place mid (Takes (Ok m)) × Unpacks (IsSeen old new) (toward_in (value_at e old.place.blocks)) m mid new.place taken
 
 -- the endpoint took nothing, and the answer is that of the take
 abbrev pub IsUntaken : ℕ → PlaceOf → PlaceOf → Refused → Type 0
-IsUntaken e old new refused = (none : NoMessage) × EndDoes e old new (TakesNone none) × (refused ≡ same_refusal none)
+IsUntaken e old new refused = (none : NoMessage) × EndDoes e old new (Takes (Err none)) × (refused ≡ same_refusal none)

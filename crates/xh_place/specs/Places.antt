@@ -10,12 +10,12 @@ use Rattle.xh_core.specs.Glances.{line_of}
 use Rattle.xh_model.specs.declared.event.Event.{Event}
 use Rattle.xh_model.specs.declared.limits.TheConstants.{END_BYTES, MAX_ARENAS, MAX_BYTES, MAX_RECORDS, PLACES}
 use Rattle.xh_records.specs.declared.shape.Shape.{Shape}
-use Rattle.xh_records.specs.Showing.{IsLotOf, IsFull, IsOwn}
+use Rattle.xh_records.specs.Showing.{IsLotOf, IsFull}
 use Rattle.xh_model.specs.Keyed.{Distinct, keys, value_at, without}
 use Rattle.xh_records.specs.Seats.{RecordsOf, Held, IsRecord}
 use Rattle.xh_place.specs.declared.body.Body.{Body}
 use Rattle.xh_core.specs.declared.header.Header.{Header}
-use Rattle.xh_place.specs.Bodies.{Content, bytes, endpoint, content_of, kind_of, fits_in, log_of}
+use Rattle.xh_place.specs.Bodies.{Content, bytes, endpoint, content_of, kind_of, fits_in}
 use Rattle.xh_place.specs.Moves.{accepted_on, passed_on}
 
 -- a block: its length, and what it carries
@@ -134,16 +134,11 @@ next_process Ending p = p
 abbrev pub started : PlaceOf → PlaceOf
 started p = record p { process = next_process p.state p.process; state = Running }
 
--- the table of a seat
-abbrev pub records_of : Held Body → RecordsOf
-records_of seat = record { table = seat.table; shape = seat.shape }
-
--- the lot of a record that a process owns, well formed; where it is an endpoint, notes of these records' log lie beside its messages
-pub record IsBlock (all : RecordsOf) (r : ℕ) (l : LotOf Body) : Type 0 where
-  pub exists : IsRecord all.shape r
-  pub lot : IsLotOf all.shape r l
+-- the lot of a record that a process owns, well formed
+pub record IsBlock (s : Shape) (r : ℕ) (l : LotOf Body) : Type 0 where
+  pub exists : IsRecord s r
+  pub lot : IsLotOf s r l
   pub full : IsFull fits_in l
-  pub own : IsOwn log_of all.table l
 
 -- a place that nobody has, or whose process has ended, has no block
 abbrev pub IsQuiet : Status → List (ℕ × Item) → Type 0
@@ -155,7 +150,7 @@ IsQuiet Ending xs = Unit {0}
 -- what a place's type keeps: its blocks are exactly what its seat holds, each record once, all well formed, and its total is the sum
 pub record IsPlace (seat : Held Body) (xs : List (ℕ × Item)) (capacity total : ℕ) (state : Status) : Type 0 where
   pub same : (r : ℕ) → value_at r xs ≡ item_at (value_at r seat.lots)
-  pub blocks : (r : ℕ) (l : LotOf Body) → value_at r seat.lots ≡ Some l → IsBlock (records_of seat) r l
+  pub blocks : (r : ℕ) (l : LotOf Body) → value_at r seat.lots ≡ Some l → IsBlock seat.shape r l
   pub distinct : Distinct (keys xs)
   pub sum : total ≡ total_of xs
   pub room : (length seat.shape.names * seat.shape.records ≤ capacity) × (length seat.shape.names ≤ MAX_ARENAS)

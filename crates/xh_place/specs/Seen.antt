@@ -1,12 +1,12 @@
 -- What a place has seen of the one log of all record events, and the words that a call of it found at a step.
-use Rattle.std.specs.Prelude.{◌≡◌, ◌≢◌, ◌⊎◌, ℕ, ◌+◌, ◌*◌, ◌<◌, ◌++◌, List, [], length, slice_index, Option, None, Some}
+use Rattle.std.specs.Prelude.{◌≡◌, ◌≢◌, ◌⊎◌, ℕ, ◌+◌, ◌*◌, ◌<◌, ◌++◌, List, length, slice_index}
 use Rattle.xh_model.specs.declared.event.Event.{Event}
 use Rattle.xh_model.specs.declared.event.Event.TheVariants.{Pass}
 use Rattle.xh_model.specs.Keyed.{Among}
 use Rattle.xh_model.specs.Slots.{index_of}
 use Rattle.xh_records.specs.declared.shape.Shape.{Shape}
 use Rattle.xh_records.specs.History.{StartsWith, TellsWord}
-use Rattle.xh_records.specs.Seats.{IsRecord, Noted}
+use Rattle.xh_records.specs.Seats.{IsRecord}
 use Rattle.xh_place.specs.Places.{PlaceOf}
 
 -- a place, and its seat's front: the beginning of the one log of all record events that it has seen
@@ -36,30 +36,13 @@ IsSamePlace old new = (new.place.table ≡ old.place.table) × (new.place.shape 
 abbrev pub SawAt : Shape → List Event → List Event → ℕ → ℕ → Type 0
 SawAt s from to k word = (front : List Event) × StartsWith front from × StartsWith to front × TellsWord s.records front k word
 
--- the same, from a front on of which this holds
-abbrev pub SawFrom : (List Event → Type 0) → Shape → List Event → ℕ → ℕ → Type 0
-SawFrom P s to k word = (from : List Event) × P from × SawAt s from to k word
-
 -- the place saw this word at the record r at a step of this call
 abbrev pub SawWord : PlaceSeen → PlaceSeen → ℕ → ℕ → Type 0
 SawWord old new r word = SawAt old.place.shape old.front new.front (index_of old.place.shape.records r) word
 
 -- the same; or there is no such record, and the word is 0, as of a free one
-abbrev pub Saw : PlaceSeen → PlaceSeen → ℕ → ℕ → Type 0
-Saw old new r word = SawWord old new r word ⊎ ((IsRecord old.place.shape r → ⊥) × (word ≡ 0))
-
--- what a note tells that its seat had seen: nothing where there is none
-abbrev pub told : Option Noted → List Event
-told None = []
-told (Some n) = n.front
-
--- in it is the one front, and all that the note tells
-abbrev pub HasHeard : List Event → Option Noted → List Event → Type 0
-HasHeard front note from = StartsWith from front × StartsWith from (told note)
-
--- the place saw this word at the record r at a step of this call, once it had heard the note; or there is no such record
-abbrev pub IsSeen : PlaceSeen → PlaceSeen → Option Noted → ℕ → ℕ → Type 0
-IsSeen old new note r word = SawFrom (HasHeard old.front note) old.place.shape new.front (index_of old.place.shape.records r) word ⊎ ((IsRecord old.place.shape r → ⊥) × (word ≡ 0))
+abbrev pub IsSeen : PlaceSeen → PlaceSeen → ℕ → ℕ → Type 0
+IsSeen old new r word = SawWord old new r word ⊎ ((IsRecord old.place.shape r → ⊥) × (word ≡ 0))
 
 -- from the one front to the other this event came
 abbrev pub Came : Event → List Event → List Event → Type 0
@@ -67,11 +50,7 @@ Came e from to = (more : List Event) × (to ≡ from ++ more) × Among more e
 
 -- the place saw this word at the record r at a step of this call, once it had done this event in it
 abbrev pub SawAfter : Event → PlaceSeen → PlaceSeen → ℕ → ℕ → Type 0
-SawAfter e old new r word = SawFrom (Came e old.front) old.place.shape new.front (index_of old.place.shape.records r) word
-
--- from the one front to the other the process passed each of these records on the direction
-abbrev pub Passed : ℕ → ℕ → List ℕ → List Event → List Event → Type 0
-Passed p d given from to = (r : ℕ) → Among given r → Came (Pass p r d) from to
+SawAfter e old new r word = (from : List Event) × Came e old.front from × SawAt old.place.shape from new.front (index_of old.place.shape.records r) word
 
 -- each record of the arena had a word that says that it isn't free, at some step between the two fronts
 abbrev pub SawFull : Shape → List Event → List Event → ℕ → Type 0

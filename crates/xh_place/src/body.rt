@@ -25,11 +25,9 @@ impl Default for Body {
 }
 
 impl Fits for Body {
-    ghost use Rattle.xh_place.specs.Bodies.{fits_in, log_of};
+    ghost use Rattle.xh_place.specs.Bodies.{fits_in};
 
     ghost is_fit = { fits_in };
-
-    ghost log = { log_of };
 
     fn fits(&self, len: u32) -> bool {
         match self {

@@ -1,15 +1,13 @@
 // What a place does to an endpoint, in its lot.
-ghost use Rattle.std.specs.Prelude.{◌≡◌, ◌+◌, ◌*◌, ◌<◌, None, Some};
-ghost use Rattle.atomic_table.specs.Seated.{TableId};
+ghost use Rattle.std.specs.Prelude.{◌≡◌, ◌+◌, ◌*◌, ◌<◌, Some};
 ghost use Rattle.xh_arena.specs.Views.{LotOf};
 ghost use Rattle.xh_model.specs.Keyed.{value_at, put};
 ghost use Rattle.xh_model.specs.declared.limits.TheConstants.{CHANNELS, DIRECTIONS};
-ghost use Rattle.xh_channel.specs.Beside.{IsOf};
-ghost use Rattle.xh_place.specs.Bodies.{IsEndAt, content_of, log_of, toward};
-ghost use Rattle.xh_place.specs.Endpoints.{Puts, Shuts, Takes, carrying};
+ghost use Rattle.xh_place.specs.Bodies.{IsEndAt, content_of, toward};
+ghost use Rattle.xh_place.specs.Endpoints.{Puts, Shuts, Takes};
 ghost use Rattle.xh_place.specs.declared.body.Body.{Body};
 ghost use Rattle.xh_place.specs.inner.Lots.{IsEnd, LotDoes};
-ghost use Rattle.xh_records.specs.Seats.{IsSeatOf, IsRecord, Noted, with_lots};
+ghost use Rattle.xh_records.specs.Seats.{IsSeatOf, IsRecord, with_lots};
 ghost use Rattle.xh_records.specs.Showing.{IsLotOf};
 
 use crate::body::Body;
@@ -17,8 +15,8 @@ use crate::desk::Desk;
 use arrayvec::ArrayVec;
 use std::sync::Wait;
 use xh_arena::Lot;
-use xh_channel::{Channels, Endpoint, Message, Refused as Untaken, Spot, Unsent};
-use xh_records::{Note, Records, Seat};
+use xh_channel::{Message, Refused as Untaken, Spot, Unsent};
+use xh_records::{Records, Seat};
 
 // The channel and side of the endpoint.
 #[tactic(auto, using(xh_model::proofs::Keyed::put_same))]
@@ -54,106 +52,67 @@ fn copy_of(blocks: &ArrayVec<u16, 8>) -> ArrayVec<u16, 8>
     copy
 }
 
-// The message that the endpoint puts next has the note beside it.
-fn carry(end: &mut Endpoint, note: &mut Option<Note>)
-    requires { (n : Noted) × (note.old ≡ Some n) × (n.table ≡ end.old.log) }
-    ensures { (n : Noted) → note.old ≡ Some n → end.new ≡ carrying n end.old }
-{
-    let Some(note) = note.take() else {
-        unreachable!()
-    };
-    end.carry(note);
-}
-
-// Puts a message by the endpoint, its tag and its blocks, with the note beside it.
+// Puts a message by the endpoint.
 pub(crate) fn put_at<R: Wait, V, G>(
     desk: &Desk<'_, R, V, G>,
     seat: &mut Seat<Body>,
     e: u16,
-    message: (u16, &ArrayVec<u16, 8>),
-    note: Note,
+    tag: u16,
+    given: &ArrayVec<u16, 8>,
 ) -> Result<u64, Unsent>
     requires own { IsSeatOf desk.now.records.now seat.old × IsRecord desk.now.records.now.shape e }
-    requires held { (l : LotOf Body) × (value_at e seat.old.lots ≡ Some l) × IsLotOf seat.old.shape e l × IsEnd l × (log_of l.body ≡ Some note.table) }
-    ensures { (l : LotOf Body) → value_at e seat.old.lots ≡ Some l → (m : LotOf Body)
-        × LotDoes (Puts note message.entry.0 message.entry.1.now result) l m × (seat.new ≡ with_lots seat.old (put e m seat.old.lots)) }
+    requires held { (l : LotOf Body) × (value_at e seat.old.lots ≡ Some l) × IsLotOf seat.old.shape e l × IsEnd l }
+    ensures { (l : LotOf Body) → value_at e seat.old.lots ≡ Some l → (m : LotOf Body) × LotDoes (Puts tag given.now result) l m × (seat.new ≡ with_lots seat.old (put e m seat.old.lots)) }
 {
     let (rt, channels) = (desk.rt, desk.channels);
-    let (tag, given) = message;
-    let mut carried = Some(note);
     desk.records.with_lot(
         seat,
         e,
         &mut |lot: &mut Lot<Body>|
-            requires { IsEnd lot.old × ((n : Noted) × (carried ≡ Some n) × (log_of lot.old.body ≡ Some n.table)) }
-            ensures { (n : Noted) → carried.entry ≡ Some n → LotDoes (Puts n tag given.entry.now result) lot.old lot.new }
+            requires { IsEnd lot.old }
+            ensures { LotDoes (Puts tag given.entry.now result) lot.old lot.new }
         {
             let Body::End(end) = lot.body_mut() else {
                 unreachable!()
             };
-            carry(end, &mut carried);
             channels.put(rt, end, tag, copy_of(given))
         },
     )
 }
 
-// Takes the message at the front for the endpoint, and what lay beside it.
-#[tactic(auto, using(crate::proofs::Ends::took_none, crate::proofs::Ends::took_one))]
-fn take_from<R: Wait>(
-    rt: &R,
-    channels: &Channels,
-    end: &mut Endpoint,
-    note: &mut Option<Note>,
-) -> Result<Message, Untaken>
-    ensures took { Takes note.new result end.old end.new }
-    ensures log { IsOf end.old.log note.new }
-{
-    *note = None;
-    let taken = channels.take(rt, end);
-    if taken.is_err() {
-        return taken;
-    }
-    *note = end.heard();
-    taken
-}
-
-// Takes the message at the front for the endpoint. With the answer go the direction and what lay beside the
-// message. The answer is large: it is put where the caller lends room, and in a function of its own, since
-// each move of it costs.
+// Takes the message at the front for the endpoint. With the answer goes the direction. The answer is large:
+// it is put where the caller lends room, and in a function of its own, since each move of it costs.
 #[inline(never)]
 pub(crate) fn take_at<R: Wait, V, G>(
     desk: &Desk<'_, R, V, G>,
     seat: &mut Seat<Body>,
     e: u16,
-) -> (Result<Message, Untaken>, u8, Option<Note>)
+) -> (Result<Message, Untaken>, u8)
     requires own { IsSeatOf desk.now.records.now seat.old × IsRecord desk.now.records.now.shape e }
     requires held { (l : LotOf Body) × (value_at e seat.old.lots ≡ Some l) × IsLotOf seat.old.shape e l × IsEnd l }
     ensures seat { (l : LotOf Body) → value_at e seat.old.lots ≡ Some l → (result.1 ≡ toward (content_of l.body))
-        × ((m : LotOf Body) × LotDoes (Takes result.2 result.0) l m × (seat.new ≡ with_lots seat.old (put e m seat.old.lots))) }
-    ensures log { (t : TableId) → (l : LotOf Body) → value_at e seat.old.lots ≡ Some l → log_of l.body ≡ Some t → IsOf t result.2 }
+        × ((m : LotOf Body) × LotDoes (Takes result.0) l m × (seat.new ≡ with_lots seat.old (put e m seat.old.lots))) }
     ensures small { result.1 < DIRECTIONS }
 {
     let (rt, channels) = (desk.rt, desk.channels);
     let mut taken = Err(Untaken::Empty);
-    let mut note = None;
     let direction = desk.records.with_lot(
         seat,
         e,
         &mut |lot: &mut Lot<Body>| -> u8
             requires { IsEnd lot.old }
-            ensures lot { LotDoes (Takes note.exit taken.exit) lot.old lot.new }
-            ensures log { (t : TableId) → log_of lot.old.body ≡ Some t → IsOf t note.exit }
+            ensures lot { LotDoes (Takes taken.exit) lot.old lot.new }
             ensures direction { (result ≡ toward (content_of lot.old.body)) × (result < DIRECTIONS) }
         {
             let Body::End(end) = lot.body_mut() else {
                 unreachable!()
             };
             let spot = end.spot();
-            taken = take_from(rt, channels, end, &mut note);
+            taken = channels.take(rt, end);
             2 * spot.channel + spot.side
         },
     );
-    (taken, direction, note)
+    (taken, direction)
 }
 
 // Shuts the endpoint.

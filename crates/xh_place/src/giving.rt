@@ -4,11 +4,12 @@ ghost use Rattle.xh_arena.specs.Views.{LotOf};
 ghost use Rattle.xh_model.specs.Keyed.{Among, Distinct, value_at};
 ghost use Rattle.xh_model.specs.declared.limits.TheConstants.{DIRECTIONS, MAX_BLOCKS};
 ghost use Rattle.xh_place.specs.Bodies.{away, content_of, kind_of};
+ghost use Rattle.xh_place.specs.Endpoints.{Puts};
 ghost use Rattle.xh_place.specs.Messages.{Answers};
-ghost use Rattle.xh_place.specs.Places.{IsBlock, item_in, records_of};
+ghost use Rattle.xh_place.specs.Places.{IsBlock, item_in};
 ghost use Rattle.xh_place.specs.Seen.{IsElsewhere};
 ghost use Rattle.xh_place.specs.declared.body.Body.{Body};
-ghost use Rattle.xh_place.specs.inner.Lots.{ArePassed, HasNow, LotPuts, SeatHasLeft, SeatSaw, SeatSeesMore, with_done};
+ghost use Rattle.xh_place.specs.inner.Lots.{ArePassed, HasNow, LotDoes, SeatHasLeft, SeatSaw, SeatSeesMore, with_done};
 ghost use Rattle.xh_records.specs.Seats.{IsSeatOf, IsRecord};
 ghost use Rattle.arrayvec.specs.ArrayVec.{ArrayVec};
 ghost use Rattle.xh_place.specs.Moves.{accepted_on, passed_on, there_and_back};
@@ -36,7 +37,7 @@ pub(crate) fn pass_all(
     requires own { IsSeatOf records.now seat.old × (direction < DIRECTIONS) }
     requires distinct { Distinct given.now }
     requires few { length given.now ≤ MAX_BLOCKS }
-    requires held { (r : ℕ) → Among given.now r → (l : LotOf Body) × (value_at r seat.old.lots ≡ Some l) × IsBlock (records_of seat.old) r l }
+    requires held { (r : ℕ) → Among given.now r → (l : LotOf Body) × (value_at r seat.old.lots ≡ Some l) × IsBlock seat.old.shape r l }
     ensures passed { HasNow (with_done (passed_on seat.old.process direction given.now) seat.old) seat.new.lots seat.new }
     ensures seen { SeatSeesMore seat.old seat.new }
     ensures came { ArePassed direction given.now seat.old seat.new }
@@ -62,7 +63,6 @@ fn accept_into(
     requires own { IsSeatOf records.now seat.old × IsRecord records.now.shape r × (direction < DIRECTIONS) }
     requires room { length back.old.items < MAX_BLOCKS }
     ensures came { CameBack direction r seat.old seat.new back.old.items back.new.items result }
-    ensures left { IsElsewhere (SeatSaw seat.old seat.new) direction r }
     ensures seen { SeatSeesMore seat.old seat.new }
 {
     let Ok(header) = accept_block(records, seat, r, direction) else {
@@ -85,7 +85,7 @@ pub(crate) fn accept_back(
     requires gone { (r : ℕ) → Among given.now r → value_at r seat.old.lots ≡ None }
     requires records { (r : ℕ) → Among given.now r → IsRecord records.now.shape r }
     ensures came { HasNow (with_done (accepted_on seat.old.process direction result.0.items) seat.old) seat.new.lots seat.new }
-    ensures left { (r : ℕ) → Among given.now r → IsElsewhere (SeatSaw seat.old seat.new) direction r }
+    ensures lost { (r : ℕ) → Among given.now r → (Among result.0.items r → ⊥) → IsElsewhere (SeatSaw seat.old seat.new) direction r }
     ensures seen { SeatSeesMore seat.old seat.new }
     ensures back { AreBack given.now result.0.items seat.new }
     ensures others { (r : ℕ) → (Among given.now r → ⊥) → value_at r seat.new.lots ≡ value_at r seat.old.lots }
@@ -108,8 +108,8 @@ pub(crate) struct Given {
     pub(crate) gained: u64,
 }
 
-// Passes the blocks and puts the message, with a note beside it in which they are passed: the put's
-// answer, the direction on which the blocks are, and their bytes.
+// Passes the blocks and puts the message: the put's answer, the direction on which the blocks are, and
+// their bytes.
 fn post<R: Wait, V, G: Gate>(
     desk: &Desk<'_, R, V, G>,
     seat: &mut Seat<Body>,
@@ -118,15 +118,15 @@ fn post<R: Wait, V, G: Gate>(
     given: &ArrayVec<u16, 8>,
 ) -> (Result<u64, Unsent>, u8, u64)
     requires own { IsSeatOf desk.now.records.now seat.old }
-    requires end { (l : LotOf Body) × (value_at e seat.old.lots ≡ Some l) × IsBlock (records_of seat.old) e l × (kind_of (content_of l.body) ≡ kind.End) }
+    requires end { (l : LotOf Body) × (value_at e seat.old.lots ≡ Some l) × IsBlock seat.old.shape e l × (kind_of (content_of l.body) ≡ kind.End) }
     requires distinct { Distinct given.now.items × (Among given.now.items e → ⊥) }
-    requires held { (r : ℕ) → Among given.now.items r → (l : LotOf Body) × (value_at r seat.old.lots ≡ Some l) × IsBlock (records_of seat.old) r l }
+    requires held { (r : ℕ) → Among given.now.items r → (l : LotOf Body) × (value_at r seat.old.lots ≡ Some l) × IsBlock seat.old.shape r l }
     ensures direction { (result.1 ≡ away (item_in (value_at e seat.old.lots)).content) × (result.1 < DIRECTIONS) }
     ensures passed { HasNow (with_done (passed_on seat.old.process result.1 given.now.items) seat.old) seat.new.lots seat.new }
     ensures seen { SeatSeesMore seat.old seat.new }
     ensures came { ArePassed result.1 given.now.items seat.old seat.new }
     ensures end { (l : LotOf Body) → value_at e seat.old.lots ≡ Some l → (m : LotOf Body) × (value_at e seat.new.lots ≡ Some m)
-        × LotPuts (away (item_in (value_at e seat.old.lots)).content) tag given.now result.0 seat.old l m × IsBlock (records_of seat.old) e m }
+        × LotDoes (Puts tag given.now result.0) l m × IsBlock seat.old.shape e m }
     ensures gone { (r : ℕ) → Among given.now.items r → value_at r seat.new.lots ≡ None }
     ensures others { (r : ℕ) → (Among given.now.items r → ⊥) → e ≢ r → value_at r seat.new.lots ≡ value_at r seat.old.lots }
     ensures bytes { result.2 ≡ lens given.now.items (λ r. value_at r seat.old.lots) }
@@ -135,8 +135,7 @@ fn post<R: Wait, V, G: Gate>(
     let direction = 2 * spot.channel + 1 - spot.side;
     let bytes = pass_all(desk.records, seat, given.as_slice(), direction);
     desk.gate.between(place_of(seat), Point::Passed);
-    let note = desk.records.note(seat);
-    let put = put_at(desk, seat, e, (tag, given), note);
+    let put = put_at(desk, seat, e, tag, given);
     desk.gate.between(place_of(seat), Point::Put);
     (put, direction, bytes)
 }
@@ -150,18 +149,19 @@ pub(crate) fn give_all<R: Wait, V, G: Gate>(
     given: &ArrayVec<u16, 8>,
 ) -> Given
     requires own { IsSeatOf desk.now.records.now seat.old }
-    requires end { (l : LotOf Body) × (value_at e seat.old.lots ≡ Some l) × IsBlock (records_of seat.old) e l × (kind_of (content_of l.body) ≡ kind.End) }
+    requires end { (l : LotOf Body) × (value_at e seat.old.lots ≡ Some l) × IsBlock seat.old.shape e l × (kind_of (content_of l.body) ≡ kind.End) }
     requires distinct { Distinct given.now.items × (Among given.now.items e → ⊥) }
-    requires held { (r : ℕ) → Among given.now.items r → (l : LotOf Body) × (value_at r seat.old.lots ≡ Some l) × IsBlock (records_of seat.old) r l }
+    requires held { (r : ℕ) → Among given.now.items r → (l : LotOf Body) × (value_at r seat.old.lots ≡ Some l) × IsBlock seat.old.shape r l }
     ensures moved { HasNow (with_done (there_and_back seat.old.process (away (item_in (value_at e seat.old.lots)).content) given.now.items result.back.items) seat.old) seat.new.lots seat.new }
     ensures end { (l : LotOf Body) → value_at e seat.old.lots ≡ Some l → (m : LotOf Body) × (value_at e seat.new.lots ≡ Some m)
-        × LotPuts (away (item_in (value_at e seat.old.lots)).content) tag given.now result.put seat.old l m × IsBlock (records_of seat.old) e m }
+        × LotDoes (Puts tag given.now result.put) l m × IsBlock seat.old.shape e m }
     ensures others { (r : ℕ) → (Among given.now.items r → ⊥) → e ≢ r → value_at r seat.new.lots ≡ value_at r seat.old.lots }
     ensures back { AreBack given.now.items result.back.items seat.new }
     ensures lost { result.lost ≡ lens given.now.items (λ r. value_at r seat.old.lots) }
     ensures gained { result.gained ≡ lens given.now.items (λ r. value_at r seat.new.lots) }
     ensures sent { OnOk result.put (result.back.items ≡ []) }
-    ensures left { OnErr result.put ((r : ℕ) → Among given.now.items r → SeatHasLeft seat.old seat.new (away (item_in (value_at e seat.old.lots)).content) r) }
+    ensures missed { OnErr result.put ((r : ℕ) → Among given.now.items r → (Among result.back.items r → ⊥)
+        → SeatHasLeft seat.old seat.new (away (item_in (value_at e seat.old.lots)).content) r) }
     ensures seen { SeatSeesMore seat.old seat.new }
 {
     let (put, direction, lost) = post(desk, seat, e, tag, given);

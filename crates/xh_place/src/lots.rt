@@ -6,8 +6,8 @@ ghost use Rattle.xh_model.specs.Keyed.{Among, keys, value_at, put, without};
 ghost use Rattle.xh_model.specs.declared.limits.TheConstants.{DIRECTIONS, MAX_BYTES, MAX_RECORDS, UNIT};
 ghost use Rattle.xh_place.specs.Bodies.{bytes, front, content_of, fits_in, kind_of};
 ghost use Rattle.xh_place.specs.Desk.{IsSameDesk, IsSeatAt};
-ghost use Rattle.xh_place.specs.Places.{IsBlock, item_of, header_of, records_of};
-ghost use Rattle.xh_place.specs.Seen.{Came, IsElsewhere};
+ghost use Rattle.xh_place.specs.Places.{IsBlock, item_of, header_of};
+ghost use Rattle.xh_place.specs.Seen.{Came};
 ghost use Rattle.xh_place.specs.Splitting.{IsUncut};
 ghost use Rattle.xh_place.specs.Tallies.{gave, took};
 ghost use Rattle.xh_place.specs.Vaults.{IsNoBlock, IsRefusedAt};
@@ -76,7 +76,7 @@ fn fill<R, V: Vaults, G>(
 #[inline(always)]
 fn empty<R, V: Vaults, G>(desk: &mut Desk<'_, R, V, G>, seat: &mut Seat<Body>, r: u16) -> u32
     requires at { IsSeatAt V.names desk.old seat.old }
-    requires held { (l : LotOf Body) × (value_at r seat.old.lots ≡ Some l) × IsBlock (records_of seat.old) r l }
+    requires held { (l : LotOf Body) × (value_at r seat.old.lots ≡ Some l) × IsBlock seat.old.shape r l }
     ensures same { IsSameDesk V.names V.extent desk.old desk.new }
     ensures emptied { (l : LotOf Body) → value_at r seat.old.lots ≡ Some l → (seat.new ≡ with_lots seat.old (put r (record l { len = 0; body = Nothing }) seat.old.lots))
         × (desk.new.tallies.now ≡ gave (r / MAX_RECORDS) l.len desk.old.tallies.now) × (result ≡ l.len) }
@@ -143,7 +143,7 @@ pub(crate) fn make_block<R, V: Vaults, G: Gate>(
     requires size { (0 < n) × (n % UNIT ≡ 0) × (n ≤ V.extent desk.old.vaults.now) × (n ≤ MAX_BYTES) }
     ensures same { IsSameDesk V.names V.extent desk.old desk.new }
     ensures arena { IfOk result (λ r. r / MAX_RECORDS ≡ arena) }
-    ensures block { IfOk result (λ r. (l : LotOf Body) × (Among (keys seat.old.lots) r → ⊥) × HasNow seat.old (seat.old.lots ++ (r, l) ∷ []) seat.new × IsBlock (records_of seat.old) r l
+    ensures block { IfOk result (λ r. (l : LotOf Body) × (Among (keys seat.old.lots) r → ⊥) × HasNow seat.old (seat.old.lots ++ (r, l) ∷ []) seat.new × IsBlock seat.old.shape r l
         × (l.len ≡ n) × (content_of l.body ≡ bytes (replicate n 0))) }
     ensures taken { OnOk result (desk.new.tallies.now ≡ took arena n desk.old.tallies.now) }
     ensures refused { OnErr result (HasNow seat.old seat.old.lots seat.new × (desk.new.tallies.now ≡ desk.old.tallies.now)) }
@@ -176,7 +176,7 @@ pub(crate) fn give_up<R, V: Vaults, G: Gate>(
     r: u16,
 ) -> u32
     requires at { IsSeatAt V.names desk.old seat.old }
-    requires held { (l : LotOf Body) × (value_at r seat.old.lots ≡ Some l) × IsBlock (records_of seat.old) r l }
+    requires held { (l : LotOf Body) × (value_at r seat.old.lots ≡ Some l) × IsBlock seat.old.shape r l }
     ensures same { IsSameDesk V.names V.extent desk.old desk.new }
     ensures seat { HasNow seat.old (without r seat.old.lots) seat.new }
     ensures seen { SeatSeesMore seat.old seat.new }
@@ -244,8 +244,7 @@ pub(crate) fn accept_block(
 ) -> Result<Header, u64>
     requires own { IsSeatOf records.now seat.old × IsRecord records.now.shape r × (direction < DIRECTIONS) }
     ensures here { IfOk result (λ s. (l : LotOf Body) × (Among (keys seat.old.lots) r → ⊥)
-        × HasNow (did (Accept seat.old.process r direction) seat.old) (seat.old.lots ++ (r, l) ∷ []) seat.new × IsBlock (records_of seat.old) r l × (s ≡ header_of (item_of l))
-        × IsElsewhere (SeatSaw seat.old seat.new) direction r) }
+        × HasNow (did (Accept seat.old.process r direction) seat.old) (seat.old.lots ++ (r, l) ∷ []) seat.new × IsBlock seat.old.shape r l × (s ≡ header_of (item_of l))) }
     ensures missing { IfErr result (λ word. (word ≢ 2 + 4 * direction) × HasNow seat.old seat.old.lots seat.new × SeatSaw seat.old seat.new r word) }
     ensures seen { SeatSeesMore seat.old seat.new }
 {
@@ -260,8 +259,8 @@ pub(crate) fn pass_block(
     r: u16,
     direction: u8,
 ) -> u32
-    requires own { IsSeatOf records.now seat.old × (direction < DIRECTIONS) }
-    requires held { (l : LotOf Body) × (value_at r seat.old.lots ≡ Some l) × IsBlock (records_of seat.old) r l }
+    requires own { IsSeatOf records.now seat.old × IsRecord records.now.shape r × (direction < DIRECTIONS) }
+    requires held { (l : LotOf Body) × (value_at r seat.old.lots ≡ Some l) × IsLotOf seat.old.shape r l × IsFull fits_in l }
     ensures passed { HasNow (did (Pass seat.old.process r direction) seat.old) (without r seat.old.lots) seat.new }
     ensures seen { SeatSeesMore seat.old seat.new }
     ensures came { Came (Pass seat.old.process r direction) seat.old.front seat.new.front }
@@ -324,7 +323,7 @@ pub(crate) fn cut_block<R, V: Vaults, G: Gate>(
 ) -> Result<u16, Reason>
     requires own { IsSeatOf desk.old.records.now seat.old }
     requires names { V.names desk.old.vaults.now ≡ seat.old.shape.names }
-    requires held { (l : LotOf Body) × (value_at r seat.old.lots ≡ Some l) × IsBlock (records_of seat.old) r l × IsData l × IsGoodCut k l.len }
+    requires held { (l : LotOf Body) × (value_at r seat.old.lots ≡ Some l) × IsBlock seat.old.shape r l × IsData l × IsGoodCut k l.len }
     ensures same { IsSameDesk V.names V.extent desk.old desk.new }
     ensures tallies { desk.new.tallies.now ≡ desk.old.tallies.now }
     ensures cut { IfOk result (λ t. (l : LotOf Body) → value_at r seat.old.lots ≡ Some l → IsCut seat.old seat.new r k l t) }

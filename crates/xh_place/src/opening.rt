@@ -175,7 +175,6 @@ pub(crate) fn make_ends<R, V: Vaults, G: Gate>(
 ) -> Result<(u16, u16), Unopened>
     requires at { IsSeatAt V.names desk.old seat.old }
     requires arena { arena < length seat.old.shape.names }
-    requires log { (low.log ≡ seat.old.table) × (high.log ≡ seat.old.table) }
     ensures same { IsSameDesk V.names V.extent desk.old desk.new }
     ensures made { IfOk result (λ r. (l m : LotOf Body) × AreMade arena seat.old seat.new r.0 r.1 l m × (item_of l ≡ end_block low) × (item_of m ≡ end_block high)) }
     ensures taken { OnOk result (desk.new.tallies.now ≡ took arena (2 * END_BYTES) desk.old.tallies.now) }

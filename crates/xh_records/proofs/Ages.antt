@@ -2,8 +2,6 @@
 use Rattle.xh_records.proofs.Common.{nat_tests, ◌≡◌, ℕ, ◌+◌, ◌<◌, ◌≢◌, ◌⊎◌, Bool, List, [], ◌∷◌, map, set, get_or, sym, refl, ap, ◌∙◌, subst, inl, inr, arith, Option, Some, none, some}
 use Rattle.xh_records.proofs.Common.{get_elem?, Me, keeps, step, Allows, at_set, set_again, LotOf, Among, Distinct, Shape, View, Process, Ownership, IsHeldBy, place_of, Sits}
 use Rattle.xh_records.proofs.Common.{ViewFits, ViewTells, Shows, Shown, renewed, aged}
-use Rattle.xh_records.proofs.Common.{TableId}
-use Rattle.xh_records.proofs.Named.{sets_view}
 use mathlib.Core.Option as maybe
 use Rattle.xh_records.proofs.Common.{set_here, set_else, dite, ℕ_discrete, some-injective}
 use Rattle.xh_records.proofs.Elements.{either_way, in_range, only_one}
@@ -69,10 +67,10 @@ module _ {B : Type 0} (fits : B → ℕ → Bool) (s : Shape) where
       now j x u there sat = either_way (at_set vs id j w u there) (λ t. inl (t.0, only_now x (subst (λ (z : View). Sits z x) (sym t.1) sat))) (λ t. inr t)
 
   -- a load, by a seat whose place has its next generation
-  pub ages : (names : B → Option TableId) (slots id : ℕ) (me : Me (Option (LotOf B)) View) (p : ℕ) → 0 < slots → me.0.processes ≡ p ∷ [] → me.0.records ≡ [] → p + 32 < 4096
-      → Allows (Shown fits names s) slots id me 0 (λ n. n) (aged (step slots 0 0 0 none) me)
-  ages names slots id me p some_slot mine bare small t holds long seen fit =
-      let a : At fits names s t holds.0 0 = at fits names s t holds.0 0 slots holds.1 long some_slot in (
+  pub ages : (slots id : ℕ) (me : Me (Option (LotOf B)) View) (p : ℕ) → 0 < slots → me.0.processes ≡ p ∷ [] → me.0.records ≡ [] → p + 32 < 4096
+      → Allows (Shown fits s) slots id me 0 (λ n. n) (aged (step slots 0 0 0 none) me)
+  ages slots id me p some_slot mine bare small t holds long seen fit =
+      let a : At fits s t holds.0 0 = at fits s t holds.0 0 slots holds.1 long some_slot in (
         renewed me.0,
         keeps,
         tt,
@@ -80,7 +78,6 @@ module _ {B : Type 0} (fits : B → ℕ → Bool) (s : Shape) where
           holds.0,
           subst (λ (l : List ℕ). Shows fits s holds.0 l t.homes (set t.views id (renewed me.0))) (sym (set_again t.words 0 (get_or t.words 0 0) a.word_at))
               (renews holds.0 t.words t.homes t.views id p me.0 holds.1 seen mine bare small),
-          sets_view names t.homes t.views id me.0 (renewed me.0) seen refl (λ q h. (p, subst (λ (k : List ℕ). Among k p) (sym mine) (inl refl))) holds.2,
         ),
         refl,
       )

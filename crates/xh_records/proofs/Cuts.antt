@@ -1,11 +1,9 @@
 -- A view cut in two, and two views in one.
 use Rattle.xh_records.proofs.Common.{nat_tests, ◌≡◌, ℕ, suc, ◌<◌, ◌≢◌, Bool, List, [], ◌∷◌, ◌++◌, map, length, set, sym, refl, ◌∙◌, subst, ◌⊎◌, inl, inr, arith, length-set, Option, Some, Process}
 use Rattle.xh_records.proofs.Common.{some, get_elem?, Splits, Joins, at_set, set_else, LotOf, Among, Distinct, among_back, among_either, among_front, Shape, View, Ownership}
-use Rattle.xh_records.proofs.Common.{IsHeldBy, place_of, Event, PLACES, StartsWith, Sits, Owns, ViewFits, ViewTells, Shows, Shown, IsAlone, front_in, note_of, spent}
+use Rattle.xh_records.proofs.Common.{IsHeldBy, place_of, Event, PLACES, StartsWith, Sits, Owns, ViewFits, ViewTells, Shows, Shown, IsAlone, front_in, note_of, spent, joined, dealt, dealt_from}
 use Rattle.xh_records.proofs.Common.{dealer, IsDealer, places_from}
-use Rattle.xh_records.proofs.Common.{State, TableId, KeepsLog, append-nil, dealt, dealt_from, head_of, joined, untold}
 use mathlib.Core.Option as maybe
-use Rattle.xh_records.proofs.Named.{cuts_view, joins_views}
 use Rattle.xh_records.proofs.History.{one_is, lists_back}
 use Rattle.xh_records.proofs.Common.{ap, at_last, at_longer, set_here, dite, ℕ_discrete, some-injective}
 use Rattle.xh_records.proofs.Elements.{either_way, in_range, only_one, snoc_at}
@@ -24,7 +22,7 @@ pub record Part (v u : View) : Type 0 where
 bare : (v u : View) → u.processes ≡ [] → u.records ≡ [] → ((log : List Event) → ViewTells log v → ViewTells log u) → Part v u
 bare v u no_place no_record tells = grind (arith, nat_tests)
 
-pub nothing : (v : View) → Part v spent
+nothing : (v : View) → Part v spent
 nothing v = grind (arith, nat_tests)
 
 a_note : (v : View) (p : ℕ) → IsAlone v p → Part v (note_of v)
@@ -100,10 +98,9 @@ pub sat : (vs : List View) (id : ℕ) (v w : View) → get_elem? vs id ≡ some 
     → (z : View) × (get_elem? vs j ≡ some z) × Sits z p
 sat vs id v w at same j p u there sits = grind (arith, nat_tests, at_set)
 
-module _ {B : Type 0} (fits : B → ℕ → Bool) (log : B → Option TableId) (s : Shape) where
-  pub cuts : (id : ℕ) (v l r : View) → Part v l → Part v r → ((p : ℕ) → Sits v p → Sits l p ⊎ Sits r p) → ((p : ℕ) → Sits l p → Sits r p → ⊥)
-      → ((t : State (Option (LotOf B)) View) → Shown fits log s t → get_elem? t.views id ≡ some v → KeepsLog log t.homes (set t.views id l ++ r ∷ [])) → Splits (Shown {B = B} fits log s) id v l r
-  cuts id v l r keeps hands either apart logs t holds here = (holds.0, shares_out fits s o t.words t.homes t.views (set t.views id l ++ r ∷ []) shown from stays one each, logs t holds here)
+module _ {B : Type 0} (fits : B → ℕ → Bool) (s : Shape) where
+  cuts : (id : ℕ) (v l r : View) → Part v l → Part v r → ((p : ℕ) → Sits v p → Sits l p ⊎ Sits r p) → ((p : ℕ) → Sits l p → Sits r p → ⊥) → Splits (Shown {B = B} fits s) id v l r
+  cuts id v l r keeps hands either apart t holds here = (holds.0, shares_out fits s o t.words t.homes t.views (set t.views id l ++ r ∷ []) shown from stays one each)
     where
       o : Ownership
       o = holds.0
@@ -136,12 +133,9 @@ module _ {B : Type 0} (fits : B → ℕ → Bool) (log : B → Option TableId) (
       each j u e = either_way (there j u e) (λ a. either_way a (λ x. part_is l u keeps x.1) (λ x. (shown.views_fit j u x.1, shown.history.tells j u x.1))) (λ x. part_is r u hands x.0)
 
   -- the joining seat has a place
-  pub joins_both : (id other p₀ : ℕ) (v w : View) → Sits v p₀ → Joins (Shown {B = B} fits log s) id v other w (joined v w) spent
-  joins_both id other p₀ v w placed t holds here apart there_too = (
-    holds.0,
-    shares_out fits s o t.words t.homes t.views now shown (λ j p u e sits. let f = from j p u e sits in (f.0, f.1, f.2, f.3)) stays one each,
-    joins_views log t.homes t.views id other p₀ v w here placed holds.2,
-  )
+  pub joins_both : (id other p₀ : ℕ) (v w : View) → Sits v p₀ → Joins (Shown {B = B} fits s) id v other w (joined v w) spent
+  joins_both id other p₀ v w placed t holds here apart there_too =
+      (holds.0, shares_out fits s o t.words t.homes t.views now shown (λ j p u e sits. let f = from j p u e sits in (f.0, f.1, f.2, f.3)) stays one each)
     where
       o : Ownership
       o = holds.0
@@ -211,8 +205,8 @@ module _ {B : Type 0} (fits : B → ℕ → Bool) (log : B → Option TableId) (
           (λ x. subst (λ (z : View). ViewFits s o z × ViewTells shown.log z) x.1 (both_fits, both_tells)) (λ x. (shown.views_fit j u x.1, shown.history.tells j u x.1)))
 
 -- a new seat of one place
-later_places : (t : TableId) (s : Shape) (p k : ℕ) → Part (dealer t s p (suc k)) (dealer t s (suc p) k)
-later_places t s p k = record {
+later_places : (s : Shape) (p k : ℕ) → Part (dealer s p (suc k)) (dealer s (suc p) k)
+later_places s p k = record {
   sits = λ q h. inr h;
   record_of = λ r q h. absurd h;
   all_records = λ r q h sits. h;
@@ -224,8 +218,8 @@ later_places t s p k = record {
   places = λ d. d.1;
 }
 
-first_place : (t : TableId) (s : Shape) (p k : ℕ) → Part (dealer t s p (suc k)) (dealt (dealer t s p (suc k)))
-first_place t s p k = record {
+first_place : (s : Shape) (p k : ℕ) → Part (dealer s p (suc k)) (dealt (dealer s p (suc k)))
+first_place s p k = record {
   sits = λ q h. inl (only_one h);
   record_of = λ r q h. absurd h;
   all_records = λ r q h sits. h;
@@ -237,33 +231,15 @@ first_place t s p k = record {
   places = λ d. ((λ z. z), tt);
 }
 
-pub deals : {B : Type 0} (fits : B → ℕ → Bool) (log : B → Option TableId) (s : Shape) (id : ℕ) (v : View) → IsDealer v → Splits (Shown {B = B} fits log s) id v (dealt_from v) (dealt v)
-deals {B} fits log s id v is =
-    let t : TableId = is.0 in let z : Shape = is.1 in let p : ℕ = is.2 in let k : ℕ = is.3 in
-    let all : View = dealer t z p (suc k) in let later = later_places t z p k in let first = first_place t z p k in
-    subst (λ (u : View). Splits (Shown {B = B} fits log s) id u (dealt_from u) (dealt u)) (sym is.4)
-    (cuts fits log s id all (dealer t z (suc p) k) (dealt all) later first
+pub deals : {B : Type 0} (fits : B → ℕ → Bool) (s : Shape) (id : ℕ) (v : View) → IsDealer v → Splits (Shown {B = B} fits s) id v (dealt_from v) (dealt v)
+deals {B} fits s id v is =
+    let z : Shape = is.0 in let p : ℕ = is.1 in let k : ℕ = is.2 in subst (λ (u : View). Splits (Shown {B = B} fits s) id u (dealt_from u) (dealt u)) (sym is.3)
+    (cuts fits s id (dealer z p (suc k)) (dealer z (suc p) k) (dealt (dealer z p (suc k))) (later_places z p k) (first_place z p k)
     (λ q h. either_way h (λ e. inr (inl e)) (λ t. inl t))
-    (λ q h m. let l = (least (suc p) k q h).0 in let e : q ≡ p = only_one m in absurd (omega arith))
-    (λ st holds here. cuts_view log st.homes st.views id all (dealer t z (suc p) k) (dealt all) here (λ q h. (later.sits q h, refl)) (λ q h. (first.sits q h, refl)) holds.2))
+    (λ q h m. let l = (least (suc p) k q h).0 in let e : q ≡ p = only_one m in absurd (omega arith)))
 
-pub hands_over : {B : Type 0} (fits : B → ℕ → Bool) (log : B → Option TableId) (s : Shape) (id : ℕ) (v : View) → Splits (Shown {B = B} fits log s) id v spent v
-hands_over fits log s id v = cuts fits log s id v spent v (nothing v) (everything v) (λ q h. inr h) (λ q h m. h)
-    (λ t holds here. cuts_view log t.homes t.views id v spent v here (λ p h. absurd h) (λ p h. (h, refl)) holds.2)
+pub hands_over : {B : Type 0} (fits : B → ℕ → Bool) (s : Shape) (id : ℕ) (v : View) → Splits (Shown {B = B} fits s) id v spent v
+hands_over fits s id v = cuts fits s id v spent v (nothing v) (everything v) (λ q h. inr h) (λ q h m. h)
 
-pub notes : {B : Type 0} (fits : B → ℕ → Bool) (log : B → Option TableId) (s : Shape) (id p : ℕ) (v : View) → IsAlone v p → Splits (Shown {B = B} fits log s) id v v (note_of v)
-notes fits log s id p v alone = cuts fits log s id v v (note_of v) (everything v) (a_note v p alone) (λ q h. inl h) (λ q h m. m)
-    (λ t holds here. cuts_view log t.homes t.views id v v (note_of v) here (λ p h. (h, refl)) (λ p h. absurd h) holds.2)
-
--- a view that was told what another has seen
-pub told_fronts : (v u : View) (p : ℕ) → IsAlone v p → (joined v (note_of u)).fronts ≡ (place_of p, front_in v) ∷ (PLACES, front_in u) ∷ []
-told_fronts v u p alone = ap (λ (l : List (ℕ × List Event)). l ++ (PLACES, front_in u) ∷ []) alone.1
-
-pub told_back : (v u : View) (p : ℕ) → IsAlone v p → untold (joined v (note_of u)) ≡ v
-told_back v u p alone = λ i. record {
-  log = v.log;
-  shape = v.shape;
-  processes = append-nil v.processes i;
-  records = append-nil v.records i;
-  fronts = (ap (λ (l : List (ℕ × List Event)). head_of l) (told_fronts v u p alone) ∙ sym alone.1) i;
-}
+pub notes : {B : Type 0} (fits : B → ℕ → Bool) (s : Shape) (id p : ℕ) (v : View) → IsAlone v p → Splits (Shown {B = B} fits s) id v v (note_of v)
+notes fits s id p v alone = cuts fits s id v v (note_of v) (everything v) (a_note v p alone) (λ q h. inl h) (λ q h m. m)

@@ -7,7 +7,6 @@ use Rattle.xh_records.proofs.Common.{spent, slot_at, or_else, IsGathered}
 use Rattle.std.specs.Option.{option_or, IsSome}
 use Rattle.xh_records.proofs.Elements.{either_way, in_range, is_there, only_one, elem_slice, slice_elem, nth_is, among_map}
 use Rattle.xh_records.proofs.Keeps.{home_lot, one_holder, same_place, never}
-use Rattle.xh_records.proofs.Common.{TableId}
 use Rattle.xh_records.proofs.Lists.{among_owned, none_or_some}
 use Rattle.xh_records.proofs.Distinct.{process_in, not_twice, distinct_front, covers}
 
@@ -74,9 +73,8 @@ take_one_more [] i a e = absurd (some-ne-none a (sym e))
 take_one_more (x ∷ xs) zero a e = λ k. some-injective x a e k ∷ []
 take_one_more {A} (x ∷ xs) (suc i) a e = ap (λ (z : List A). x ∷ z) (take_one_more xs i a e)
 
-module _ {B : Type 0} (fits : B → ℕ → Bool) (names : B → Option TableId) (s : Shape) (id : ℕ) (v : View) (ws : List ℕ) (xs : List (Option (LotOf B)))
-    (seats : List (Held B)) (held : List (Option (LotOf B))) (final : Final (Seen (Shown fits names s) id v) ws xs) (gathered : IsGathered 0 seats v held) (long : length held ≡ length xs)
-    (small : IsSmall s)
+module _ {B : Type 0} (fits : B → ℕ → Bool) (s : Shape) (id : ℕ) (v : View) (ws : List ℕ) (xs : List (Option (LotOf B))) (seats : List (Held B)) (held : List (Option (LotOf B)))
+    (final : Final (Seen (Shown fits s) id v) ws xs) (gathered : IsGathered 0 seats v held) (long : length held ≡ length xs) (small : IsSmall s)
     (own : (j : ℕ) (x : Held B) → slice_get seats j ≡ Some x → x.shape ≡ s) (every : length seats ≡ s.places) (sized : length xs ≡ length s.names * s.records) where
   abbrev pub t : State (Option (LotOf B)) View
   t = final.0
@@ -134,7 +132,7 @@ module _ {B : Type 0} (fits : B → ℕ → Bool) (names : B → Option TableId)
 
   -- the lot of each record
   at_home : (k : ℕ) (h : Option Holder) → IsHeldBy o k h → IsAway h → (l : LotOf B) × (or_else (slot_at held k) (slot_at xs k) ≡ Some l) × (IsLotAt s k l × IsHomeLot fits h l)
-  at_home k h is free = let home = shown.homes_are k h is in let lot = home_lot fits names s k h home.0 free home.2 in
+  at_home k h is free = let home = shown.homes_are k h is in let lot = home_lot fits s k h home.0 free home.2 in
       (lot.0, ap (λ (z : Option (LotOf B)). or_else z (slot_at xs k)) (not_taken k h is free) ∙ nth_is xs k None (Some lot.0) (final.4 k (Some lot.0) (home.1 ∙ ap some lot.1)), (lot.2, lot.3))
 
   pub ended : (k : ℕ) (h : Option Holder) → IsHeldBy o k h → (l : LotOf B) × (or_else (slot_at held k) (slot_at xs k) ≡ Some l) × EndsAs fits s seats k h l

@@ -3,13 +3,10 @@ use Rattle.xh_records.proofs.Common.{nat_tests, ◌≡◌, ℕ, ◌%◌, ◌<◌
 use Rattle.xh_records.proofs.Common.{eq-eqb, append-nil, Option, Some, None, none, some, some-injective, dite, ℕ_discrete, get_elem?, State, Me, Act, rest, put_back, takes, gives}
 use Rattle.xh_records.proofs.Common.{keeps, step, stepped, Allows, at_set, set_here, set_else, set_again, at_map, LotOf, Among, Distinct, without, among_back, among_either, among_front, Shape}
 use Rattle.xh_records.proofs.Common.{View, Holder, Process, Direction, Event, index_of, Ownership, IsHeldBy, IsHolder, IsDone, word_of, place_of, number_of, record_of, from_of, to_of}
-use Rattle.xh_records.proofs.Common.{word_injective, index_back, number_inside, LeadsTo, all_free, process_of, Sits, Owns, IsLotAt, HomeFits, ViewFits, ViewTells, IsHistory, IsSmall, Shows, Shown}
+use Rattle.xh_records.proofs.Common.{word_injective, index_back, number_inside, LeadsTo, all_free, process_of, Sits, Owns, IsLotAt, HomeFits, ViewFits, ViewTells, IsSmall, Shows, Shown}
 use Rattle.xh_records.proofs.Common.{Knows}
-use Rattle.xh_records.proofs.Common.{taking, giving, IsAway, IsHomeLot, IsAlone, first_front, front_in, gained, head_of, heard, knowing, lost, untold, SeesMore, took, gave, looked, compared}
-use Rattle.xh_records.proofs.Common.{TellsWord}
-use Rattle.xh_records.proofs.Common.{TableId, IsOwn, KeepsLog, StartsWith, some-ne-none}
+use Rattle.xh_records.proofs.Common.{taking, giving, IsAway, IsHomeLot, IsAlone, first_front, gained, head_of, knowing, lost, SeesMore, took, gave, looked, compared}
 use mathlib.Core.Option as maybe
-use Rattle.xh_records.proofs.Named.{sets_home, sets_view}
 use lib.Seq.{map-set}
 use Rattle.xh_records.proofs.History.{Unseen, more_history, one_log, tells_all, unseen}
 use Rattle.xh_records.proofs.Cuts.{sat, shares_out, stands, still_seated}
@@ -83,10 +80,6 @@ module _ {B : Type 0} (fits : B → ℕ → Bool) (s : Shape) (o : Ownership) (w
   elsewhere : (j p : ℕ) (u : View) → j ≢ id → get_elem? vs j ≡ some u → Sits u p → place_of (process_of e) ≢ place_of p
   elsewhere j p u other there sits same = other (shown.alone j id p (process_of e) u v there at sits by.sits (sym same)).0
 
-  pub history : IsHolder k → IsHistory s o' (set vs id w) (shown.log ++ e ∷ [])
-  history good = more_history s o o' vs shown.log id w e shown.history done (done_after s.records o o' e by.inside (subst IsHolder (sym by.to) good) done) (length-set o r k)
-      (shown.inside id (process_of e) v at by.sits).0 (sits (process_of e) by.sits) by.front elsewhere
-
   pub moved : (y : maybe.Option (Option (LotOf B))) → IsHolder k → HomeFits fits s r k y → Shows fits s o' (set ws r (word_of k)) (set hs r y) (set vs id w)
   moved y good home = record {
     words_are = ap (λ (l : List ℕ). set l r (word_of k)) shown.words_are ∙ sym (map-set word_of o r k);
@@ -102,7 +95,8 @@ module _ {B : Type 0} (fits : B → ℕ → Bool) (s : Shape) (o : Ownership) (w
     views_fit = λ j u there. either_way (at_set vs id j w u there) (λ t. subst (ViewFits s o') t.1 mine_fits) (λ t. others_fit j u t.0 t.1);
     small = shown.small;
     log = shown.log ++ e ∷ [];
-    history = history good;
+    history = more_history s o o' vs shown.log id w e shown.history done (done_after s.records o o' e by.inside (subst IsHolder (sym by.to) good) done) (length-set o r k)
+        (shown.inside id (process_of e) v at by.sits).0 (sits (process_of e) by.sits) by.front elsewhere;
   }
 
 pub among_without : (r : ℕ) (xs : List (ℕ × ℕ)) (x : ℕ × ℕ) → Among (without r xs) x → Among xs x × (x.0 ≢ r)
@@ -126,7 +120,7 @@ giving_is p n k away = grind (arith, nat_tests)
 pub same_place : (p q : ℕ) → word_of (Some (Process p)) ≡ word_of (Some (Process q)) → p ≡ q
 same_place p q e = omega arith
 
-module _ {B : Type 0} (fits : B → ℕ → Bool) (names : B → Option TableId) (s : Shape) where
+module _ {B : Type 0} (fits : B → ℕ → Bool) (s : Shape) where
   abbrev S : Type 0
   S = Option (LotOf B)
 
@@ -147,8 +141,8 @@ module _ {B : Type 0} (fits : B → ℕ → Bool) (names : B → Option TableId)
       let found = nth_is t.words r 0 (word_of there.0) word in record { holder = there.0; held = there.1; found = found; word_at = word ∙ ap some (sym found) }
 
   -- a step that leaves all but what its seat has seen as it was
-  pub stays : (t : State S View) (id : ℕ) (me : M) (r : ℕ) (n : ℕ) (fronts : List (ℕ × List Event)) (holds : Shown fits names s t) → get_elem? t.views id ≡ some me.0 → get_elem? t.words r ≡ some n
-      → ViewTells holds.1.log (record me.0 { fronts = fronts }) → Shown fits names s (stepped t r n id me.1 (record me.0 { fronts = fronts }) keeps)
+  pub stays : (t : State S View) (id : ℕ) (me : M) (r : ℕ) (n : ℕ) (fronts : List (ℕ × List Event)) (holds : Shown fits s t) → get_elem? t.views id ≡ some me.0 → get_elem? t.words r ≡ some n
+      → ViewTells holds.1.log (record me.0 { fronts = fronts }) → Shown fits s (stepped t r n id me.1 (record me.0 { fronts = fronts }) keeps)
   stays t id me r n fronts holds here word tells =
       let o = holds.0 in let shown = holds.1 in let v : View = me.0 in let w : View = record v { fronts = fronts } in let fit = shown.views_fit id v here in (
         o,
@@ -160,18 +154,11 @@ module _ {B : Type 0} (fits : B → ℕ → Bool) (names : B → Option TableId)
             (λ j u there. either_way (at_set t.views id j w u there)
             (λ x. subst (λ (z : View). ViewFits s o z × ViewTells shown.log z) x.1 (record { is_owner = fit.is_owner; owns_all = fit.owns_all; knows = fit.knows; places = fit.places }, tells))
             (λ x. (shown.views_fit j u x.1, shown.history.tells j u x.1)))),
-        sets_view names t.homes t.views id v w here refl (λ p h. (p, h)) holds.2,
       )
 
   -- what a seat knows of the word of a record
   knows_word : (o : Ownership) (v : View) (r n : ℕ) (h : Option Holder) → ViewFits s o v → IsHeldBy o r h → IsHolder h → n ≡ word_of h → Knows v r n
   knows_word o v r n h fit held good is = grind (arith, nat_tests, sits, word_injective, one_holder)
-
-  -- what a front that is the whole log tells of the word of a record
-  tells_word : (o : Ownership) (log : List Event) (w : View) (r n : ℕ) (h : Option Holder) → LeadsTo s.records (all_free (length o)) log o → w.shape ≡ s → front_in w ≡ log → IsHeldBy o r h
-      → n ≡ word_of h → TellsWord w.shape.records (front_in w) r n
-  tells_word o log w r n h leads shape front held is =
-      (o, subst (λ (z : Shape × List Event). LeadsTo z.0.records (all_free (length o)) z.1 o) (λ i. (sym shape i, sym front i)) leads, h, held, is)
 
   takes_change : (o : Ownership) (v : View) (r p : ℕ) (h : Option Holder) (others : List Event) → ViewFits s o v → IsHeldBy o r h → ((q : ℕ) → h ≡ Some (Process q) → ⊥) → v.processes ≡ p ∷ []
       → Change v (gained v r p h others) r h (Some (Process p))
@@ -193,17 +180,14 @@ module _ {B : Type 0} (fits : B → ℕ → Bool) (names : B → Option TableId)
   home_lot r (Some (Process p)) x away home = absurd (away p refl)
   home_lot r (Some (Direction d)) x away home = home
 
-  -- a look at the word of a record, with these of the view's fronts: the view afterwards, which has seen the whole log
-  a_look : (slots id : ℕ) (me : M) (r p : ℕ) (fronts : List (ℕ × List Event)) → r < slots → IsAlone (record me.0 { fronts = fronts }) p → (t : State S View) (holds : Shown fits names s t)
-      → ViewTells holds.1.log (record me.0 { fronts = fronts }) → length t.homes ≡ slots → get_elem? t.views id ≡ some me.0
-      → (w : View) × Shown fits names s (stepped t r (get_or t.words r 0) id me.1 w keeps) × SeesMore r (get_or t.words r 0) (record me.0 { fronts = fronts }, me.1) (w, me.1)
-      × (front_in w ≡ holds.1.log)
-  a_look slots id me r p fronts inside alone t holds tells long seen =
+  -- a look at the word of a record: the view afterwards, which has seen the whole log
+  a_look : (slots id : ℕ) (me : M) (r p : ℕ) → r < slots → IsAlone me.0 p → (t : State S View) → Shown fits s t → length t.homes ≡ slots → get_elem? t.views id ≡ some me.0
+      → (w : View) × Shown fits s (stepped t r (get_or t.words r 0) id me.1 w keeps) × SeesMore r (get_or t.words r 0) me (w, me.1)
+  a_look slots id me r p inside alone t holds long seen =
       let o = holds.0 in let shown = holds.1 in let a : At t o r = at t o r slots shown long inside in let n : ℕ = get_or t.words r 0 in
       let fit = shown.views_fit id me.0 seen in
-      let v : View = record me.0 { fronts = fronts } in
-      let new_to_it : Unseen shown.log v p = unseen shown.log v p tells alone in
-      let w : View = knowing v (new_to_it.others ++ []) in
+      let new_to_it : Unseen shown.log me.0 p = unseen shown.log me.0 p (shown.history.tells id me.0 seen) alone in
+      let w : View = knowing me.0 (new_to_it.others ++ []) in
       let front : w.fronts ≡ (place_of p, shown.log) ∷ [] = new_to_it.now [] ∙ ap (λ (z : List Event). (place_of p, z) ∷ []) (append-nil shown.log) in (
         w,
         stays t id me r n w.fronts holds seen a.word_at (tells_all shown.log w p new_to_it.sits front),
@@ -213,15 +197,21 @@ module _ {B : Type 0} (fits : B → ℕ → Bool) (names : B → Option TableId)
           refl,
           (
             knows_word o me.0 r n a.holder fit a.held (shown.holders r a.holder a.held) a.found,
-            tells_word o shown.log w r n a.holder shown.history.leads (fit.knows p new_to_it.sits) (ap first_front front) a.held a.found,
+            (
+              o,
+              subst (λ (z : Shape
+                  × List Event). LeadsTo z.0.records (all_free (length o)) z.1 o) (λ i. (sym (fit.knows p new_to_it.sits) i, sym (ap first_front front) i)) shown.history.leads,
+              a.holder,
+              a.held,
+              a.found,
+            ),
           ),
         ),
-        ap first_front front,
       )
 
   -- a compare that takes
   pub takes_lot : (slots id : ℕ) (me : M) (r old new p : ℕ) (h : Option Holder) (said : maybe.Option S) → old ≡ word_of h → new ≡ word_of (Some (Process p)) → IsAway h → r < slots → IsAlone me.0 p
-      → Allows (Shown fits names s) slots id me r (λ n. either (eqb n old) new n) (took fits names (step slots r old new said) me)
+      → Allows (Shown fits s) slots id me r (λ n. either (eqb n old) new n) (took fits (step slots r old new said) me)
   takes_lot slots id me r old new p h said is_old is_new free inside alone t holds long seen small =
       let mine : me.0.processes ≡ p ∷ [] = alone.0 in
       let o = holds.0 in let shown = holds.1 in let a : At t o r = at t o r slots shown long inside in let n : ℕ = get_or t.words r 0 in
@@ -229,16 +219,14 @@ module _ {B : Type 0} (fits : B → ℕ → Bool) (names : B → Option TableId)
       let good : p < 4096 = (shown.inside id p me.0 seen sits).1 in dite (ℕ_discrete n old)
       (λ hit. let same : a.holder ≡ h = word_injective a.holder h (sym a.found ∙ hit ∙ is_old) in let held : IsHeldBy o r h = subst (IsHeldBy o r) same a.held in
       let fit = shown.views_fit id me.0 seen in let x = shown.homes_are r h held in let l = home_lot r h x.0 free x.2 in let w : View = gained me.0 r p h new_to_it.others in
-      let act : Act S = takes r (Some l.0) in let e : Event = taking p (number_of s.records r) h in
-      let change = takes_change o me.0 r p h new_to_it.others fit held free mine in
-      let by = step_by shown.log me.0 w r p h (Some (Process p)) (λ n. taking p n h) (λ n. taking_is p n h free) shown.small (fit.knows p sits) sits (new_to_it.now _) in (
+      let act : Act S = takes r (Some l.0) in (
         w,
         act,
         x.1 ∙ ap some l.1,
-        subst (λ (m : ℕ). Shown fits names s (stepped t r m id me.1 w act)) (sym (subst (λ (b : Bool). either b new n ≡ word_of (Some (Process p))) (sym (eq-eqb n old hit)) is_new)) (
+        subst (λ (m : ℕ). Shown fits s (stepped t r m id me.1 w act)) (sym (subst (λ (b : Bool). either b new n ≡ word_of (Some (Process p))) (sym (eq-eqb n old hit)) is_new)) (
           set o r (Some (Process p)),
-          moved fits s o t.words t.homes t.views shown id r me.0 w h (Some (Process p)) seen held change e by none good refl,
-          sets_home names t.homes (set t.views id w) r none (sets_view names t.homes t.views id me.0 w seen refl (λ q h. (q, h)) holds.2) (λ y e. absurd (some-ne-none (Some y) (sym e))),
+          moved fits s o t.words t.homes t.views shown id r me.0 w h (Some (Process p)) seen held (takes_change o me.0 r p h new_to_it.others fit held free mine)
+              (taking p (number_of s.records r) h) (step_by shown.log me.0 w r p h (Some (Process p)) (λ n. taking p n h) (λ n. taking_is p n h free) shown.small (fit.knows p sits) sits (new_to_it.now _)) none good refl,
         ),
         (
           (λ _. (
@@ -251,19 +239,15 @@ module _ {B : Type 0} (fits : B → ℕ → Bool) (names : B → Option TableId)
             )),
             subst (λ (z : Shape). IsLotAt z r l.0) (sym (fit.knows p sits)) l.2,
             λ q owns. free q (one_holder o r h (Some (Process q)) held (fit.is_owner r q owns).0),
-            λ u full e. (holds.2.own r l.0 (x.1 ∙ ap some l.1) full).1 u full e ∙ sym (holds.2.named id p me.0 seen sits),
-            tells_word (set o r (Some (Process p))) (shown.log ++ e ∷ []) w r new (Some (Process p))
-                (history fits s o t.words t.homes t.views shown id r me.0 w h (Some (Process p)) seen held change e by good).leads (fit.knows p sits) (ap first_front by.front)
-                (set_here o r (Some (Process p)) (in_range o r h held)) is_new,
           )),
           (λ miss. absurd (miss hit)),
         ),
       ))
-      (λ miss. let look = a_look slots id me r p me.0.fronts inside alone t holds (holds.1.history.tells id me.0 seen) long seen in (
+      (λ miss. let look = a_look slots id me r p inside alone t holds long seen in (
         look.0,
         keeps,
         tt,
-        subst (λ (b : Bool). Shown fits names s (stepped t r (either b new n) id me.1 look.0 keeps)) (sym (ne_eqb n old miss)) look.1,
+        subst (λ (b : Bool). Shown fits s (stepped t r (either b new n) id me.1 look.0 keeps)) (sym (ne_eqb n old miss)) look.1,
         ((λ hit. absurd (miss hit)), (λ _. look.2)),
       ))
 
@@ -274,9 +258,9 @@ module _ {B : Type 0} (fits : B → ℕ → Bool) (names : B → Option TableId)
 
   -- a store that gives
   pub gives_lot : (slots id : ℕ) (me : M) (r new p : ℕ) (k : Option Holder) (lot : LotOf B) (rest_of : List (ℕ × S)) → new ≡ word_of k → IsAway k → IsHolder k → me.1 ≡ (r, Some lot) ∷ rest_of
-      → IsAlone me.0 p → Owns me.0 r p → IsLotAt me.0.shape r lot → IsHomeLot fits k lot → 0 < me.0.log.words → IsOwn names me.0.log lot
-      → Allows (Shown fits names s) slots id me r (λ _. new) (λ _. gave (step slots r new 0 none) me new)
-  gives_lot slots id me r new p k lot rest_of is_new free good front alone owns is_lot home there own t holds long seen small =
+      → IsAlone me.0 p → Owns me.0 r p → IsLotAt me.0.shape r lot → IsHomeLot fits k lot
+      → Allows (Shown fits s) slots id me r (λ _. new) (λ _. gave (step slots r new 0 none) me new)
+  gives_lot slots id me r new p k lot rest_of is_new free good front alone owns is_lot home t holds long seen small =
       let o = holds.0 in let shown = holds.1 in let fit = shown.views_fit id me.0 seen in let was = fit.is_owner r p owns in
       let new_to_it : Unseen shown.log me.0 p = unseen shown.log me.0 p (shown.history.tells id me.0 seen) alone in let w : View = lost me.0 r p k new_to_it.others in
       let y : maybe.Option S = some (Some lot) in (
@@ -288,12 +272,7 @@ module _ {B : Type 0} (fits : B → ℕ → Bool) (names : B → Option TableId)
           subst (λ (z : ℕ × List (maybe.Option S)). Shows fits s (set o r k) (set t.words r z.0) z.1 (set t.views id w))
               (λ i. (sym is_new i, ap (λ (c : List (ℕ × S)). put_back t.homes c) (sym front) i))
               (moved fits s o t.words t.homes t.views shown id r me.0 w (Some (Process p)) k seen was.0 (gives_change o me.0 r p k new_to_it.others fit owns free) (giving p (number_of s.records r) k)
-              (step_by shown.log me.0 w r p (Some (Process p)) k (λ n. giving p n k) (λ n. giving_is p n k free) shown.small (fit.knows p was.1) was.1 (new_to_it.now _)) y good
-              (home_is r k lot (subst (λ (z : Shape). IsLotAt z r lot) (fit.knows p was.1) is_lot) home)),
-          subst (λ (hs : List (maybe.Option S)). KeepsLog names hs (set t.views id w)) (ap (λ (c : List (ℕ × S)). put_back t.homes c) (sym front))
-              (sets_view names (set t.homes r y) t.views id me.0 w seen refl (λ q h. (q, h)) (sets_home names t.homes t.views r y holds.2
-              (λ l e full. let f : Some lot ≡ Some l = some-injective (Some lot) (Some l) e in let is : lot ≡ l = cc in
-              subst (λ (z : TableId × LotOf B). (0 < z.0.words) × IsOwn names z.0 z.1) (λ i. (holds.2.named id p me.0 seen was.1 i, is i)) (there, own)))),
+              (step_by shown.log me.0 w r p (Some (Process p)) k (λ n. giving p n k) (λ n. giving_is p n k free) shown.small (fit.knows p was.1) was.1 (new_to_it.now _)) y good (home_is r k lot (subst (λ (z : Shape). IsLotAt z r lot) (fit.knows p was.1) is_lot) home)),
         ),
         (
           new_to_it.others,
@@ -303,45 +282,26 @@ module _ {B : Type 0} (fits : B → ℕ → Bool) (names : B → Option TableId)
       )
 
   -- a load
-  pub looks : (slots id : ℕ) (me : M) (r p : ℕ) → r < slots → IsAlone me.0 p → Allows (Shown fits names s) slots id me r (λ n. n) (looked (step slots r 0 0 none) me)
-  looks slots id me r p inside alone t holds long seen small =
-      let look = a_look slots id me r p me.0.fronts inside alone t holds (holds.1.history.tells id me.0 seen) long seen in (look.0, keeps, tt, look.1, look.2)
-
-  -- what a seat was told goes
-  forgets : (log : List Event) (v : View) (own note : ℕ × List Event) → v.fronts ≡ own ∷ note ∷ [] → ViewTells log v → ViewTells log (untold v)
-  forgets log v own note two told =
-      let kept : (q : ℕ) (f : List Event) → Among (head_of v.fronts) (q, f) → Among v.fronts (q, f) = λ q f there.
-      subst (λ (z : List (ℕ × List Event)). Among z (q, f)) (sym two) (inl (only_one (subst (λ (z : List (ℕ × List Event)). Among (head_of z) (q, f)) two there))) in
-      record { begins = λ q f there. told.begins q f (kept q f there); only = λ q f there few. told.only q f (kept q f there) few }
-
-  -- each of two fronts is a beginning of the log
-  begins_at : (log : List Event) (v : View) (a b : ℕ × List Event) → v.fronts ≡ a ∷ b ∷ [] → ViewTells log v → StartsWith log a.1 × StartsWith log b.1
-  begins_at log v a b is told = (
-    told.begins a.0 a.1 (subst (λ (z : List (ℕ × List Event)). Among z a) (sym is) (inl refl)),
-    told.begins b.0 b.1 (subst (λ (z : List (ℕ × List Event)). Among z b) (sym is) (inr (inl refl))),
-  )
+  pub looks : (slots id : ℕ) (me : M) (r p : ℕ) → r < slots → IsAlone me.0 p → Allows (Shown fits s) slots id me r (λ n. n) (looked (step slots r 0 0 none) me)
+  looks slots id me r p inside alone t holds long seen small = let look = a_look slots id me r p inside alone t holds long seen in (look.0, keeps, tt, look.1, look.2)
 
   -- a load by a seat that was told what another had seen
   pub compares : (slots id : ℕ) (me : M) (r : ℕ) (own note : ℕ × List Event) → r < slots → me.0.fronts ≡ own ∷ note ∷ []
-      → Allows (Shown fits names s) slots id me r (λ n. n) (compared (step slots r 0 0 none) me)
+      → Allows (Shown fits s) slots id me r (λ n. n) (compared (step slots r 0 0 none) me)
   compares slots id me r own note inside two t holds long seen small =
-      let a : At t holds.0 r = at t holds.0 r slots holds.1 long inside in let log : List Event = holds.1.log in let told = holds.1.history.tells id me.0 seen in (
-        untold me.0,
-        keeps,
-        tt,
-        stays t id me r (get_or t.words r 0) (head_of me.0.fronts) holds seen a.word_at (forgets log me.0 own note two told),
-        (refl, λ x y is. let b = begins_at log me.0 x y is told in one_log log x.1 y.1 b.0 b.1),
-      )
-
-  -- and a look by it
-  pub hears : (slots id : ℕ) (me : M) (r p : ℕ) (own note : ℕ × List Event) → r < slots → me.0.fronts ≡ own ∷ note ∷ [] → IsAlone (untold me.0) p
-      → Allows (Shown fits names s) slots id me r (λ n. n) (heard (step slots r 0 0 none) me)
-  hears slots id me r p own note inside two alone t holds long seen small =
+      let a : At t holds.0 r = at t holds.0 r slots holds.1 long inside in
       let log : List Event = holds.1.log in let told = holds.1.history.tells id me.0 seen in
-      let look = a_look slots id me r p (head_of me.0.fronts) inside alone t holds (forgets log me.0 own note two told) long seen in (
-        look.0,
+      let first : head_of me.0.fronts ≡ own ∷ [] = ap (λ (z : List (ℕ × List Event)). head_of z) two in
+      let kept : (q : ℕ) (f : List Event) → Among (head_of me.0.fronts) (q, f) → Among me.0.fronts (q, f) = λ q f there.
+      subst (λ (z : List (ℕ × List Event)). Among z (q, f)) (sym two) (inl (only_one (subst (λ (z : List (ℕ × List Event)). Among z (q, f)) first there))) in (
+        record me.0 { fronts = head_of me.0.fronts },
         keeps,
         tt,
-        look.1,
-        (look.2, λ x y is. subst (λ (l : List Event). StartsWith l y.1) (sym look.3) (begins_at log me.0 x y is told).1),
+        stays t id me r (get_or t.words r 0) (head_of me.0.fronts) holds seen a.word_at
+            record { begins = λ q f there. told.begins q f (kept q f there); only = λ q f there few. told.only q f (kept q f there) few },
+        (
+          refl,
+          λ x y is. one_log log x.1 y.1 (told.begins x.0 x.1 (subst (λ (z : List (ℕ × List Event)). Among z x) (sym is) (inl refl)))
+              (told.begins y.0 y.1 (subst (λ (z : List (ℕ × List Event)). Among z y) (sym is) (inr (inl refl)))),
+        ),
       )

@@ -23,17 +23,17 @@ still_listed order slot j y ls now listed e = (listed.0 ∙ sym (put_keys slot y
 pub listed_as : {X : Type 0} (a b : List ℕ) (ls : List (ℕ × X)) (slot : ℕ) → a ≡ b → IsListed b ls slot → IsListed a ls slot
 listed_as a b ls slot e = subst (λ (z : List ℕ). IsListed z ls slot) (sym e)
 
-module _ {B : Type 0} (x : Held B) (t : TableId) (id process : ℕ) (me : Me (Option (LotOf B)) View) (is : held t id process me ≡ x) (order : List ℕ) (capacity : ℕ)
-    (seat : IsSeat process order capacity t me) where
+module _ {B : Type 0} (x : Held B) (t : TableId) (id process : ℕ) (me : Me (Option (LotOf B)) View) (is : held t id process me ≡ x) (order : List ℕ) (capacity slots : ℕ)
+    (seat : IsSeat process order capacity slots me) where
   -- a record that the seat holds: where its slot is
   pub record Lent (slot r : ℕ) (l : LotOf B) : Type 0 where
-    pub reach : Reach process order t.slots me slot l
+    pub reach : Reach process order slots me slot l
     pub number : number_of me.0.shape.records slot ≡ r
     pub there : (y : LotOf B) → IsLotOf x.shape r y → IsLotAt me.0.shape slot y
 
   pub lends : (slot r : ℕ) (l : LotOf B) → Spot x me slot r → value_at r x.lots ≡ Some l → Lent slot r l
   lends slot r l spot has = record {
-    reach = reaches process order capacity t me slot l seat (slot_is x t id process me is order capacity seat slot r (Some l) spot.at spot.below has);
+    reach = reaches process order capacity slots me slot l seat (slot_is x t id process me is order capacity slots seat slot r (Some l) spot.at spot.below has);
     number = spot.number;
     there = λ y lot. lot_there x t id process me is slot r y spot.at spot.below lot;
   }
@@ -52,8 +52,8 @@ module _ {B : Type 0} (x : Held B) (t : TableId) (id process : ℕ) (me : Me (Op
   }
 
   -- the seat after one lot was lent
-  pub kept : (slot r : ℕ) (l left : LotOf B) → Lent slot r l → IsLotOf x.shape r left → IsSeat process order capacity t (me.0, put slot (Some left) me.1)
-  kept slot r l left lent lot = replaces process order capacity t me slot left seat (lent.there left lot)
+  pub kept : (slot r : ℕ) (l left : LotOf B) → Lent slot r l → IsLotOf x.shape r left → IsSeat process order capacity slots (me.0, put slot (Some left) me.1)
+  kept slot r l left lent lot = replaces process order capacity slots me slot left seat (lent.there left lot)
 
   pub after_one : (t' : TableId) (id' : ℕ) (me' : Me (Option (LotOf B)) View) (slot r : ℕ) (l left : LotOf B) → Lent slot r l → t' ≡ t → id' ≡ id → me' ≡ (me.0, put slot (Some left) me.1)
       → held t' id' process me' ≡ with_lots x (put r left x.lots)
@@ -61,8 +61,8 @@ module _ {B : Type 0} (x : Held B) (t : TableId) (id process : ℕ) (me : Me (Op
 
   -- the seat after two lots were lent
   pub kept_two : (i j r q : ℕ) (l m left also : LotOf B) → Lent i r l → Lent j q m → IsLotOf x.shape r left → IsLotOf x.shape q also
-      → IsSeat process order capacity t (me.0, put j (Some also) (put i (Some left) me.1))
-  kept_two i j r q l m left also one two lot other = replaces process order capacity t (me.0, put i (Some left) me.1) j also (kept i r l left one lot) (two.there also other)
+      → IsSeat process order capacity slots (me.0, put j (Some also) (put i (Some left) me.1))
+  kept_two i j r q l m left also one two lot other = replaces process order capacity slots (me.0, put i (Some left) me.1) j also (kept i r l left one lot) (two.there also other)
 
   pub after_two : (t' : TableId) (id' : ℕ) (me' : Me (Option (LotOf B)) View) (i j r q : ℕ) (l m left also : LotOf B) → Lent i r l → Lent j q m → IsLotOf x.shape r left → t' ≡ t → id' ≡ id
       → me' ≡ (me.0, put j (Some also) (put i (Some left) me.1)) → held t' id' process me' ≡ with_lots x (put q also (put r left x.lots))

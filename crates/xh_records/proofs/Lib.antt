@@ -2,7 +2,6 @@ mod Common
 pub mod History
 pub mod After
 pub mod Elements
-mod Named
 pub mod Keeps
 pub mod Ages
 pub mod Lists

@@ -1,5 +1,5 @@
 -- A seat that looked before it did something.
-use Rattle.xh_records.proofs.Common.{ℕ, List, [], ◌∷◌, ◌++◌, ap, ◌∙◌, subst, LotOf, Event, place_of, record_of, Grows, StartsWith, Some, Process, TellsWord, index_of, word_of, IsLotOf, Held, HasFound}
+use Rattle.xh_records.proofs.Common.{ℕ, List, [], ◌∷◌, ◌++◌, ap, ◌∙◌, subst, LotOf, Event, place_of, record_of, Grows, StartsWith, IsLotOf, Held, HasFound}
 use Rattle.xh_records.proofs.Common.{HasGained, HasLooked, SawTaken, did}
 use Rattle.xh_records.proofs.Common.{seen, with_lots}
 use Rattle.xh_records.proofs.History.{grows_twice, starts_twice}
@@ -20,7 +20,6 @@ module _ {B : Type 0} (x y : Held B) (look : HasLooked x y) where
         subst (λ s. IsLotOf s (record_of e) next.0) (ap (λ h. h.shape) look.0) next.2,
         next.3,
         grows_twice (place_of x.process) (e ∷ []) x.front y.front z.front look.1 (same_process (e ∷ []) y.front z.front next.4),
-        subst (λ (h : Held B). TellsWord h.shape.records z.front (index_of h.shape.records (record_of e)) (word_of (Some (Process h.process)))) look.0 next.5,
       )
 
   pub starts_on : (front : List Event) → StartsWith front y.front → StartsWith front x.front

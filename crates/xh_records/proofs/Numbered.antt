@@ -1,6 +1,6 @@
 -- A seat's lots by the numbers of their records.
 use Rattle.xh_records.proofs.Common.{nat_tests, arith, ◌≡◌, ℕ, suc, length, ◌%◌, ◌<◌, ◌≤◌, List, [], ◌∷◌, ◌++◌, map, sym, refl, ap, ◌∙◌, subst, append-nil, Option, Some, None, Me, TableId, LotOf}
-use Rattle.xh_records.proofs.Common.{index_of, Event, number_of, place_of, word_of, number_inside, index_back, number_back, Among, keys, put, value_at, without, Shape, View, IsLotOf, IsLotAt, IsSmall}
+use Rattle.xh_records.proofs.Common.{index_of, Event, number_of, place_of, number_inside, index_back, number_back, Among, keys, put, value_at, without, Shape, View, IsLotOf, IsLotAt, IsSmall}
 use Rattle.xh_records.proofs.Common.{Holder, Process, Direction, taking, giving, Advances, HasGained, HasLost, HasSeen, Held, Knows, seen, view_of, did, with_lots, IsRecord, adds, front_in}
 use Rattle.xh_records.proofs.Common.{IsOthers, SeesMore, Grows, TellsWord, by_place, in_slot, with_lot, numbered, AllLots, IsSeat}
 use Rattle.xh_records.proofs.Elements.{among_map, in_range, slice_elem}
@@ -58,11 +58,10 @@ module _ {B : Type 0} (s : Shape) (small : IsSmall s) where
 
 -- what a seat gained or lost, by the event of a step
 pub gained_by : {B : Type 0} (x y : Held B) (p r : ℕ) (h : Option Holder) (is : LotOf B → Type 0) (l : LotOf B) → IsLotOf x.shape r l → is l
-    → (y ≡ seen y.front (did (taking p r h) (with_lots x (x.lots ++ (r, l) ∷ [])))) × Advances (taking p r h ∷ []) x y
-    → TellsWord x.shape.records y.front (index_of x.shape.records r) (word_of (Some (Process x.process))) → HasGained (taking p r h) is x y
-gained_by x y p r None is l lot good e own = (l, e.0, lot, good, e.1, own)
-gained_by x y p r (Some (Process q)) is l lot good e own = (l, e.0, lot, good, e.1, own)
-gained_by x y p r (Some (Direction d)) is l lot good e own = (l, e.0, lot, good, e.1, own)
+    → (y ≡ seen y.front (did (taking p r h) (with_lots x (x.lots ++ (r, l) ∷ [])))) × Advances (taking p r h ∷ []) x y → HasGained (taking p r h) is x y
+gained_by x y p r None is l lot good e = (l, e.0, lot, good, e.1)
+gained_by x y p r (Some (Process q)) is l lot good e = (l, e.0, lot, good, e.1)
+gained_by x y p r (Some (Direction d)) is l lot good e = (l, e.0, lot, good, e.1)
 
 pub lost_by : {B : Type 0} (x y : Held B) (p r : ℕ) (h : Option Holder)
     → (y ≡ seen y.front (did (giving p r h) (with_lots x (without r x.lots)))) × Advances (giving p r h ∷ []) x y → HasLost (giving p r h) x y
@@ -87,13 +86,13 @@ number_is n m slot r same at inside = (λ i. number_of (same i) (at i)) ∙ numb
 
 module _ {B : Type 0} (x : Held B) (t : TableId) (id process : ℕ) (me : Me (Option (LotOf B)) View) (is : held t id process me ≡ x) where
   -- a seat's view
-  pub views_are : (order : List ℕ) (capacity : ℕ) → IsSeat process order capacity t me → view_of x ≡ me.0
-  views_are order capacity seat = grind (arith, nat_tests, indices_are)
+  pub views_are : (order : List ℕ) (capacity slots : ℕ) → IsSeat process order capacity slots me → view_of x ≡ me.0
+  views_are order capacity slots seat = grind (arith, nat_tests, indices_are)
 
   -- what a seat has in the slot of a record
-  pub slot_is : (order : List ℕ) (capacity : ℕ) → IsSeat process order capacity t me → (slot r : ℕ) (y : Option (LotOf B)) → slot ≡ index_of x.shape.records r → r % 256 < x.shape.records
+  pub slot_is : (order : List ℕ) (capacity slots : ℕ) → IsSeat process order capacity slots me → (slot r : ℕ) (y : Option (LotOf B)) → slot ≡ index_of x.shape.records r → r % 256 < x.shape.records
       → value_at r x.lots ≡ y → in_slot slot me.1 ≡ y
-  slot_is order capacity seat slot r y at inside has = grind (arith, nat_tests, number_is, lot_numbered)
+  slot_is order capacity slots seat slot r y at inside has = grind (arith, nat_tests, number_is, lot_numbered)
 
   -- the lot of a record is that of its slot
   pub lot_there : (slot r : ℕ) (l : LotOf B) → slot ≡ index_of x.shape.records r → r % 256 < x.shape.records → IsLotOf x.shape r l → IsLotAt me.0.shape slot l
@@ -103,8 +102,8 @@ module _ {B : Type 0} (x : Held B) (t : TableId) (id process : ℕ) (me : Me (Op
   lot_back slot r l at inside lot = grind (arith, nat_tests, number_is)
 
   -- a record that the seat has not isn't in its list
-  pub fresh : (order : List ℕ) (capacity : ℕ) → IsSeat process order capacity t me → (slot r : ℕ) → slot ≡ index_of x.shape.records r → (Among order slot → ⊥) → Among (keys x.lots) r → ⊥
-  fresh order capacity seat slot r at new h =
+  pub fresh : (order : List ℕ) (capacity slots : ℕ) → IsSeat process order capacity slots me → (slot r : ℕ) → slot ≡ index_of x.shape.records r → (Among order slot → ⊥) → Among (keys x.lots) r → ⊥
+  fresh order capacity slots seat slot r at new h =
       let n : ℕ = x.shape.records in
       let there : Among (map (index_of n) (keys x.lots)) (index_of n r) = among_map (index_of n) (keys x.lots) r h in
       let keys_are : map (index_of n) (keys x.lots) ≡ order = grind (arith, nat_tests, indices_are) in
@@ -124,23 +123,23 @@ module _ {B : Type 0} (x : Held B) (t : TableId) (id process : ℕ) (me : Me (Op
   }
 
   -- and after a step, with other lots, events of others that it saw, and its own
-  pub held_as : (order : List ℕ) (capacity : ℕ) → IsSeat process order capacity t me → (t' : TableId) (id' : ℕ) (me' : Me (Option (LotOf B)) View) (ls : List (ℕ × LotOf B))
+  pub held_as : (order : List ℕ) (capacity slots : ℕ) → IsSeat process order capacity slots me → (t' : TableId) (id' : ℕ) (me' : Me (Option (LotOf B)) View) (ls : List (ℕ × LotOf B))
       (others own done : List Event) → t' ≡ t → id' ≡ id → me'.0.shape ≡ me.0.shape → numbered me'.0.shape.records me'.1 ≡ ls → me'.0.fronts ≡ adds (others ++ own) me.0.fronts → IsOthers me.0 others
       → by_place (place_of x.process) own ≡ own → x.done ++ own ≡ done
       → (held t' id' process me' ≡ seen (front_in me'.0) (record x { lots = ls; done = done })) × Grows (place_of x.process) own x.front (front_in me'.0)
-  held_as order capacity seat t' id' me' ls others own done et en es el ef of_others mine ed = grind (arith, nat_tests, adds_one, by_place_append)
+  held_as order capacity slots seat t' id' me' ls others own done et en es el ef of_others mine ed = grind (arith, nat_tests, adds_one, by_place_append)
 
   -- and after a look, which found a word
-  pub held_seen : (order : List ℕ) (capacity : ℕ) (seat : IsSeat process order capacity t me) (t' : TableId) (id' : ℕ) (me' : Me (Option (LotOf B)) View) (slot r word : ℕ) → t' ≡ t
+  pub held_seen : (order : List ℕ) (capacity slots : ℕ) (seat : IsSeat process order capacity slots me) (t' : TableId) (id' : ℕ) (me' : Me (Option (LotOf B)) View) (slot r word : ℕ) → t' ≡ t
       → id' ≡ id
       → slot ≡ index_of x.shape.records r → SeesMore slot word me me' → HasSeen r word x (held t' id' process me')
-  held_seen order capacity seat t' id' me' slot r word et en at sees =
+  held_seen order capacity slots seat t' id' me' slot r word et en at sees =
       let shape : me'.0.shape ≡ x.shape = ap (λ (m : Me (Option (LotOf B)) View). m.0.shape) sees.2 ∙ ap (λ (y : Held B). y.shape) is in
-      let after = held_as order capacity seat t' id' me' x.lots sees.0 [] x.done et en (ap (λ (m : Me (Option (LotOf B)) View). m.0.shape) sees.2)
+      let after = held_as order capacity slots seat t' id' me' x.lots sees.0 [] x.done et en (ap (λ (m : Me (Option (LotOf B)) View). m.0.shape) sees.2)
       (ap (λ (m : Me (Option (LotOf B)) View). numbered m.0.shape.records m.1) sees.2 ∙ ap (λ (y : Held B). y.lots) is)
       (ap (λ (m : Me (Option (LotOf B)) View). m.0.fronts) sees.2) sees.1 refl (append-nil x.done) in (
         (
-          subst (λ (z : View × ℕ). Knows z.0 z.1 word) (λ i. (sym (views_are order capacity seat) i, at i)) sees.3.0,
+          subst (λ (z : View × ℕ). Knows z.0 z.1 word) (λ i. (sym (views_are order capacity slots seat) i, at i)) sees.3.0,
           subst (λ (z : Shape × ℕ). TellsWord z.0.records (front_in me'.0) z.1 word) (λ i. (shape i, at i)) sees.3.1,
         ),
         after,

@@ -3,11 +3,8 @@ use Rattle.xh_records.proofs.Common.{nat_tests, ◌≡◌, ℕ, zero, suc, ◌�
 use Rattle.xh_records.proofs.Common.{Some, None, some, some-injective, some-ne-none, get_elem?, opening, at_map, LotOf, Holder, Process, IsHeldBy, IsHolder, word_of, Shape, View, Event, by_place}
 use Rattle.xh_records.proofs.Common.{IsLotAt, IsEmpty, IsSmall, HomeFits, ViewFits, ViewTells, Shown, places_from, all_places}
 use Rattle.xh_records.proofs.Common.{◌+◌, ◌<◌, ◌%◌, Among, dite, ℕ_discrete, inl, inr}
-use Rattle.xh_records.proofs.Common.{State, Splits, TableId, at_set, subst, set, KeepsLog, Shows, Sits, named, no_table, place_of, spent}
-use Rattle.xh_records.proofs.Cuts.{Part, cuts, nothing}
-use Rattle.xh_records.proofs.Named.{empty_home}
 use Rattle.xh_records.proofs.History.{lists_back}
-use Rattle.xh_records.proofs.Elements.{either_way, in_range, is_there, snoc_at}
+use Rattle.xh_records.proofs.Elements.{in_range, is_there}
 use Rattle.xh_records.proofs.Distinct.{few_places, least}
 
 -- the table at the start
@@ -24,16 +21,30 @@ sits_from : (a k p : ℕ) → a ≤ p → p < a + k → Among (places_from a k) 
 sits_from a zero p lo hi = absurd (omega arith)
 sits_from a (suc k) p lo hi = dite (ℕ_discrete p a) (λ e. inl e) (λ n. inr (sits_from (suc a) k p (omega arith) (omega arith)))
 
-pub opens : {B : Type 0} (fits : B → ℕ → Bool) (log : B → Option TableId) (s : Shape) (n : ℕ) (words : List ℕ) (lots : List (LotOf B)) (slots : List (Option (LotOf B)))
-    → s.places ≤ 32 → words ≡ replicate n 0 → slots ≡ map Some lots → length lots ≡ n → ((k : ℕ) (l : LotOf B) → get_elem? lots k ≡ some l → IsLotAt s k l × IsEmpty fits l) → IsSmall s
-    → Shown fits log s (opening words slots (all_places s))
-opens {B} fits log s n words lots slots few zeros wrapped long empty small = (
+pub opens : {B : Type 0} (fits : B → ℕ → Bool) (s : Shape) (n : ℕ) (words : List ℕ) (lots : List (LotOf B)) (slots : List (Option (LotOf B))) → s.places ≤ 32 → words ≡ replicate n 0
+    → slots ≡ map Some lots → length lots ≡ n → ((k : ℕ) (l : LotOf B) → get_elem? lots k ≡ some l → IsLotAt s k l × IsEmpty fits l) → IsSmall s
+    → Shown fits s (opening words slots (all_places s))
+opens {B} fits s n words lots slots few zeros wrapped long empty small = (
   replicate n None,
-  shows,
   record {
-    table = no_table;
-    named = λ id p v there sits. ap (λ (z : View). z.log) (sym (only id v there).1);
-    own = λ k l at full. absurd (let e = empty_home fits s (replicate n None) words (map some slots) (all_places s ∷ []) shows (none_there n) k l at in omega arith);
+    words_are = zeros ∙ all_free n;
+    holders = λ r h is. subst IsHolder (sym (none_there n r h is)) tt;
+    homes_long = length-map slots some ∙ ap length wrapped ∙ length-map lots Some ∙ long ∙ sym (length-replicate {A = Option Holder} n None);
+    homes_are = λ r h is.
+        let there = is_there lots r (let i = in_range (replicate n None) r h is in let e = length-replicate {A = Option Holder} n None in omega arith) in
+        let e = empty r there.0 there.1 in
+        let at : get_elem? (map some slots) r ≡ some (some (Some there.0)) = at_map some slots r (Some there.0)
+        (subst (λ (z : List (Option (LotOf B))). get_elem? z r ≡ some (Some there.0)) (sym wrapped) (at_map Some lots r there.0 there.1)) in
+        (some (Some there.0), at, subst (λ (k : Option Holder). HomeFits fits s r k (some (Some there.0))) (sym (none_there n r h is)) (there.0, refl, e.0, e.1));
+    placed = λ r p is. absurd (nobody r p is);
+    latest = λ r p id q v is there sits same. absurd (nobody r p is);
+    seated = λ q below. (0, q, all_places s, refl, sits_from 0 s.places q (omega arith) (omega arith), (let m : s.places ≤ 32 = few in let e : q % 32 ≡ q = omega arith in e));
+    inside = λ id p v there sits. grind (arith, nat_tests, least);
+    alone = λ i j p q u v at_u at_v sits sits' same. grind (arith, nat_tests, only, least);
+    views_fit = λ id v there. subst (ViewFits s (replicate n None)) (only id v there).1 begins;
+    small = small;
+    log = [];
+    history = record { leads = ap (λ (k : ℕ). replicate k None) (sym (length-replicate {A = Option Holder} n None)); theirs = λ e h. absurd h; tells = λ id v there. subst (ViewTells []) (only id v there).1 untold };
   },
 )
   where
@@ -52,66 +63,3 @@ opens {B} fits log s n words lots slots few zeros wrapped long empty small = (
       begins = λ q f there. ([], sym (ap (λ (z : List Event). z ++ []) (lists_back (places_from 0 s.places) q f there).3));
       only = λ q f there few. let t = lists_back (places_from 0 s.places) q f there in (t.0, t.1, t.2, ap (by_place q) t.3);
     }
-
-    shows : Shows fits s (replicate n None) words (map some slots) (all_places s ∷ [])
-    shows = record {
-      words_are = zeros ∙ all_free n;
-      holders = λ r h is. subst IsHolder (sym (none_there n r h is)) tt;
-      homes_long = length-map slots some ∙ ap length wrapped ∙ length-map lots Some ∙ long ∙ sym (length-replicate {A = Option Holder} n None);
-      homes_are = λ r h is.
-          let there = is_there lots r (let i = in_range (replicate n None) r h is in let e = length-replicate {A = Option Holder} n None in omega arith) in
-          let e = empty r there.0 there.1 in
-          let at : get_elem? (map some slots) r ≡ some (some (Some there.0)) = at_map some slots r (Some there.0)
-          (subst (λ (z : List (Option (LotOf B))). get_elem? z r ≡ some (Some there.0)) (sym wrapped) (at_map Some lots r there.0 there.1)) in
-          (some (Some there.0), at, subst (λ (k : Option Holder). HomeFits fits s r k (some (Some there.0))) (sym (none_there n r h is)) (there.0, refl, e.0, e.1));
-      placed = λ r p is. absurd (nobody r p is);
-      latest = λ r p id q v is there sits same. absurd (nobody r p is);
-      seated = λ q below. (0, q, all_places s, refl, sits_from 0 s.places q (omega arith) (omega arith), (let m : s.places ≤ 32 = few in let e : q % 32 ≡ q = omega arith in e));
-      inside = λ id p v there sits. grind (arith, nat_tests, least);
-      alone = λ i j p q u v at_u at_v sits sits' same. grind (arith, nat_tests, only, least);
-      views_fit = λ id v there. subst (ViewFits s (replicate n None)) (only id v there).1 begins;
-      small = small;
-      log = [];
-      history = record {
-        leads = ap (λ (k : ℕ). replicate k None) (sym (length-replicate {A = Option Holder} n None));
-        theirs = λ e h. absurd h;
-        tells = λ id v there. subst (ViewTells []) (only id v there).1 untold;
-      };
-    }
-
--- the first seat learns which table it is at
-pub names_all : {B : Type 0} (fits : B → ℕ → Bool) (log : B → Option TableId) (s : Shape) (t : TableId) (id : ℕ) → 0 < s.places → s.places ≤ 32
-    → Splits (Shown {B = B} fits log s) id (all_places s) (named t (all_places s)) spent
-names_all {B} fits log s t id some_place few = cuts fits log s id v l spent part (nothing v) (λ p h. inl h) (λ p h m. m) logs
-  where
-    v : View
-    v = all_places s
-
-    l : View
-    l = named t v
-
-    part : Part v l
-    part = record {
-      sits = λ p h. h;
-      record_of = λ k p h. (h, λ z. z);
-      all_records = λ k p h sits. h;
-      same_shape = λ p h. refl;
-      tells = λ events told. record { begins = told.begins; only = told.only };
-      places = λ d. d;
-    }
-
-    logs : (st : State (Option (LotOf B)) View) → Shown fits log s st → get_elem? st.views id ≡ some v → KeepsLog log st.homes (set st.views id l ++ spent ∷ [])
-    logs st holds here = record {
-      table = t;
-      named = λ j p u at sits. either_way (snoc_at (set st.views id l) spent u j at)
-          (λ x. either_way (at_set st.views id j l u x) (λ y. ap (λ (z : View). z.log) (sym y.1)) (λ y. absurd (y.0 (one j p u y.1 sits))))
-          (λ x. absurd (subst (λ (z : View). Sits z p) (sym x.0) sits));
-      own = λ k lot at full. absurd (
-          let a : 0 < holds.2.table.words = (holds.2.own k lot at full).0 in
-          let b : 0 ≡ holds.2.table.words = ap (λ (z : TableId). z.words) (holds.2.named id 0 v here (sits_from 0 s.places 0 (omega arith) (omega arith))) in omega arith);
-    }
-      where
-        one : (j p : ℕ) (u : View) → get_elem? st.views j ≡ some u → Sits u p → j ≡ id
-        one j p u at sits =
-            let inside : place_of p < s.places = (holds.1.inside j p u at sits).0 in
-            (holds.1.alone j id p (place_of p) u v at here sits (sits_from 0 s.places (place_of p) (omega arith) (omega arith)) (omega arith)).0

@@ -3,7 +3,6 @@ use Rattle.xh_records.proofs.Common.{nat_tests, ◌≡◌, ℕ, suc, ◌+◌, �
 use Rattle.xh_records.proofs.Common.{ℕ_discrete, get_elem?, Me, LotOf, Among, Distinct, keys, put, without, among_back, distinct_push, distinct_split, here_first, keys_append, keys_push}
 use Rattle.xh_records.proofs.Common.{length-keys, not_here, put_keys, split_at_key, without_split, Shape, View, Event, Holder, number_of, place_of, Owns, IsLotAt, owned_by, giving, IsAlone}
 use Rattle.xh_records.proofs.Common.{gained, knowing, lost, renewed, AllBelow, AllLots, IsSeat, in_slot}
-use Rattle.xh_records.proofs.Common.{TableId}
 use Rattle.xh_records.proofs.History.{adds_one}
 use Rattle.xh_records.proofs.Lists.{few, below_push, owned_push, among_owned, slot_split, below_split, owned_without, remove_split, below_at, stands}
 
@@ -41,24 +40,24 @@ pub record Reach {B : Type 0} (process : ℕ) (order : List ℕ) (slots : ℕ) (
   pub owns : Owns me.0 i process
   pub inside : i < slots
 
-module _ {B : Type 0} (process : ℕ) (order : List ℕ) (capacity : ℕ) (table : TableId) (me : Me (Option (LotOf B)) View) where
-  pub not_among : (i : ℕ) → IsSeat process order capacity table me → ((p : ℕ) → Owns me.0 i p → ⊥) → Among order i → ⊥
+module _ {B : Type 0} (process : ℕ) (order : List ℕ) (capacity slots : ℕ) (me : Me (Option (LotOf B)) View) where
+  pub not_among : (i : ℕ) → IsSeat process order capacity slots me → ((p : ℕ) → Owns me.0 i p → ⊥) → Among order i → ⊥
   not_among i seat new h = new process (subst (λ (l : List (ℕ × ℕ)). Among l (i, process)) (sym seat.records) (among_owned process order i h))
 
-  pub is_alone : IsSeat process order capacity table me → IsAlone me.0 process
+  pub is_alone : IsSeat process order capacity slots me → IsAlone me.0 process
   is_alone seat = (seat.processes, seat.front)
 
   -- one more slot has room
-  pub has_room : (i : ℕ) → IsSeat process order capacity table me → i < table.slots → ((p : ℕ) → Owns me.0 i p → ⊥) → length order < capacity
+  pub has_room : (i : ℕ) → IsSeat process order capacity slots me → i < slots → ((p : ℕ) → Owns me.0 i p → ⊥) → length order < capacity
   has_room i seat inside new =
-      let most : length (i ∷ order) ≤ table.slots = few table.slots (i ∷ order) (inside, seat.below) (not_among i seat new, seat.distinct) in let room : table.slots ≤ capacity = seat.room in
+      let most : length (i ∷ order) ≤ slots = few slots (i ∷ order) (inside, seat.below) (not_among i seat new, seat.distinct) in let room : slots ≤ capacity = seat.room in
       let size : length (i ∷ order) ≡ suc (length order) = refl in omega arith
 
-  pub gains : (i : ℕ) (l : LotOf B) (h : Option Holder) (others : List Event) → IsSeat process order capacity table me → i < table.slots → IsLotAt me.0.shape i l → ((p : ℕ) → Owns me.0 i p → ⊥)
-      → IsSeat process (order ++ i ∷ []) capacity table (gained me.0 i process h others, me.1 ++ (i, Some l) ∷ [])
+  pub gains : (i : ℕ) (l : LotOf B) (h : Option Holder) (others : List Event) → IsSeat process order capacity slots me → i < slots → IsLotAt me.0.shape i l → ((p : ℕ) → Owns me.0 i p → ⊥)
+      → IsSeat process (order ++ i ∷ []) capacity slots (gained me.0 i process h others, me.1 ++ (i, Some l) ∷ [])
   gains i l h others seat inside lot new = grind (arith, nat_tests, keys_push, owned_push, adds_one, lots_push, distinct_push, not_among, below_push)
 
-  pub reaches : (i : ℕ) (l : LotOf B) → IsSeat process order capacity table me → in_slot i me.1 ≡ Some l → Reach process order table.slots me i l
+  pub reaches : (i : ℕ) (l : LotOf B) → IsSeat process order capacity slots me → in_slot i me.1 ≡ Some l → Reach process order slots me i l
   reaches i l seat has =
       let at = stands me.1 i l has in
       let t = split_at_key me.1 at.0 i at.1 in
@@ -73,12 +72,12 @@ module _ {B : Type 0} (process : ℕ) (order : List ℕ) (capacity : ℕ) (table
         lot = subst (IsLotAt me.0.shape i) (let e : Some l ≡ Some mine.0 = mine.1 in let f : l ≡ mine.0 = cc in sym f) mine.2;
         owns = subst (λ (z : List (ℕ × ℕ)). Among z (i, process)) (sym seat.records) (among_owned process order i
             (subst (λ (z : List ℕ). Among z i) (sym same) (among_back (keys a) (i ∷ keys b) i (inl refl))));
-        inside = below_at table.slots (keys a) i (keys b) (subst (AllBelow table.slots) same seat.below);
+        inside = below_at slots (keys a) i (keys b) (subst (AllBelow slots) same seat.below);
       }
 
   -- the seat without the slot that stands behind k others
-  pub loses : (k i : ℕ) (h : Option Holder) (others : List Event) → IsSeat process order capacity table me → get_elem? order k ≡ some i
-      → IsSeat process (remove order k) capacity table (lost me.0 i process h others, without i me.1)
+  pub loses : (k i : ℕ) (h : Option Holder) (others : List Event) → IsSeat process order capacity slots me → get_elem? order k ≡ some i
+      → IsSeat process (remove order k) capacity slots (lost me.0 i process h others, without i me.1)
   loses k i h others seat at =
       let t = split_at_key me.1 k i (subst (λ (o : List ℕ). get_elem? o k ≡ some i) seat.ordered at) in
       let a = t.0 in let b = t.2 in
@@ -93,23 +92,22 @@ module _ {B : Type 0} (process : ℕ) (order : List ℕ) (capacity : ℕ) (table
         records = ap (without i) (seat.records ∙ ap (owned_by process) same) ∙ owned_without process i (keys a) (keys b) d.0 d.1 ∙ ap (owned_by process) (sym order_is);
         lots = subst (AllLots me.0.shape) (sym rest_is) (lots_split me.0.shape a (i, t.1) b (subst (AllLots me.0.shape) t.3 seat.lots)).1;
         distinct = subst Distinct (sym order_is) d.2;
-        below = subst (AllBelow table.slots) (sym order_is) (below_split table.slots (keys a) i (keys b) (subst (AllBelow table.slots) same seat.below));
+        below = subst (AllBelow slots) (sym order_is) (below_split slots (keys a) i (keys b) (subst (AllBelow slots) same seat.below));
         room = seat.room;
         small = seat.small;
-        log = seat.log;
       }
 
-  pub replaces : (i : ℕ) (y : LotOf B) → IsSeat process order capacity table me → IsLotAt me.0.shape i y → IsSeat process order capacity table (me.0, put i (Some y) me.1)
+  pub replaces : (i : ℕ) (y : LotOf B) → IsSeat process order capacity slots me → IsLotAt me.0.shape i y → IsSeat process order capacity slots (me.0, put i (Some y) me.1)
   replaces i y seat is = grind (arith, nat_tests, put_keys, lots_put)
 
   -- a seat that has seen more
-  pub sees : (es : List Event) → IsSeat process order capacity table me → IsSeat process order capacity table (knowing me.0 es, me.1)
+  pub sees : (es : List Event) → IsSeat process order capacity slots me → IsSeat process order capacity slots (knowing me.0 es, me.1)
   sees es seat = grind (arith, nat_tests, adds_one)
 
   -- a seat with no slot, of the next generation
-  pub grows_old : IsSeat process order capacity table me → me.1 ≡ [] → IsSeat (process + 32) order capacity table (renewed me.0, me.1)
+  pub grows_old : IsSeat process order capacity slots me → me.1 ≡ [] → IsSeat (process + 32) order capacity slots (renewed me.0, me.1)
   grows_old seat bare = grind (arith, nat_tests)
 
-pub seat_is : {B : Type 0} (process p : ℕ) (a a' : List ℕ) (b b' : ℕ) (c c' : TableId) (d d' : Me (Option (LotOf B)) View) → p ≡ process → a' ≡ a → b' ≡ b → c' ≡ c → d' ≡ d → IsSeat process a b c d
+pub seat_is : {B : Type 0} (process p : ℕ) (a a' : List ℕ) (b b' c c' : ℕ) (d d' : Me (Option (LotOf B)) View) → p ≡ process → a' ≡ a → b' ≡ b → c' ≡ c → d' ≡ d → IsSeat process a b c d
     → IsSeat p a' b' c' d'
 seat_is {B} process p a a' b b' c c' d d' ep ea eb ec ed = grind (arith, nat_tests)

@@ -30,11 +30,6 @@ pub record Held (B : Type 0) : Type 0 where
   pub done : List Event
   pub front : List Event
 
--- a note: its table, and how much of the one log of all events its seat had seen
-pub record Noted : Type 0 where
-  pub table : TableId
-  pub front : List Event
-
 -- the table gave this seat
 abbrev pub IsSeatOf : {B : Type 0} → RecordsOf → Held B → Type 0
 IsSeatOf all x = (x.table ≡ all.table) × (x.shape ≡ all.shape)
@@ -63,10 +58,9 @@ seen front x = record x { front = front }
 abbrev pub Advances : {B : Type 0} → List Event → Held B → Held B → Type 0
 Advances own x y = Grows (place_of x.process) own x.front y.front
 
--- by the event e the seat gained the lot of its record, behind its others, and of that lot this holds; the word of the record is that of the seat's process then
+-- by the event e the seat gained the lot of its record, behind its others, and of that lot this holds
 abbrev pub HasGained : {B : Type 0} → Event → (LotOf B → Type 0) → Held B → Held B → Type 0
 HasGained {B} e is x y = (l : LotOf B) × (y ≡ seen y.front (did e (with_lots x (x.lots ++ (record_of e, l) ∷ [])))) × IsLotOf x.shape (record_of e) l × is l × Advances (e ∷ []) x y
-    × TellsWord x.shape.records y.front (index_of x.shape.records (record_of e)) (word_of (Some (Process x.process)))
 
 -- by the event e the seat lost the lot of its record
 abbrev pub HasLost : {B : Type 0} → Event → Held B → Held B → Type 0
@@ -89,7 +83,7 @@ owned_by p (k ∷ ks) = (k, p) ∷ owned_by p ks
 
 -- the seat's view
 abbrev pub view_of : {B : Type 0} → Held B → View
-view_of x = record { log = x.table; shape = x.shape; processes = x.process ∷ []; records = owned_by x.process (indices x); fronts = (place_of x.process, x.front) ∷ [] }
+view_of x = record { shape = x.shape; processes = x.process ∷ []; records = owned_by x.process (indices x); fronts = (place_of x.process, x.front) ∷ [] }
 
 -- what a seat knows of a word that it found at the index k: it is a word, and it names a process that the seat stands for exactly where the seat has that record
 abbrev pub Knows : View → ℕ → ℕ → Type 0

@@ -4,7 +4,6 @@ use mathlib.Core.Option.{none, some}
 use mathlib.Core.Option as maybe
 use lib.ListN.{get_elem?}
 use Rattle.atomic_table.specs.Table.{State}
-use Rattle.atomic_table.specs.Seated.{TableId}
 use Rattle.xh_arena.specs.Views.{LotOf}
 use Rattle.xh_model.specs.declared.event.Holder.{Holder}
 use Rattle.xh_model.specs.declared.event.Holder.TheVariants.{Process, Direction}
@@ -40,10 +39,6 @@ module _ {B : Type 0} where
   -- it has bytes, and its body fits them
   abbrev pub IsFull : (B → ℕ → Bool) → LotOf B → Type 0
   IsFull fits l = (0 < l.len) × (fits l.body l.len ≡ true)
-
-  -- where it has bytes, and its body keeps notes of a table's log, they are of this table's
-  abbrev pub IsOwn : (B → Option TableId) → TableId → LotOf B → Type 0
-  IsOwn log table l = (t : TableId) → 0 < l.len → log l.body ≡ Some t → t ≡ table
 
 module _ {B : Type 0} (fits : B → ℕ → Bool) (s : Shape) where
   -- what is at home for the record at the index k, by its holder
@@ -91,12 +86,6 @@ pub record Shows {B : Type 0} (fits : B → ℕ → Bool) (s : Shape) (o : Owner
   pub log : List Event
   pub history : IsHistory s o views log
 
--- each view that stands for a place knows which table it is at, and the lots at home keep notes of that one's log alone
-pub record KeepsLog {B : Type 0} (log : B → Option TableId) (homes : List (maybe.Option (Option (LotOf B)))) (views : List View) : Type 0 where
-  pub table : TableId
-  pub named : (id p : ℕ) (v : View) → get_elem? views id ≡ some v → Sits v p → v.log ≡ table
-  pub own : (k : ℕ) (l : LotOf B) → get_elem? homes k ≡ some (some (Some l)) → 0 < l.len → (0 < table.words) × IsOwn log table l
-
-module _ {B : Type 0} (fits : B → ℕ → Bool) (log : B → Option TableId) where
+module _ {B : Type 0} (fits : B → ℕ → Bool) where
   abbrev pub Shown : Shape → State (Option (LotOf B)) View → Type 0
-  Shown s t = (o : Ownership) × Shows fits s o t.words t.homes t.views × KeepsLog log t.homes t.views
+  Shown s t = (o : Ownership) × Shows fits s o t.words t.homes t.views

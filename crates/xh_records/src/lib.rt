@@ -4,7 +4,6 @@
 mod closing;
 mod lending;
 mod making;
-mod note;
 mod plays;
 mod records;
 mod refused;
@@ -16,7 +15,6 @@ mod token;
 mod view;
 mod word;
 
-pub use note::Note;
 pub use records::Records;
 pub use refused::Refused;
 pub use seat::Seat;

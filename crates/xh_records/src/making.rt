@@ -6,9 +6,9 @@ ghost use Rattle.xh_arena.specs.Views.{LotOf};
 ghost use Rattle.xh_model.specs.declared.limits.TheConstants.{PLACES};
 ghost use Rattle.xh_records.specs.Showing.{IsEmpty, IsLotAt, IsSmall};
 ghost use Rattle.xh_records.specs.Seats.{Held};
-ghost use Rattle.xh_records.specs.inner.Views.{all_places, dealer};
+ghost use Rattle.xh_records.specs.inner.Views.{dealer};
 
-use crate::plays::{Deal, Names, Of};
+use crate::plays::Deal;
 use crate::refused::Refused;
 use crate::rule::Showing;
 use crate::seat::Seat;
@@ -17,7 +17,6 @@ use crate::token::{Board, Token};
 use crate::view::View;
 use atomic_table::Table;
 use std::alloc::{AllocError, Global};
-use std::marker::Brand;
 use xh_arena::{Fits, Lot};
 
 /// The table itself, which its seats share.
@@ -32,15 +31,6 @@ fn homes_of<L: Drop>(alloc: Global, lots: Vec<L>) -> Result<(Vec<u64>, Vec<Optio
     Ok((words, slots))
 }
 
-// The token of a new table knows from now on which table it is at.
-fn name_all<B: Fits, S: Of>(board: &Board<B>, all: &mut Token<B>)
-    requires own { (all.old.table_id ≡ board.now.table_id) × (S.log ≡ board.now.table_id) × (0 < board.now.table_id.words) }
-    requires new { (all.old.me.0 ≡ all_places board.now.key) × (0 < board.now.key.places) × (board.now.key.places ≤ PLACES) }
-    ensures { (all.new.table_id ≡ all.old.table_id) × (all.new.me.0 ≡ dealer board.now.table_id board.now.key 0 board.now.key.places) }
-{
-    drop(board.split_seat::<Names<S>>(all));
-}
-
 // The table over empty lots, each record free, and one token that stands for all places.
 pub(crate) fn table_of<B: Fits + Drop>(
     alloc: Global,
@@ -48,17 +38,13 @@ pub(crate) fn table_of<B: Fits + Drop>(
     shape: &Shape,
 ) -> Result<(Home<B>, Token<B>), Refused>
     requires limits { (shape.now.places ≤ PLACES) × IsSmall shape.now }
-    requires some { (0 < length lots.items) × (0 < shape.now.places) }
     requires empty { (k : ℕ) (l : LotOf B) → get_elem? lots.items k ≡ some l → IsLotAt shape.now k l × IsEmpty B.is_fit l }
     ensures { IfOk result (λ t. (t.0.shared.table_id.words ≡ length lots.items) × (t.0.shared.table_id.slots ≡ length lots.items) × (t.0.shared.key ≡ shape.now)
-        × (t.1.table_id ≡ t.0.shared.table_id) × (t.1.me.0 ≡ dealer t.0.shared.table_id shape.now 0 shape.now.places)) }
+        × (t.1.table_id ≡ t.0.shared.table_id) × (t.1.me.0 ≡ dealer shape.now 0 shape.now.places)) }
 {
     let (words, slots) = homes_of(alloc, lots)?;
     match Table::new(alloc, words.as_slice(), slots, shape) {
-        Ok((table, mut all)) => {
-            name_all::<B, Brand>(&table.shared, &mut all);
-            Ok((table, all))
-        }
+        Ok(made) => Ok(made),
         Err(_refused) => Err(Refused::OutOfMemory),
     }
 }
@@ -73,7 +59,7 @@ pub(crate) fn seats_of<B: Fits>(
 ) -> Result<Vec<Seat<B>>, AllocError>
     requires own { (all.old.table_id ≡ board.now.table_id) × (0 < board.now.table_id.words) }
     requires room { board.now.table_id.slots ≤ count }
-    requires view { all.old.me.0 ≡ dealer board.now.table_id board.now.key 0 places }
+    requires view { all.old.me.0 ≡ dealer board.now.key 0 places }
     requires small { IsSmall board.now.key }
     ensures long { IfOk result (λ seats. length seats.items ≡ places) }
     ensures seats { IfOk result (λ seats. (k : ℕ) (x : Held B) → get_elem? seats.items k ≡ some x → (x.table ≡ board.now.table_id) × (x.shape ≡ board.now.key) × (x.process ≡ k)

@@ -1,7 +1,6 @@
 // What each kind of step does, and tells its seat.
 use crate::view::View;
 use atomic_table::{Join, Play, Split};
-use std::marker::{Brand, PhantomData};
 use xh_arena::{Fits, Lot};
 
 /// Claim, from free, or accept, from in flight.
@@ -10,7 +9,7 @@ pub(crate) struct Takes;
 impl<B: Fits> Play<Option<Lot<B>>, View> for Takes {
     ghost use Rattle.xh_records.specs.inner.Steps.{took};
 
-    ghost then = { took B.is_fit B.log };
+    ghost then = { took B.is_fit };
 }
 
 /// Pass, to in flight, or vacate, to free.
@@ -38,32 +37,6 @@ impl<B> Play<Option<Lot<B>>, View> for Renews {
     ghost use Rattle.xh_records.specs.inner.Steps.{aged};
 
     ghost then = { aged };
-}
-
-/// Which table it is: the proof of a call names it.
-pub(crate) trait Of {
-    ghost use Rattle.atomic_table.specs.Seated.{TableId};
-
-    ghost log: { TableId };
-}
-
-impl Of for Brand {
-    ghost use Rattle.xh_records.specs.Seats.{no_table};
-
-    ghost log = { no_table };
-}
-
-/// The first seat knows from now on which table it is at. The new seat stands for no place.
-pub(crate) struct Names<S> {
-    of: PhantomData<S>,
-}
-
-impl<S: Of> Split<View> for Names<S> {
-    ghost use Rattle.xh_records.specs.inner.Views.{named, spent};
-
-    ghost left = { named S.log };
-
-    ghost right = { λ _. spent };
 }
 
 /// The first place goes to a new seat.
@@ -106,15 +79,6 @@ impl<B> Play<Option<Lot<B>>, View> for Compares {
     ghost use Rattle.xh_records.specs.inner.Steps.{compared};
 
     ghost then = { compared };
-}
-
-/// A look, by a seat that was told what another had seen.
-pub(crate) struct Hears;
-
-impl<B> Play<Option<Lot<B>>, View> for Hears {
-    ghost use Rattle.xh_records.specs.inner.Steps.{heard};
-
-    ghost then = { heard };
 }
 
 /// Two views become one.

@@ -8,19 +8,18 @@ ghost use Rattle.xh_model.specs.Slots.{index_of};
 ghost use Rattle.xh_model.specs.Words.{word_of, IsHolder, IsWord, generation_of};
 ghost use Rattle.xh_model.specs.Keyed.{Among, keys, value_at, without};
 ghost use Rattle.xh_records.specs.Encoding.{holder_of};
-ghost use Rattle.xh_records.specs.Showing.{IsLotOf, IsEmpty, IsFull, IsOwn};
-ghost use Rattle.xh_records.specs.History.{IsOneLog, StartsWith};
+ghost use Rattle.xh_records.specs.Showing.{IsLotOf, IsEmpty, IsFull};
+ghost use Rattle.xh_records.specs.History.{IsOneLog};
 ghost use Rattle.xh_records.specs.Seats.{SawTaken};
 ghost use Rattle.xh_records.specs.inner.Events.{taking, giving, IsAway, IsHomeLot};
 
 use crate::making::{Home, seats_of, table_of};
-use crate::note::Note;
 use crate::plays::{Looks, Notes, Renews};
 use crate::refused::Refused;
 use crate::seat::Seat;
 use crate::seen::Seen;
 use crate::shape::Shape;
-use crate::token::{compare_note, give_slot, hear_note, take_slot};
+use crate::token::{compare_note, give_slot, take_slot};
 use crate::word::OwnerWord;
 use arrayvec::ArrayVec;
 use std::alloc::Global;
@@ -132,7 +131,6 @@ impl<B: Fits + Drop> Records<B> {
         requires away { IsAway (holder_of from) }
         ensures taken { OnOk result (HasGained (taking seat.old.process number (holder_of from)) (IsHomeLot B.is_fit (holder_of from)) seat.old seat.new) }
         ensures fresh { OnOk result (Among (keys seat.old.lots) number → ⊥) }
-        ensures log { OnOk result ((l : LotOf B) → value_at number seat.new.lots ≡ Some l → IsOwn B.log self.now.table l) }
         ensures missed { IfErr result (λ word. HasMissed (holder_of from) number word seat.old seat.new) }
     {
         let slot = self.slot_of(number);
@@ -157,7 +155,6 @@ impl<B: Fits + Drop> Records<B> {
         requires exists { IsRecord self.now.shape number }
         requires away { IsAway (holder_of to) × IsHolder (holder_of to) }
         requires held { (l : LotOf B) × (value_at number seat.old.lots ≡ Some l) × IsHomeLot B.is_fit (holder_of to) l }
-        requires log { (l : LotOf B) → value_at number seat.old.lots ≡ Some l → IsOwn B.log self.now.table l }
         ensures { HasLost (giving seat.old.process number (holder_of to)) seat.old seat.new }
     {
         let slot = self.slot_of(number);
@@ -223,19 +220,17 @@ impl<B: Fits + Drop> Records<B> {
         requires exists { IsRecord self.now.shape number × (direction < DIRECTIONS) }
         ensures accepted { OnOk result (HasGained (Accept seat.old.process number direction) (IsFull B.is_fit) seat.old seat.new) }
         ensures fresh { OnOk result (Among (keys seat.old.lots) number → ⊥) }
-        ensures log { OnOk result ((l : LotOf B) → value_at number seat.new.lots ≡ Some l → IsOwn B.log self.now.table l) }
         ensures missed { IfErr result (λ word. HasMissed (Some (Direction direction)) number word seat.old seat.new) }
     {
         self.take(seat, number, OwnerWord::InFlight(direction))
     }
 
-    /// Puts a record that the seat holds, whose lot is well formed and keeps notes of no other table, in flight on the direction (0 to
+    /// Puts a record that the seat holds, whose lot is well formed, in flight on the direction (0 to
     /// 127).
     pub fn pass(&self, seat: &mut Seat<B>, number: u16, direction: u8)
         requires own { IsSeatOf self.now seat.old }
         requires exists { IsRecord self.now.shape number × (direction < DIRECTIONS) }
         requires held { (l : LotOf B) × (value_at number seat.old.lots ≡ Some l) × IsFull B.is_fit l }
-        requires log { (l : LotOf B) → value_at number seat.old.lots ≡ Some l → IsOwn B.log self.now.table l }
         ensures passed { HasLost (Pass seat.old.process number direction) seat.old seat.new }
     {
         self.give(seat, number, OwnerWord::InFlight(direction));
@@ -285,29 +280,8 @@ impl<B: Fits + Drop> Records<B> {
         ensures same { (first.new ≡ first.old) × (second.new ≡ second.old) }
         ensures one { IsOneLog first.old.front second.old.front }
     {
-        let told = self.note(second).into_token();
-        compare_note(&self.table.shared, &mut first.token, told);
-    }
-
-    /// What the seat has seen.
-    pub fn note(&self, seat: &mut Seat<B>) -> Note
-        requires own { IsSeatOf self.now seat.old }
-        ensures same { seat.new ≡ seat.old }
-        ensures noted { (result.table ≡ self.now.table) × (result.front ≡ seat.old.front) }
-    {
-        let token = self.table.shared.split_seat::<Notes>(&mut seat.token);
-        Note {
-            badge: token.into_badge(),
-        }
-    }
-
-    /// The seat looks at the records, and has then seen all that the note's seat had seen.
-    pub fn hear(&self, seat: &mut Seat<B>, note: Note)
-        requires own { IsSeatOf self.now seat.old }
-        requires note { note.table ≡ self.now.table }
-        ensures looked { HasLooked seat.old seat.new }
-        ensures heard { StartsWith seat.new.front note.front }
-    {
-        hear_note(&self.table.shared, &mut seat.token, note.into_token());
+        let board = &self.table.shared;
+        let told = board.split_seat::<Notes>(&mut second.token);
+        compare_note(board, &mut first.token, told);
     }
 }

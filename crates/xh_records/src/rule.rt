@@ -1,4 +1,4 @@
-// The table's rule: words, home lots and views show an ownership, and the lots keep notes of this table alone.
+// The table's rule: words, home lots and views show an ownership.
 use crate::shape::Shape;
 use crate::view::View;
 use atomic_table::TableRule;
@@ -13,7 +13,7 @@ impl<B: Fits> TableRule<Option<Lot<B>>, View, Shape> for Showing<B> {
     ghost use Rattle.xh_records.specs.Showing.{Shown};
     ghost use Rattle.xh_records.specs.inner.Views.{all_places};
 
-    ghost holds = { Shown B.is_fit B.log };
+    ghost holds = { Shown B.is_fit };
 
     ghost first = { all_places };
 }

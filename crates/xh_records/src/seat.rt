@@ -38,7 +38,7 @@ impl<B> Model for Seat<B> {
       front = front_in s.token.me.0;
     } };
 
-    ghost invariant = { λ s. IsSeat s.process s.order.items (vec_capacity s.order) s.token.table_id s.token.me };
+    ghost invariant = { λ s. IsSeat s.process s.order.items (vec_capacity s.order) s.token.table_id.slots s.token.me };
 }
 
 impl<B> Seat<B> {

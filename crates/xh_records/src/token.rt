@@ -6,19 +6,18 @@ ghost use lib.ListN.{get_elem?};
 ghost use Rattle.atomic_table.specs.Table.{step, Allows};
 ghost use Rattle.xh_arena.specs.Views.{LotOf};
 ghost use Rattle.xh_model.specs.declared.event.Event.{Event};
-ghost use Rattle.xh_model.specs.declared.event.Holder.TheVariants.{Process};
 ghost use Rattle.xh_model.specs.Words.{word_of, IsHolder};
 ghost use Rattle.xh_model.specs.Keyed.{without};
 ghost use Rattle.xh_records.specs.declared.token.TheConstants.{NEAR};
 ghost use Rattle.xh_records.specs.Encoding.{holder_of};
-ghost use Rattle.xh_records.specs.Showing.{Shown, IsLotAt, IsOwn, Owns, Sits};
+ghost use Rattle.xh_records.specs.Showing.{Shown, IsLotAt, Owns, Sits};
 ghost use Rattle.xh_records.specs.inner.Events.{IsAway, IsHomeLot};
 ghost use Rattle.xh_records.specs.inner.Views.{IsAlone, front_in, gained, joined, lost, note_of};
 ghost use Rattle.xh_records.specs.inner.Steps.{IsOthers, SeesMore, process_in};
-ghost use Rattle.xh_records.specs.History.{IsOneLog, StartsWith, TellsWord};
+ghost use Rattle.xh_records.specs.History.{IsOneLog};
 ghost use Rattle.xh_records.specs.inner.Tokens.{IsListed, IsTurned, in_slot, turns};
 
-use crate::plays::{Both, Compares, Gives, Hears, Takes};
+use crate::plays::{Both, Compares, Gives, Takes};
 use crate::rule::Showing;
 use crate::shape::Shape;
 use crate::view::View;
@@ -136,8 +135,7 @@ pub(crate) fn take_slot<B: Fits>(
     requires away { IsAway (holder_of from) }
     ensures same { (token.new.table_id ≡ token.old.table_id) × (token.new.id ≡ token.old.id) }
     ensures taken { OnOk result ((l : LotOf B) × (others : List Event) × (token.new.me ≡ (gained token.old.me.0 slot process (holder_of from) others, token.old.me.1 ++ (slot, Some l) ∷ []))
-        × IsOthers token.old.me.0 others × IsLotAt token.old.me.0.shape slot l × IsHomeLot B.is_fit (holder_of from) l × ((p : ℕ) → Owns token.old.me.0 slot p → ⊥)
-        × IsOwn B.log token.old.me.0.log l × TellsWord token.new.me.0.shape.records (front_in token.new.me.0) slot (word_of (Some (Process process)))) }
+        × IsOthers token.old.me.0 others × IsLotAt token.old.me.0.shape slot l × IsHomeLot B.is_fit (holder_of from) l × ((p : ℕ) → Owns token.old.me.0 slot p → ⊥)) }
     ensures missed { IfErr result (λ word. (word ≢ word_of (holder_of from)) × SeesMore slot word token.old.me token.new.me) }
 {
     let wanted = from.encode();
@@ -162,9 +160,7 @@ pub(crate) fn give_slot<B: Fits>(
     requires own { (token.old.table_id ≡ board.now.table_id) × (slot < board.now.table_id.words) }
     requires listed { IsListed order.now token.old.me.1 slot }
     requires away { IsAway (holder_of to) × IsHolder (holder_of to) }
-    requires lot { (l : LotOf B) × (in_slot slot token.old.me.1 ≡ Some l) × IsLotAt token.old.me.0.shape slot l × IsHomeLot B.is_fit (holder_of to) l
-        × IsOwn B.log token.old.me.0.log l }
-    requires log { token.old.me.0.log ≡ board.now.table_id }
+    requires lot { (l : LotOf B) × (in_slot slot token.old.me.1 ≡ Some l) × IsLotAt token.old.me.0.shape slot l × IsHomeLot B.is_fit (holder_of to) l }
     requires owned { (p : ℕ) × IsAlone token.old.me.0 p × Owns token.old.me.0 slot p }
     ensures token { (token.new.table_id ≡ token.old.table_id) × (token.new.id ≡ token.old.id) }
     ensures given { (others : List Event) × IsOthers token.old.me.0 others × (token.new.me ≡
@@ -198,17 +194,4 @@ pub(crate) fn compare_note<B: Fits>(board: &Board<B>, token: &mut Token<B>, othe
 {
     join(board, token, other);
     board.load::<Compares>(token, 0);
-}
-
-// A look by the token, which sees a log then that begins with what the note tells. The answer is the word that it found.
-pub(crate) fn hear_note<B: Fits>(board: &Board<B>, token: &mut Token<B>, other: Token<B>) -> u64
-    requires own { (token.old.table_id ≡ board.now.table_id) × (other.table_id ≡ board.now.table_id) × (0 < board.now.table_id.words) × (0 < board.now.table_id.slots) }
-    requires note { (v : View) × (other.me ≡ (note_of v, [])) }
-    requires process { (p : ℕ) × IsAlone token.old.me.0 p }
-    ensures token { (token.new.table_id ≡ token.old.table_id) × (token.new.id ≡ token.old.id) }
-    ensures looked { SeesMore 0 result token.old.me token.new.me }
-    ensures heard { StartsWith (front_in token.new.me.0) (front_in other.me.0) }
-{
-    join(board, token, other);
-    board.load::<Hears>(token, 0)
 }

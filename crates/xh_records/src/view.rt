@@ -1,13 +1,11 @@
 use crate::shape::Shape;
 use std::collections::LinkedList;
-use xh_arena::Name;
 use xh_model::Event;
 
-/// What a seat at the table knows: which table that is, the processes that it stands for, each a place with its generation,
+/// What a seat at the table knows: the processes that it stands for, each a place with its generation,
 /// the records that it holds, each by its index beside the process that owns it, and for each place a
 /// front: the beginning of the one log of all events that the seat has seen. No value of it is made.
 pub struct View {
-    pub log: Name,
     pub shape: Shape,
     pub processes: LinkedList<u64>,
     pub records: LinkedList<(u64, u64)>,

@@ -19,11 +19,9 @@ use xh_records::{OwnerWord, Records, Refused, Seat};
 struct Any;
 
 impl Fits for Any {
-    ghost use Rattle.std.specs.Prelude.{true, None};
+    ghost use Rattle.std.specs.Prelude.{true};
 
     ghost is_fit = { λ _ _. true };
-
-    ghost log = { λ _. None };
 
     fn fits(&self, _len: u32) -> bool {
         true

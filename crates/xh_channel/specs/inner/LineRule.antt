@@ -1,22 +1,20 @@
 -- The rule of a line's table: the line at home is as the two sides' accounts say, and so a drained side has taken all that the other put.
 -- One seat owns the account of a side, one at most holds the line, and what a seat was told is no more than the side did.
-use Rattle.std.specs.Prelude.{◌≡◌, ◌≢◌, ◌⊎◌, ℕ, zero, suc, ◌-◌, ◌≤◌, ◌==◌, max, true, false, ◌||◌, List, [], ◌∷◌, ◌++◌, length, map, take, Option, Some, None}
+use Rattle.std.specs.Prelude.{◌≡◌, ◌≢◌, ◌⊎◌, ℕ, zero, suc, ◌-◌, ◌≤◌, ◌==◌, max, true, false, ◌||◌, List, [], ◌∷◌, ◌++◌, length, take, Option, Some, None}
 use mathlib.Core.Option.{none, some}
 use mathlib.Core.Option as maybe
 use lib.ListN.{get_elem?}
 use Rattle.atomic_table.specs.Seated.{TableId}
 use Rattle.atomic_table.specs.Table.{State, Step, Me}
 use Rattle.xh_model.specs.Direction.{IsDirection}
-use Rattle.xh_records.specs.Seats.{Noted, no_table}
 use Rattle.xh_channel.specs.declared.counts.Counts.{Counts}
-use Rattle.xh_channel.specs.declared.laid.Laid.{Laid}
 use Rattle.xh_channel.specs.declared.line_end.LineEnd.{LineEnd}
 use Rattle.xh_channel.specs.declared.line_rule.Account.{Account}
 use Rattle.xh_channel.specs.declared.line_rule.Part.{Part}
-use Rattle.xh_channel.specs.Beside.{AllOf, message_of, note_of}
+use Rattle.xh_channel.specs.declared.message.Message.{Message}
 use Rattle.xh_channel.specs.Ends.{no_counts}
 use Rattle.xh_channel.specs.LineSeats.{LineView, LineTelling}
-use Rattle.xh_channel.specs.Lines.{Lined, beside, end_of, is_drained, waiting}
+use Rattle.xh_channel.specs.Lines.{Lined, end_of, is_drained, waiting}
 use Rattle.xh_channel.specs.Numbers.{number}
 
 -- of side 0, or of side 1
@@ -25,7 +23,7 @@ by zero low high = low
 by (suc _) low high = high
 
 abbrev pub no_account : Account
-no_account = record { rows = []; depth = 0; state = 0; sent = []; sent_notes = []; got = []; got_notes = []; shut = false; drained = false }
+no_account = record { rows = []; depth = 0; state = 0; sent = []; got = []; shut = false; drained = false }
 
 abbrev pub counts_in : Account → Counts
 counts_in a = record { put = length a.sent; taken = length a.got; shut = a.shut }
@@ -45,7 +43,6 @@ pub record IsEndBy (line : Lined) (end : LineEnd) (own peer : Account) : Type 0 
   pub state : end.state ≡ own.state
   pub counts : end.counts ≡ counts_in own
   pub waits : IsDirection number peer.sent own.got (waiting end)
-  pub notes : peer.sent_notes ≡ own.got_notes ++ beside end
   pub drained : is_drained end ≡ own.drained
 
 -- what lies in the slot is as the accounts of side 0 and of side 1 say
@@ -57,14 +54,8 @@ Lies (Some line) low high = IsEndBy line line.left low high × IsEndBy line line
 abbrev pub LiesFor : ℕ → Option Lined → Account → Account → Type 0
 LiesFor side line own peer = Lies line (by side own peer) (by side peer own)
 
--- the notes in the line are of the log
-abbrev pub IsNoted : TableId → Option Lined → Type 0
-IsNoted log None = Unit {0}
-IsNoted log (Some line) = AllOf log (beside line.left) × AllOf log (beside line.right)
-
--- the log, the seats that own the accounts, the one that holds the line (0 for none, else its number plus 1), and the accounts
+-- the seats that own the accounts, the one that holds the line (0 for none, else its number plus 1), and the accounts
 pub record Truth : Type 0 where
-  pub log : TableId
   pub low_seat : ℕ
   pub high_seat : ℕ
   pub holder : ℕ
@@ -72,15 +63,13 @@ pub record Truth : Type 0 where
   pub high : Account
 
 abbrev pub IsHome : Truth → List ℕ → List (maybe.Option (Option Lined)) → Type 0
-IsHome t words homes = (others : List ℕ) × (line : Option Lined) × (words ≡ 0 ∷ others) × (homes ≡ some line ∷ []) × (t.holder ≡ 0) × Lies line t.low t.high × IsNoted t.log line
+IsHome t words homes = (others : List ℕ) × (line : Option Lined) × (words ≡ 0 ∷ others) × (homes ≡ some line ∷ []) × (t.holder ≡ 0) × Lies line t.low t.high
 
 abbrev pub IsOut : Truth → List ℕ → List (maybe.Option (Option Lined)) → Type 0
 IsOut t words homes = (n : ℕ) × (others : List ℕ) × (side : ℕ) × (words ≡ suc n ∷ others) × (homes ≡ none ∷ []) × (t.holder ≡ suc (by side t.low_seat t.high_seat))
 
 -- the seat owns the account of its side, and where it owns both, that of its peer
 pub record Owns (t : Truth) (id : ℕ) (v : Part) : Type 0 where
-  pub log : v.log ≡ t.log
-  pub peer_log : v.both ≡ true → v.peer_log ≡ t.log
   pub seat : by v.side t.low_seat t.high_seat ≡ id
   pub own : by v.side t.low t.high ≡ v.own
   pub holds : v.holds ≡ (t.holder == suc id)
@@ -95,22 +84,19 @@ Kept s = (t : Truth) × (IsHome t s.words s.homes ⊎ IsOut t s.words s.homes) �
 
 -- the seat of both sides, which did nothing
 abbrev pub both_sides : Part
-both_sides = record { log = no_table; peer_log = no_table; side = 0; owns = true; both = true; holds = false; own = no_account; peer = no_account; told = no_counts; peer_told = no_counts }
+both_sides = record { side = 0; owns = true; both = true; holds = false; own = no_account; peer = no_account; told = no_counts; peer_told = no_counts }
 
 abbrev pub no_part : Part
 no_part = record both_sides { owns = false; both = false }
-
-abbrev pub named : TableId → Part → Part
-named log v = record v { log = log; peer_log = log }
 
 abbrev pub low_side : Part → Part
 low_side v = record v { both = false }
 
 abbrev pub high_side : Part → Part
-high_side v = record { log = v.peer_log; peer_log = v.log; side = 1; owns = true; both = false; holds = false; own = v.peer; peer = v.own; told = v.peer_told; peer_told = v.told }
+high_side v = record { side = 1; owns = true; both = false; holds = false; own = v.peer; peer = v.own; told = v.peer_told; peer_told = v.told }
 
 abbrev pub joined : Part → Part → Part
-joined v w = record v { both = true; peer_log = w.log; peer = w.own; peer_told = w.told }
+joined v w = record v { both = true; peer = w.own; peer_told = w.told }
 
 -- what the peer of a side is told: what the side did
 abbrev pub telling : Part → Part
@@ -122,10 +108,6 @@ hearing v w = record v { told = record { put = max v.told.put w.told.put; taken 
 abbrev pub holding : Part → Account → Part
 holding v peer = record v { holds = true; peer = peer }
 
--- of the notes that were put, those that don't wait any more
-abbrev pub taken_notes : List (Option Noted) → List (Option Noted) → List (Option Noted)
-taken_notes sent waits = take (length sent - length waits) sent
-
 -- the side's account by the line that the seat gives back
 abbrev pub own_by : Part → Lined → Account
 own_by v line = record {
@@ -133,9 +115,7 @@ own_by v line = record {
   depth = line.depth;
   state = (end_of line v.side).state;
   sent = v.peer.got ++ waiting (end_of line (1 - v.side));
-  sent_notes = v.peer.got_notes ++ beside (end_of line (1 - v.side));
   got = take (end_of line v.side).counts.taken v.peer.sent;
-  got_notes = taken_notes v.peer.sent_notes (beside (end_of line v.side));
   shut = (end_of line v.side).counts.shut;
   drained = is_drained (end_of line v.side);
 }
@@ -156,17 +136,15 @@ settled v (x ∷ xs) = settled_by v x.1
 -- the line is as the accounts say that the seat has by it: its own goes on, and its peer's stays or is its own too
 abbrev pub IsSettled : Part → Lined → Type 0
 IsSettled v line = LiesFor v.side (Some line) (own_by v line) (peer_by v line) × Grows v.own (own_by v line) × ((peer_by v line ≡ v.peer) ⊎ (v.both ≡ true)) × IsTold v.told v.peer
-    × IsNoted v.log (Some line)
 
 -- what the one side took is a beginning of what the other put, and all of it where that side is drained, which was shut then
 abbrev pub IsTaken : Account → Account → Type 0
-IsTaken from to = ((items : List Laid) × IsDirection number from.sent to.got (map message_of items) × (from.sent_notes ≡ to.got_notes ++ map note_of items))
-    × (to.drained ≡ true → (to.shut ≡ true) × (to.got ≡ from.sent) × (to.got_notes ≡ from.sent_notes))
+IsTaken from to = ((items : List Message) × IsDirection number from.sent to.got items) × (to.drained ≡ true → (to.shut ≡ true) × (to.got ≡ from.sent))
 
 -- the seat has taken the line, and knows both accounts
 abbrev pub IsLocked : Me (Option Lined) Part → Me (Option Lined) Part → Type 0
 IsLocked me me' = (line : Option Lined) × (peer : Account) × (me' ≡ (holding me.0 peer, (0, line) ∷ me.1)) × LiesFor me.0.side line me.0.own peer
-    × IsTold me.0.told peer × (me.0.both ≡ true → peer ≡ me.0.peer) × IsNoted me.0.log line
+    × IsTold me.0.told peer × (me.0.both ≡ true → peer ≡ me.0.peer)
 
 -- it took the line, or found it out
 abbrev pub Locked : Step (Option Lined) → Me (Option Lined) Part → ℕ → Me (Option Lined) Part → Type 0
@@ -184,7 +162,6 @@ pub record Found (v : Part) (peer : Account) (line : Lined) : Type 0 where
   pub few : v.side ≤ 1
   pub lies : LiesFor v.side (Some line) v.own peer
   pub told : IsTold v.told peer
-  pub notes : IsNoted v.log (Some line)
 
 -- the seat is one of the table, which has one slot, and doesn't hold it
 pub record IsLineSeat (table seat : TableId) (me : Me (Option Lined) Part) (which : ℕ) : Type 0 where
@@ -215,14 +192,11 @@ abbrev pub line_view : TableId → Part → LineView
 line_view table v = record {
   table = table;
   side = v.side;
-  log = v.log;
   rows = v.own.rows;
   depth = v.own.depth;
   state = v.own.state;
   sent = v.own.sent;
-  sent_notes = v.own.sent_notes;
   got = v.own.got;
-  got_notes = v.own.got_notes;
   shut = v.own.shut;
   drained = v.own.drained;
   peer_shut = v.told.shut;

@@ -6,8 +6,9 @@ use Rattle.xh_model.specs.declared.event.Event.TheVariants.{Accept}
 use Rattle.xh_model.specs.Keyed.{Among, keys, value_at}
 use Rattle.xh_records.specs.Seats.{Held, did}
 use Rattle.xh_place.specs.declared.body.Body.{Body}
-use Rattle.xh_place.specs.inner.Lots.{HasNow}
-use Rattle.xh_place.specs.Places.{IsBlock, item_in, records_of}
+use Rattle.xh_place.specs.inner.Lots.{HasNow, SeatSaw}
+use Rattle.xh_place.specs.Places.{IsBlock, item_in}
+use Rattle.xh_place.specs.Seen.{IsElsewhere}
 
 -- the list without a number
 abbrev pub less : ℕ → List ℕ → List ℕ
@@ -24,14 +25,14 @@ abbrev pub lens : List ℕ → (ℕ → Option (LotOf Body)) → ℕ
 lens [] lot = 0
 lens (r ∷ rs) lot = (item_in (lot r)).len + lens rs lot
 
--- a record did not come back, and nothing changed but what the seat has seen; or it was accepted on the direction, with so many bytes
+-- a record did not come back, since the seat saw another word, and nothing changed but what it has seen; or it was accepted on the direction, with so many bytes
 abbrev pub CameBack : ℕ → ℕ → Held Body → Held Body → List ℕ → List ℕ → ℕ → Type 0
-CameBack d r old new had back bytes = ((back ≡ had) × HasNow old old.lots new × (bytes ≡ 0))
+CameBack d r old new had back bytes = ((back ≡ had) × HasNow old old.lots new × (bytes ≡ 0) × IsElsewhere (SeatSaw old new) d r)
     ⊎ ((l : LotOf Body) × (back ≡ had ++ r ∷ []) × (Among (keys old.lots) r → ⊥)
-    × HasNow (did (Accept old.process r d) old) (old.lots ++ (r, l) ∷ []) new × IsBlock (records_of old) r l × (bytes ≡ l.len))
+    × HasNow (did (Accept old.process r d) old) (old.lots ++ (r, l) ∷ []) new × IsBlock old.shape r l × (bytes ≡ l.len))
 
 -- of the given records the seat has those that came back, all well formed
 pub record AreBack (given back : List ℕ) (seat : Held Body) : Type 0 where
   pub here : (r : ℕ) → Among given r → list_any (λ q. q == r) back ≡ is_some (value_at r seat.lots)
   pub only : (r : ℕ) → Among back r → Among given r
-  pub good : (r : ℕ) (l : LotOf Body) → Among given r → value_at r seat.lots ≡ Some l → IsBlock (records_of seat) r l
+  pub good : (r : ℕ) (l : LotOf Body) → Among given r → value_at r seat.lots ≡ Some l → IsBlock seat.shape r l

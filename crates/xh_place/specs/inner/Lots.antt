@@ -1,6 +1,5 @@
 -- What the private steps of a place do to its seat. Of the events that the seat did they tell the passes and accepts; the others are the record table's to tell.
-use Rattle.std.specs.Prelude.{◌≡◌, ℕ, ◌+◌, ◌/◌, ◌<◌, List, [], ◌∷◌, ◌++◌, Result, true}
-use Rattle.arrayvec.specs.ArrayVec.{ArrayVec}
+use Rattle.std.specs.Prelude.{◌≡◌, ℕ, ◌+◌, ◌/◌, ◌<◌, List, [], ◌∷◌, ◌++◌, true}
 use Rattle.xh_arena.specs.Views.{LotOf}
 use Rattle.xh_model.specs.declared.limits.TheConstants.{MAX_RECORDS}
 use Rattle.xh_model.specs.declared.event.Event.{Event}
@@ -8,17 +7,15 @@ use Rattle.xh_model.specs.declared.event.Event.TheVariants.{Pass}
 use Rattle.xh_model.specs.Keyed.{Among, keys, put}
 use Rattle.xh_model.specs.Slots.{index_of}
 use Rattle.xh_records.specs.History.{StartsWith}
-use Rattle.xh_records.specs.Seats.{Held, Noted, with_lots}
+use Rattle.xh_records.specs.Seats.{Held, with_lots}
 use Rattle.xh_channel.specs.Queues.{Posted}
-use Rattle.xh_channel.specs.declared.unsent.Unsent.{Unsent}
 use Rattle.xh_place.specs.declared.body.Body.{Body}
 use Rattle.xh_place.specs.declared.body.Body.TheVariants.{End}
 use Rattle.xh_core.specs.declared.header.Kind.TheVariants as kind
 use Rattle.xh_place.specs.Bodies.{content_of, fits_in, front, kind_of, rest}
-use Rattle.xh_place.specs.Endpoints.{Puts}
 use Rattle.xh_place.specs.Moves.{moves}
-use Rattle.xh_place.specs.Places.{IsBlock, records_of}
-use Rattle.xh_place.specs.Seen.{Came, IsElsewhere, Passed, SawAt, SawFrom, SawFull}
+use Rattle.xh_place.specs.Places.{IsBlock}
+use Rattle.xh_place.specs.Seen.{Came, IsElsewhere, SawAt, SawFull}
 
 -- a seat, of whose events only the passes and accepts count, and not what it has seen of others
 abbrev pub bare : Held Body → Held Body
@@ -42,7 +39,7 @@ SeatSaw old new r word = SawAt old.shape old.front new.front (index_of old.shape
 
 -- the same, once this event was done in the call
 abbrev pub SeatSawAfter : Event → Held Body → Held Body → ℕ → ℕ → Type 0
-SeatSawAfter e old new r word = SawFrom (Came e old.front) old.shape new.front (index_of old.shape.records r) word
+SeatSawAfter e old new r word = (from : List Event) × Came e old.front from × SawAt old.shape from new.front (index_of old.shape.records r) word
 
 -- the seat passed the record r on the direction in the call, and saw after that that it was in flight there no more
 abbrev pub SeatHasLeft : Held Body → Held Body → ℕ → ℕ → Type 0
@@ -50,7 +47,7 @@ SeatHasLeft old new d r = IsElsewhere (SeatSawAfter (Pass old.process r d) old n
 
 -- of these records each was passed on the direction in the call
 abbrev pub ArePassed : ℕ → List ℕ → Held Body → Held Body → Type 0
-ArePassed d given old new = Passed old.process d given old.front new.front
+ArePassed d given old new = (r : ℕ) → Among given r → Came (Pass old.process r d) old.front new.front
 
 abbrev pub SeatFull : Held Body → Held Body → ℕ → Type 0
 SeatFull old new arena = SawFull old.shape old.front new.front arena
@@ -62,7 +59,7 @@ IsData l = (kind_of (content_of l.body) ≡ kind.Data) × (fits_in l.body l.len 
 -- the lot l of the record r keeps its first k bytes, and those past them are in a record t of the same arena that the seat didn't hold
 abbrev pub IsCut : Held Body → Held Body → ℕ → ℕ → LotOf Body → ℕ → Type 0
 IsCut old new r k l t = (h m : LotOf Body) × (Among (keys old.lots) t → ⊥) × HasNow old (put r h old.lots ++ (t, m) ∷ []) new
-    × IsBlock (records_of old) r h × IsBlock (records_of old) t m × (h.len ≡ k) × (h.len + m.len ≡ l.len)
+    × IsBlock old.shape r h × IsBlock old.shape t m × (h.len ≡ k) × (h.len + m.len ≡ l.len)
     × (content_of h.body ≡ front k (content_of l.body)) × (content_of m.body ≡ rest k (content_of l.body)) × (t / MAX_RECORDS ≡ r / MAX_RECORDS)
 
 -- an endpoint's lot
@@ -72,7 +69,3 @@ IsEnd l = kind_of (content_of l.body) ≡ kind.End
 -- the lot's endpoint became another, as `does` says
 abbrev pub LotDoes : (Posted → Posted → Type 0) → LotOf Body → LotOf Body → Type 0
 LotDoes does old new = (before after : Posted) × (old.body ≡ End before) × (new ≡ record old { body = End after }) × does before after
-
--- the lot's endpoint put the blocks, with a note beside them in which each was passed on the direction in the call
-abbrev pub LotPuts : ℕ → ℕ → ArrayVec ℕ → Result ℕ Unsent → Held Body → LotOf Body → LotOf Body → Type 0
-LotPuts d tag blocks result seat old new = (n : Noted) × LotDoes (Puts n tag blocks result) old new × (n.table ≡ seat.table) × Passed seat.process d blocks.items seat.front n.front

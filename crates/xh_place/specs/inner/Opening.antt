@@ -8,7 +8,7 @@ use Rattle.xh_records.specs.Seats.{Held, IsRecord}
 use Rattle.xh_place.specs.declared.body.Body.{Body}
 use Rattle.xh_place.specs.Bodies.{fits_in}
 use Rattle.xh_place.specs.inner.Lots.{HasNow}
-use Rattle.xh_place.specs.Places.{IsBlock, records_of}
+use Rattle.xh_place.specs.Places.{IsBlock}
 
 -- two more records of the arena, neither of which it had
 pub record HasTwoMore (arena : ℕ) (old new : Held Body) (r t : ℕ) (l m : LotOf Body) : Type 0 where
@@ -36,5 +36,5 @@ pub record AreClaimed (arena : ℕ) (old new : Held Body) (r t : ℕ) (l m : Lot
 -- they are blocks
 pub record AreMade (arena : ℕ) (old new : Held Body) (r t : ℕ) (l m : LotOf Body) : Type 0 where
   pub two : HasTwoMore arena old new r t l m
-  pub first : IsBlock (records_of old) r l
-  pub second : IsBlock (records_of old) t m
+  pub first : IsBlock old.shape r l
+  pub second : IsBlock old.shape t m

@@ -10,7 +10,7 @@ ghost use Rattle.xh_place.specs.Bodies.{IsEndAt, kind_of};
 ghost use Rattle.xh_place.specs.Desk.{IsAt, StaysAt};
 ghost use Rattle.xh_place.specs.Ending.{HasGivenBack, IsClosed, last};
 ghost use Rattle.xh_place.specs.Endpoints.{Shuts};
-ghost use Rattle.xh_place.specs.Ends.{Accepts, EndDoes, IsUnopened, Opens, RefusedOr, at_home, end_block, is_here};
+ghost use Rattle.xh_place.specs.Ends.{Accepts, EndDoes, IsUnopened, Opens, RefusedOr, end_block, is_here};
 ghost use Rattle.xh_place.specs.Places.{Item, IsPlaceOf, found, with_blocks, with_less};
 ghost use Rattle.xh_place.specs.Seen.{Becomes, FindsFull, IsSeen, SeesMore, Stays};
 ghost use Rattle.xh_place.specs.Starts.{start};
@@ -33,7 +33,7 @@ use crate::place::ending::reclaimed;
 use crate::place::{Place, check_start};
 use crate::vaults::Vaults;
 use std::sync::Wait;
-use xh_channel::{Endpoint, Spot, with_log};
+use xh_channel::{Endpoint, Spot};
 use xh_core::{Block, Header, Kind, Refused, Status};
 use xh_model::limits::{END_BYTES, MAX_BUDGET};
 use xh_records::Records;
@@ -86,7 +86,6 @@ impl Place {
 
     /// Both ends of a channel that was just opened, with a contract or without, come to the end of the list: side 0, then side 1, each of 32 bytes, the halves of one first fit of 64.
     /// Ended, NoArena, NoRecord, NoSpace, Worn; a refusal hands the ends back, and each record that was claimed is free again.
-    /// Notes of the records' log lie beside the messages of these ends from now on.
     pub fn open<R, V: Vaults, G: Gate>(
         &mut self,
         desk: &mut Desk<'_, R, V, G>,
@@ -97,11 +96,10 @@ impl Place {
         requires at { IsAt V.names desk.old self.old.place }
         requires fresh { IsPair low high }
         ensures same { StaysAt V.names V.extent desk.old desk.new self.old self.new }
-        ensures opened { Opens arena (at_home self.old.place.table low) (at_home self.old.place.table high) self.old.place self.new.place desk.old.tallies.now desk.new.tallies.now result }
+        ensures opened { Opens arena low high self.old.place self.new.place desk.old.tallies.now desk.new.tallies.now result }
         ensures why { IsUnopened (start self.old.place.state ++ arena_tests arena (length self.old.place.shape.names)) (desk.new.vaults.now ≡ desk.old.vaults.now)
             (IsNoPair V.changes desk.old.vaults.now desk.new.vaults.now arena (2 * END_BYTES) (FindsFull self.old self.new arena) (V.extent desk.old.vaults.now)) result }
     {
-        let (low, high) = with_log(low, high, desk.records);
         if let Err(why) = check_start(self.state) {
             return Err(Unopened { why, low, high });
         }
@@ -129,7 +127,7 @@ impl Place {
         requires at { IsAt V.names desk.old self.old.place }
         requires fresh { IsPair low high × (low.has_contract ≡ true) }
         ensures same { StaysAt V.names V.extent desk.old desk.new self.old self.new }
-        ensures opened { Opens arena (at_home self.old.place.table low) (at_home self.old.place.table high) self.old.place self.new.place desk.old.tallies.now desk.new.tallies.now result }
+        ensures opened { Opens arena low high self.old.place self.new.place desk.old.tallies.now desk.new.tallies.now result }
         ensures why { IsUnopened (start self.old.place.state ++ arena_tests arena (length self.old.place.shape.names)) (desk.new.vaults.now ≡ desk.old.vaults.now)
             (IsNoPair V.changes desk.old.vaults.now desk.new.vaults.now arena (2 * END_BYTES) (FindsFull self.old self.new arena) (V.extent desk.old.vaults.now)) result }
     {

@@ -10,9 +10,7 @@ ghost use Rattle.xh_place.specs.Endpoints.{AreGot, IsGot, Takes, record_of};
 ghost use Rattle.xh_place.specs.Ends.{EndDoes, RefusedOr, toward_in};
 ghost use Rattle.xh_place.specs.Messages.{is_listed, IsSent, IsTaken, IsUntaken};
 ghost use Rattle.xh_place.specs.Places.{IsWhole, Item, IsPlaceOf, found, with_more};
-ghost use Rattle.xh_place.specs.Seen.{IsElsewhere, IsSamePlace, Saw, SawWord, SeesMore, Stays, told};
-ghost use Rattle.xh_channel.specs.Beside.{IsOf};
-ghost use Rattle.xh_records.specs.History.{StartsWith};
+ghost use Rattle.xh_place.specs.Seen.{IsSamePlace, IsSeen, SawWord, SeesMore, Stays};
 ghost use Rattle.xh_place.specs.Starts.{start};
 ghost use Rattle.xh_records.specs.Seats.{IsRecord};
 ghost use Rattle.std.specs.List.{list_all};
@@ -32,7 +30,7 @@ use arrayvec::ArrayVec;
 use std::sync::Wait;
 use xh_channel::{Message, Refused as Untaken};
 use xh_core::{Block, Header, Refused, is_twice};
-use xh_records::{Note, Records};
+use xh_records::Records;
 
 impl Place {
     /// Gives blocks of the list, by the endpoint `e`, in a message with a tag. It answers the message's number.
@@ -151,43 +149,27 @@ impl Place {
         ensures place { IsSamePlace self.old self.new }
         ensures taken { MatchResult result (IsTaken e self.old self.new) (IsUntaken e self.old.place self.new.place) }
     {
-        let (taken, direction, note) = self.pop(desk, e);
+        let (taken, direction) = self.pop(desk, e);
         let message = taken?;
         desk.gate.between(place_of(&self.seat), Point::Popped);
-        self.hear(desk.records, note);
         let blocks = self.take_all(desk.records, &message, direction);
         let Message { no, tag, .. } = message;
         Ok(Taken { no, tag, blocks })
     }
 
-    // Takes the message at the front for an endpoint of the list. With the answer go the direction and what
-    // lay beside the message.
+    // Takes the message at the front for an endpoint of the list. With the answer goes the direction.
     fn pop<R: Wait, V, G>(
         &mut self,
         desk: &Desk<'_, R, V, G>,
         e: u16,
-    ) -> (Result<Message, Untaken>, u8, Option<Note>)
+    ) -> (Result<Message, Untaken>, u8)
         requires own { IsPlaceOf desk.now.records.now self.old.place }
         requires end { (x : Item) × (value_at e self.old.place.blocks ≡ Some x) × (kind_of x.content ≡ kind.End) }
-        ensures took { EndDoes e self.old.place self.new.place (Takes result.2 result.0) }
-        ensures log { IsOf desk.now.records.now.table result.2 }
+        ensures took { EndDoes e self.old.place self.new.place (Takes result.0) }
         ensures seen { SeesMore self.old self.new }
         ensures direction { (result.1 ≡ toward_in (value_at e self.old.place.blocks)) × (result.1 < DIRECTIONS) }
     {
         take_at(desk, &mut self.seat, e)
-    }
-
-    // The place has seen all that the note tells.
-    #[tactic(auto, using(crate::proofs::Seeing::heard_none))]
-    fn hear(&mut self, records: &Records<Body>, note: Option<Note>)
-        requires own { IsPlaceOf records.now self.old.place × IsOf records.now.table note }
-        ensures same { Stays self.old self.new }
-        ensures heard { StartsWith self.new.front (told note) }
-    {
-        let Some(note) = note else {
-            return;
-        };
-        records.hear(&mut self.seat, note);
     }
 
     // Takes a block that is in flight on the direction, at the end of the list. The error is the word
@@ -201,8 +183,7 @@ impl Place {
         requires own { IsPlaceOf records.now self.old.place × IsRecord records.now.shape r × (direction < DIRECTIONS) }
         requires alive { is_over self.old.place.state ≢ true }
         ensures place { IsSamePlace self.old self.new }
-        ensures here { IfOk result (λ b. (b.rec ≡ r) × ((x : Item) × (x.len ≡ b.len) × (self.new.place ≡ with_more direction ((r, x) ∷ []) self.old.place) × IsWhole x)
-            × IsElsewhere (Saw self.old self.new) direction b.rec) }
+        ensures here { IfOk result (λ b. (b.rec ≡ r) × ((x : Item) × (x.len ≡ b.len) × (self.new.place ≡ with_more direction ((r, x) ∷ []) self.old.place) × IsWhole x)) }
         ensures missing { IfErr result (λ word. (word ≢ 2 + 4 * direction) × (self.new.place ≡ self.old.place) × SawWord self.old self.new r word) }
     {
         let header = accept_block(records, &mut self.seat, r, direction)?;
@@ -217,7 +198,7 @@ impl Place {
         requires own { IsPlaceOf records.now self.old.place × (direction < DIRECTIONS) }
         requires alive { is_over self.old.place.state ≢ true }
         ensures place { IsSamePlace self.old self.new }
-        ensures got { (ys : List (ℕ × Item)) × (self.new.place ≡ with_more direction ys self.old.place) × IsGot (Saw self.old self.new) direction ys result }
+        ensures got { (ys : List (ℕ × Item)) × (self.new.place ≡ with_more direction ys self.old.place) × IsGot (IsSeen self.old self.new) direction ys result }
         ensures record { record_of result ≡ r }
     {
         if !records.has(r) {
@@ -239,7 +220,7 @@ impl Place {
         requires own { IsPlaceOf records.now self.old.place × (direction < DIRECTIONS) }
         requires alive { is_over self.old.place.state ≢ true }
         ensures place { IsSamePlace self.old self.new }
-        ensures got { (ys : List (ℕ × Item)) × (self.new.place ≡ with_more direction ys self.old.place) × AreGot (Saw self.old self.new) direction ys result.items }
+        ensures got { (ys : List (ℕ × Item)) × (self.new.place ≡ with_more direction ys self.old.place) × AreGot (IsSeen self.old self.new) direction ys result.items }
         ensures records { map record_of result.items ≡ message.now.blocks.items }
     {
         let mut got = ArrayVec::new();

@@ -1,17 +1,16 @@
 -- What each kind of step tells its seat, with both outcomes of a compare.
 use Rattle.std.specs.Prelude.{◌≡◌, ◌≢◌, ℕ, [], ◌∷◌, ◌++◌, Bool, List, slice_index, Some, Option}
 use Rattle.atomic_table.specs.Table.{Me, Step, rest}
-use Rattle.atomic_table.specs.Seated.{TableId}
 use Rattle.xh_arena.specs.Views.{LotOf}
 use Rattle.xh_model.specs.declared.event.Holder.{Holder}
 use Rattle.xh_model.specs.declared.event.Event.{Event}
 use Rattle.xh_model.specs.Words.{place_of, word_of}
 use Rattle.xh_records.specs.declared.view.View.{View}
-use Rattle.xh_records.specs.History.{IsOneLog, StartsWith, TellsWord, by_place}
-use Rattle.xh_records.specs.Showing.{IsLotAt, IsOwn, Owns}
+use Rattle.xh_records.specs.History.{IsOneLog, TellsWord, by_place}
+use Rattle.xh_records.specs.Showing.{IsLotAt, Owns}
 use Rattle.xh_records.specs.Seats.{Knows}
 use Rattle.xh_records.specs.inner.Events.{IsHomeLot}
-use Rattle.xh_records.specs.inner.Views.{front_in, gained, knowing, lost, renewed, untold}
+use Rattle.xh_records.specs.inner.Views.{front_in, gained, head_of, knowing, lost, renewed}
 
 -- the process of a view that stands for one
 abbrev pub process_in : View → ℕ
@@ -34,12 +33,12 @@ module _ {B : Type 0} where
   abbrev pub looked : Step (Option (LotOf B)) → Me (Option (LotOf B)) View → ℕ → Me (Option (LotOf B)) View → Type 0
   looked st me n me' = SeesMore st.word n me me'
 
-  -- a compare that takes the record's lot, which is as it has to be at home, where it found the word that it wants, and is an event, after which its word is the one that it left; else it is a look
-  abbrev pub took : (B → ℕ → Bool) → (B → Option TableId) → Step (Option (LotOf B)) → Me (Option (LotOf B)) View → ℕ → Me (Option (LotOf B)) View → Type 0
-  took fits log st me n me' =
+  -- a compare that takes the record's lot, which is as it has to be at home, where it found the word that it wants, and is an event; else it is a look
+  abbrev pub took : (B → ℕ → Bool) → Step (Option (LotOf B)) → Me (Option (LotOf B)) View → ℕ → Me (Option (LotOf B)) View → Type 0
+  took fits st me n me' =
       (n ≡ st.first → (l : LotOf B) × (others : List Event) × IsOthers me.0 others
       × ((h : Option Holder) → st.first ≡ word_of h → (me' ≡ (gained me.0 st.word (process_in me.0) h others, (st.word, Some l) ∷ me.1)) × IsHomeLot fits h l)
-      × IsLotAt me.0.shape st.word l × ((p : ℕ) → Owns me.0 st.word p → ⊥) × IsOwn log me.0.log l × TellsWord me'.0.shape.records (front_in me'.0) st.word st.second)
+      × IsLotAt me.0.shape st.word l × ((p : ℕ) → Owns me.0 st.word p → ⊥))
       × (n ≢ st.first → looked st me n me')
 
   -- a store that gives the lot back, and is an event
@@ -48,11 +47,8 @@ module _ {B : Type 0} where
 
   -- a load by a seat that was told what another had seen: of two fronts one is a beginning of the other. It forgets the second
   abbrev pub compared : Step (Option (LotOf B)) → Me (Option (LotOf B)) View → ℕ → Me (Option (LotOf B)) View → Type 0
-  compared st me n me' = (me' ≡ (untold me.0, me.1)) × ((a b : ℕ × List Event) → me.0.fronts ≡ a ∷ b ∷ [] → IsOneLog a.1 b.1)
-
-  -- a look by such a seat: what it sees begins with what it was told
-  abbrev pub heard : Step (Option (LotOf B)) → Me (Option (LotOf B)) View → ℕ → Me (Option (LotOf B)) View → Type 0
-  heard st me n me' = SeesMore st.word n (untold me.0, me.1) me' × ((a b : ℕ × List Event) → me.0.fronts ≡ a ∷ b ∷ [] → StartsWith (front_in me'.0) b.1)
+  compared st me n me' = (me' ≡ (record me.0 { fronts = head_of me.0.fronts }, me.1))
+      × ((a b : ℕ × List Event) → me.0.fronts ≡ a ∷ b ∷ [] → IsOneLog a.1 b.1)
 
   -- a load, by a seat that stands for its place anew
   abbrev pub aged : Step (Option (LotOf B)) → Me (Option (LotOf B)) View → ℕ → Me (Option (LotOf B)) View → Type 0

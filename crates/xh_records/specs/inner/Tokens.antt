@@ -66,14 +66,13 @@ module _ {B : Type 0} where
   AllLots s (x ∷ xs) = ((l : LotOf B) × (x.1 ≡ Some l) × IsLotAt s x.0 l) × AllLots s xs
 
   -- what a seat's type keeps
-  pub record IsSeat (process : ℕ) (order : List ℕ) (capacity : ℕ) (table : TableId) (me : Me (Option (LotOf B)) View) : Type 0 where
+  pub record IsSeat (process : ℕ) (order : List ℕ) (capacity slots : ℕ) (me : Me (Option (LotOf B)) View) : Type 0 where
     pub processes : me.0.processes ≡ process ∷ []
     pub ordered : order ≡ keys me.1
     pub records : me.0.records ≡ owned_by process order
     pub front : me.0.fronts ≡ (place_of process, front_in me.0) ∷ []
     pub lots : AllLots me.0.shape me.1
     pub distinct : Distinct order
-    pub below : AllBelow table.slots order
-    pub room : table.slots ≤ capacity
+    pub below : AllBelow slots order
+    pub room : slots ≤ capacity
     pub small : IsSmall me.0.shape
-    pub log : me.0.log ≡ table

@@ -1,6 +1,5 @@
 -- How a step changes the view of its seat.
 use Rattle.std.specs.Prelude.{◌≡◌, ℕ, zero, suc, ◌+◌, List, [], ◌∷◌, ◌++◌, map, Option}
-use Rattle.atomic_table.specs.Seated.{TableId}
 use Rattle.xh_model.specs.declared.event.Holder.{Holder}
 use Rattle.xh_model.specs.declared.event.Event.{Event}
 use Rattle.xh_model.specs.declared.limits.TheConstants.{PLACES}
@@ -21,20 +20,16 @@ abbrev pub no_events : List ℕ → List (ℕ × List Event)
 no_events [] = []
 no_events (p ∷ ps) = (place_of p, []) ∷ no_events ps
 
--- the view of a seat that stands for k places from p on, each of generation 0, and has no record
-abbrev pub dealer : TableId → Shape → ℕ → ℕ → View
-dealer t s p k = record { log = t; shape = s; processes = places_from p k; records = []; fronts = no_events (places_from p k) }
-
--- the first seat stands for all places, and doesn't know yet which table it is at
+-- the first seat stands for all places
 abbrev pub all_places : Shape → View
-all_places s = dealer no_table s 0 s.places
+all_places s = record { shape = s; processes = places_from 0 s.places; records = []; fronts = no_events (places_from 0 s.places) }
 
 abbrev pub no_shape : Shape
 no_shape = record { records = 0; places = 0; names = [] }
 
 -- a spent view
 abbrev pub spent : View
-spent = record { log = no_table; shape = no_shape; processes = []; records = []; fronts = [] }
+spent = record { shape = no_shape; processes = []; records = []; fronts = [] }
 
 -- the front of a view that stands for one place, and more events in it
 abbrev pub first_front : List (ℕ × List Event) → List Event
@@ -56,10 +51,6 @@ IsAlone v p = (v.processes ≡ p ∷ []) × (v.fronts ≡ (place_of p, front_in 
 abbrev pub knowing : View → List Event → View
 knowing v es = record v { fronts = adds es v.fronts }
 
--- the view knows which table it is at
-abbrev pub named : TableId → View → View
-named t v = record v { log = t }
-
 -- the view of a process has seen events of others, and gains a record from where it was, or loses a record to where it goes
 abbrev pub gained : View → ℕ → ℕ → Option Holder → List Event → View
 gained v k p from others = record (knowing v (others ++ taking p (number_of v.shape.records k) from ∷ [])) { records = v.records ++ (k, p) ∷ [] }
@@ -67,9 +58,13 @@ gained v k p from others = record (knowing v (others ++ taking p (number_of v.sh
 abbrev pub lost : View → ℕ → ℕ → Option Holder → List Event → View
 lost v k p to others = record (knowing v (others ++ giving p (number_of v.shape.records k) to ∷ [])) { records = without k v.records }
 
+-- the view of a seat that stands for k places from p on, each of generation 0, and has no record
+abbrev pub dealer : Shape → ℕ → ℕ → View
+dealer s p k = record { shape = s; processes = places_from p k; records = []; fronts = no_events (places_from p k) }
+
 -- it stands so for one place at least
 abbrev pub IsDealer : View → Type 0
-IsDealer v = (t : TableId) × (s : Shape) × (p : ℕ) × (k : ℕ) × (v ≡ dealer t s p (suc k))
+IsDealer v = (s : Shape) × (p : ℕ) × (k : ℕ) × (v ≡ dealer s p (suc k))
 
 -- a seat that stands for several places deals its first one out, with no record
 abbrev pub tail_of : {X : Type 0} → List X → List X
@@ -80,34 +75,19 @@ abbrev pub head_of : {X : Type 0} → List X → List X
 head_of [] = []
 head_of (p ∷ ps) = p ∷ []
 
--- the view without what it was told
-abbrev pub untold : View → View
-untold v = record v { fronts = head_of v.fronts }
-
 abbrev pub dealt_from : View → View
 dealt_from v = record v { processes = tail_of v.processes; fronts = tail_of v.fronts }
 
 abbrev pub dealt : View → View
-dealt v = record { log = v.log; shape = v.shape; processes = head_of v.processes; records = []; fronts = head_of v.fronts }
+dealt v = record { shape = v.shape; processes = head_of v.processes; records = []; fronts = head_of v.fronts }
 
 -- what a view has seen, for another seat to compare: beside a number past the places
 abbrev pub note_of : View → View
-note_of v = record { log = no_table; shape = no_shape; processes = []; records = []; fronts = (PLACES, front_in v) ∷ [] }
-
--- the views of a note: one, which has only what a seat has seen
-abbrev pub view_in : List View → View
-view_in [] = spent
-view_in (v ∷ vs) = v
-
-abbrev pub front_of : List View → List Event
-front_of vs = front_in (view_in vs)
-
-abbrev pub IsNote : List View → Type 0
-IsNote vs = vs ≡ note_of (view_in vs) ∷ []
+note_of v = record { shape = no_shape; processes = []; records = []; fronts = (PLACES, front_in v) ∷ [] }
 
 -- two views in one
 abbrev pub joined : View → View → View
-joined v w = record { log = v.log; shape = v.shape; processes = v.processes ++ w.processes; records = v.records ++ w.records; fronts = v.fronts ++ w.fronts }
+joined v w = record { shape = v.shape; processes = v.processes ++ w.processes; records = v.records ++ w.records; fronts = v.fronts ++ w.fronts }
 
 -- the generation of each place rises by one
 abbrev pub renewed : View → View

@@ -1,6 +1,6 @@
 use Rattle.xh_channel.proofs.Common.{LineView, ap, rules, sym, ◌∙◌, ◌≡◌}
 use Rattle.xh_channel.proofs.LineMoves.{has_word}
-use Rattle.xh_channel.proofs.LineViews.{joins}
+use Rattle.xh_channel.proofs.LineSteps.{joins}
 use Rattle.xh_channel.proofs.line_seat.join.Goals as goal
 
 pub join_seat-requires : goal.join_seat-requires

@@ -1,4 +1,4 @@
-use Rattle.xh_channel.proofs.Common.{IsNoted, LiesFor, Lined, Option, holding, subst, ◌∙◌, ◌∷◌}
+use Rattle.xh_channel.proofs.Common.{LiesFor, Lined, Option, holding, subst, ◌∙◌, ◌∷◌}
 use Rattle.xh_channel.proofs.LineMoves.{has_line}
 use Rattle.xh_channel.proofs.line_steps.hold.Goals as goal
 
@@ -9,5 +9,5 @@ returns-clause-held g c =
       is.0,
       l.1,
       l.2 ∙ (λ i. (holding v l.1, (0, is.1 i) ∷ b.0 i)),
-      record { few = b.2; lies = subst (λ (x : Option Lined). LiesFor v.side x v.own l.1) is.1 l.3; told = l.4; notes = subst (IsNoted v.log) is.1 l.6 },
+      record { few = b.2; lies = subst (λ (x : Option Lined). LiesFor v.side x v.own l.1) is.1 l.3; told = l.4 },
     )

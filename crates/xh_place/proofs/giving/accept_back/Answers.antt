@@ -1,6 +1,6 @@
 use Rattle.xh_place.proofs.Common.{drop_more, take_more, arith, rules, ◌≡◌, sym, ap, ◌∙◌, ℕ, ◌<◌, ◌+◌, subst, length, drop, get_or, [], ◌∷◌, refl, take, CameBack, among_get, starts_more}
 use Rattle.xh_place.proofs.Common.{starts_same}
-use Rattle.xh_place.proofs.Givens.{HaveLeft, IsAccepting, accepting, accepting_none, left_more, one_longer}
+use Rattle.xh_place.proofs.Givens.{AreLost, IsAccepting, accepting, accepting_none, lost_more, one_longer}
 use Rattle.xh_place.proofs.giving.accept_back.Goals as goal
 
 pub loop-k-init : goal.loop-k-init
@@ -34,7 +34,7 @@ loop-k-preserved c =
       one_longer d r c.from-bytes.result c.loop-k.seat c.accept_into.new.seat c.loop-k.back.items c.accept_into.new.back.items came k c.loop-k.invariant.1,
       omega (arith, c.loop-k.invariant.2, c.from-bytes.ensures),
       starts_more c.args.seat.now.front c.loop-k.invariant.3 c.accept_into.ensures.seen,
-      subst (λ l. HaveLeft d l c.args.seat.now c.accept_into.new.seat) (sym (take_more given k 0 inside))
-          (left_more d (take k given) r c.args.seat.now c.loop-k.seat c.accept_into.new.seat (ap (λ h. h.shape) is.0) c.loop-k.invariant.3 c.accept_into.ensures.seen c.loop-k.invariant.4
-          c.accept_into.ensures.left),
+      subst (λ l. AreLost d l c.accept_into.new.back.items c.args.seat.now c.accept_into.new.seat) (sym (take_more given k 0 inside))
+          (lost_more d (take k given) r c.accept_into.result c.args.seat.now c.loop-k.seat c.accept_into.new.seat c.loop-k.back.items c.accept_into.new.back.items (ap (λ h. h.shape) is.0)
+          c.loop-k.invariant.3 c.accept_into.ensures.seen c.loop-k.invariant.4 c.accept_into.ensures.came),
     )

@@ -17,11 +17,11 @@ returns-clause-moved g c =
     subst (λ es. HasNow (with_done es seat) last.lots last) log
     (moved_twice seat mid last (passed_on seat.process d given) (accepted_on mid.process d rs) c.post-put.ensures.passed c.accept_back-back.ensures.came)
 
-pub returns-clause-left : goal.returns-clause-left
-returns-clause-left g c = λ r among.
+pub returns-clause-missed : goal.returns-clause-missed
+returns-clause-missed g c = λ r among missed.
     let seat = c.args.seat.now in let mid = c.post-put.new.seat in let last = c.accept_back-back.new.seat in
     let shape : mid.shape ≡ seat.shape = ap (λ h. h.shape) c.post-put.ensures.passed in
-    let there = c.accept_back-back.ensures.left r (subst (λ l. Among l r) (sym c.as_slice.ensures.value) among) in
+    let there = c.accept_back-back.ensures.lost r (subst (λ l. Among l r) (sym c.as_slice.ensures.value) among) missed in
     let passed = c.post-put.ensures.came r among in
     subst (λ d. IsElsewhere (SeatSawAfter (Pass seat.process r d) seat last) d r) c.post-put.ensures.direction.0
     (away_as (SeatSaw mid last) (SeatSawAfter (Pass seat.process r c.post-put.result.1) seat last)

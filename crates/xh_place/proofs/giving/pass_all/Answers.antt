@@ -1,5 +1,4 @@
-use Rattle.xh_place.proofs.Common.{drop_more, take_more, arith, ◌≡◌, ℕ, ◌<◌, ◌+◌, ◌∙◌, refl, ap, subst, sym, length, take, drop, get_or, ◌∷◌, inl, Some, Among, value_at, past, IsBlock}
-use Rattle.xh_place.proofs.Words.{records_of}
+use Rattle.xh_place.proofs.Common.{drop_more, take_more, arith, ◌≡◌, ℕ, ◌<◌, ◌+◌, ◌∙◌, refl, ap, subst, sym, length, take, drop, get_or, ◌∷◌, inl, Some, Among, value_at, past, IsRecord, IsLotOf}
 use Rattle.xh_place.proofs.Common.{lens, among_get, lens_none, starts_more, ArePassed}
 use Rattle.xh_place.proofs.Givens.{IsPassing, passed_bytes, passed_more, passing}
 use Rattle.xh_place.proofs.giving.pass_all.Goals as goal
@@ -7,9 +6,10 @@ use Rattle.xh_place.proofs.giving.pass_all.Goals as goal
 pub pass_block-requires : goal.pass_block-requires
 pass_block-requires c =
     let given = c.args.given.now in let k : ℕ = c.loop-k.k in let is = c.loop-k.invariant.0 in
-    let inside : k < length given = omega (arith, c.loop-k-test.true) in let r : ℕ = get_or given k 0 in let h = c.requires.held r (among_get k given 0 inside) in record {
-      own = ((ap (λ z. z.table) is.0 ∙ c.requires.own.0.0, ap (λ z. z.shape) is.0 ∙ c.requires.own.0.1), c.requires.own.1);
-      held = (h.0, is.2 r (subst (λ l. Among l r) (sym (drop_more given k 0 inside)) (inl refl)) ∙ h.1, subst (λ z. IsBlock z r h.0) (sym (ap records_of is.0)) h.2);
+    let inside : k < length given = omega (arith, c.loop-k-test.true) in let r : ℕ = get_or given k 0 in let h = c.requires.held r (among_get k given 0 inside) in
+    let shape : c.loop-k.seat.shape ≡ c.args.seat.now.shape = ap (λ z. z.shape) is.0 in record {
+      own = ((ap (λ z. z.table) is.0 ∙ c.requires.own.0.0, shape ∙ c.requires.own.0.1), subst (λ s. IsRecord s r) c.requires.own.0.1 h.2.exists, c.requires.own.1);
+      held = (h.0, is.2 r (subst (λ l. Among l r) (sym (drop_more given k 0 inside)) (inl refl)) ∙ h.1, subst (λ s. IsLotOf s r h.0) (sym shape) h.2.lot, h.2.full);
     }
 
 pub loop-k-preserved : goal.loop-k-preserved

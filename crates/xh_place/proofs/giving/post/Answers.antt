@@ -1,7 +1,6 @@
 use Rattle.xh_place.proofs.Common.{rules, ◌≡◌, ◌≢◌, ℕ, ◌+◌, ◌*◌, ◌-◌, List, sym, ap, ◌∙◌, subst, Some, Among, value_at, put, put_at, put_other, IsLotOf, Held, with_lots, passed_on, LotDoes, bare}
 use Rattle.xh_place.proofs.Common.{with_done, Body, Posted, Puts, IsBlock, lens, starts_more, starts_same, Came, Pass, came_more}
-use Rattle.xh_place.proofs.Ends.{end_log, still_block}
-use Rattle.xh_place.proofs.Words.{Event, Noted, Passed, away, item_in, records_of}
+use Rattle.xh_place.proofs.Ends.{still_block}
 use Rattle.xh_place.proofs.giving.post.Goals.{After-pass_all-bytes}
 use Rattle.xh_place.proofs.giving.post.Goals as goal
 
@@ -9,7 +8,7 @@ pub pass_all-bytes-requires-clause-held : goal.pass_all-bytes-requires-clause-he
 pass_all-bytes-requires-clause-held g c = λ r a.
     let q = c.requires.end in let same = c.spot_at-spot.ensures.same in
     let h = c.requires.held r (subst (λ l. Among l r) c.as_slice.ensures.value a) in
-    (h.0, ap (λ z. value_at r z.lots) same ∙ h.1, subst (λ z. IsBlock z r h.0) (sym (ap records_of same)) h.2)
+    (h.0, ap (λ z. value_at r z.lots) same ∙ h.1, subst (λ s. IsBlock s r h.0) (sym (ap (λ z. z.shape) same)) h.2)
 
 there : (g : _) (c : After-pass_all-bytes g) → c.spot_at-spot.new.seat ≡ c.args.seat.now → value_at c.args.e c.pass_all-bytes.new.seat.lots ≡ Some c.requires.end.0
 there g c same = c.pass_all-bytes.ensures.others c.args.e (λ a. c.requires.distinct.1 (subst (λ l. Among l c.args.e) c.as_slice.ensures.value a))
@@ -18,51 +17,35 @@ there g c same = c.pass_all-bytes.ensures.others c.args.e (λ a. c.requires.dist
 pub put_at-put-requires-clause-held : goal.put_at-put-requires-clause-held
 put_at-put-requires-clause-held g c =
     let q = c.requires.end in let same = c.spot_at-spot.ensures.same in
-    let at = there g (goal.at.put_at-put-requires-clause-held g c).After-pass_all-bytes same in let noted = c.note-note.ensures.same in (
-      q.0,
-      ap (λ h. value_at c.args.e h.lots) noted ∙ at,
-      subst (λ s. IsLotOf s c.args.e q.0) (sym (ap (λ h. h.shape) noted ∙ ap (λ h. h.shape) c.pass_all-bytes.ensures.passed ∙ ap (λ h. h.shape) same)) q.2.lot,
-      q.3,
-      end_log q.2 q.3 ∙ ap (λ t. Some t) (c.requires.own.0 ∙ sym c.note-note.ensures.noted.0),
-    )
+    let at = there g (goal.at.put_at-put-requires-clause-held g c).After-pass_all-bytes same in
+    (q.0, at, subst (λ s. IsLotOf s c.args.e q.0) (sym (ap (λ h. h.shape) c.pass_all-bytes.ensures.passed ∙ ap (λ h. h.shape) same)) q.2.lot, q.3)
 
 pub returns : goal.returns
 returns g c =
     let q = c.requires.end in let seat = c.args.seat.now in let look = c.spot_at-spot.new.seat in let gone = c.pass_all-bytes.new.seat in let pass = c.pass_all-bytes.ensures in
     let value = c.as_slice.ensures.value in
     let same = c.spot_at-spot.ensures.same in let at = there g (goal.at.returns g c).After-pass_all-bytes same in
-    let noted = c.note-note.ensures.same in let note : Noted = c.note-note.result in
-    let k = c.put_at-put.ensures q.0 (ap (λ h. value_at c.args.e h.lots) noted ∙ at) in let m = k.0 in
-    let kept : c.put_at-put.new.seat ≡ with_lots gone (put c.args.e m gone.lots) = k.2 ∙ ap (λ h. with_lots h (put c.args.e m h.lots)) noted in
+    let k = c.put_at-put.ensures q.0 at in let m = k.0 in
     let d : ℕ = 2 * c.spot_at-spot.result.channel + 1 - c.spot_at-spot.result.side in
     let after : Held Body → List ℕ → Held Body = λ h rs. bare (with_done (passed_on h.process d rs) h) in
     let now : Held Body = after seat c.args.given.now.items in
     let chain : bare gone ≡ with_lots now gone.lots =
     pass.passed ∙ ap (λ h. with_lots (after h c.as_slice.result.now) gone.lots) same ∙ ap (λ rs. with_lots (after seat rs) gone.lots) value in
-    let does : Posted → Posted → Type 0 = Puts note c.args.tag c.args.given.now c.put_at-put.result in
-    let way : d ≡ away (item_in (value_at c.args.e seat.lots)).content = search rules in
-    let came : Passed seat.process d c.args.given.now.items seat.front gone.front =
-    λ r a. subst (λ (z : Held Body). Came (Pass z.process r d) z.front gone.front) same (pass.came r (subst (λ l. Among l r) (sym value) a)) in
-    let told : Passed seat.process d c.args.given.now.items seat.front note.front =
-    subst (λ (f : List Event). Passed seat.process d c.args.given.now.items seat.front f) (sym c.note-note.ensures.noted.1) came in
+    let does : Posted → Posted → Type 0 = Puts c.args.tag c.args.given.now c.put_at-put.result in
     let apart : (r : ℕ) → Among c.args.given.now.items r → c.args.e ≢ r = λ r a s. c.requires.distinct.1 (subst (λ z. Among c.args.given.now.items z) (sym s) a) in record {
       direction = search rules;
-      passed = ap bare kept ∙ ap (λ h. with_lots h (put c.args.e m gone.lots)) chain ∙ sym (ap (λ h. with_lots now h.lots) kept);
-      seen = starts_more seat.front (starts_same (ap (λ h. h.front) same)) (starts_more look.front pass.seen (starts_same (ap (λ h. h.front) kept)));
-      came = λ r a. came_more (Pass seat.process r d) seat.front (came r a) (starts_same (ap (λ h. h.front) kept));
+      passed = ap bare k.2 ∙ ap (λ h. with_lots h (put c.args.e m gone.lots)) chain ∙ sym (ap (λ h. with_lots now h.lots) k.2);
+      seen = starts_more seat.front (starts_same (ap (λ h. h.front) same)) (starts_more look.front pass.seen (starts_same (ap (λ h. h.front) k.2)));
+      came = λ r a. came_more (Pass seat.process r d) seat.front
+          (subst (λ (z : Held Body). Came (Pass z.process r d) z.front gone.front) same (pass.came r (subst (λ l. Among l r) (sym value) a))) (starts_same (ap (λ h. h.front) k.2));
       end = λ l at'. let two : Some q.0 ≡ Some l = sym q.1 ∙ at' in let one : q.0 ≡ l = cc in (
         m,
-        ap (λ h. value_at c.args.e h.lots) kept ∙ put_at c.args.e m q.0 gone.lots at,
-        (
-          note,
-          subst (λ z. LotDoes does z m) one k.1,
-          c.note-note.ensures.noted.0 ∙ sym c.requires.own.0,
-          subst (λ (z : ℕ). Passed seat.process z c.args.given.now.items seat.front note.front) way told,
-        ),
-        still_block does q.2 k.1 k.1.4.same.log,
+        ap (λ h. value_at c.args.e h.lots) k.2 ∙ put_at c.args.e m q.0 gone.lots at,
+        subst (λ z. LotDoes does z m) one k.1,
+        still_block does q.2 k.1,
       );
-      gone = λ r a. ap (λ h. value_at r h.lots) kept ∙ put_other r c.args.e m gone.lots (apart r a) ∙ pass.gone r (subst (λ l. Among l r) (sym value) a);
-      others = λ r n o. ap (λ h. value_at r h.lots) kept ∙ put_other r c.args.e m gone.lots o
+      gone = λ r a. ap (λ h. value_at r h.lots) k.2 ∙ put_other r c.args.e m gone.lots (apart r a) ∙ pass.gone r (subst (λ l. Among l r) (sym value) a);
+      others = λ r n o. ap (λ h. value_at r h.lots) k.2 ∙ put_other r c.args.e m gone.lots o
           ∙ pass.others r (λ a. n (subst (λ l. Among l r) value a)) ∙ ap (λ h. value_at r h.lots) same;
       bytes = pass.bytes ∙ (λ i. lens (value i) (λ r. value_at r (same i).lots));
     }

@@ -1,7 +1,5 @@
 use Rattle.xh_place.proofs.Common.{◌∙◌, rules, ◌≡◌, ◌<◌, ◌/◌, ◌%◌, length, sym, ap, subst, Accept, Held, did, Body, bare, Err, looked, has}
 use Rattle.xh_place.proofs.Gained.{lot_is}
-use Rattle.xh_place.proofs.Seeing.{came_elsewhere}
-use Rattle.xh_place.proofs.Words.{IsOwn, log_of}
 use Rattle.xh_place.proofs.lots.accept_block.Goals as goal
 
 pub look-requires-clause-held : goal.look-requires-clause-held
@@ -19,14 +17,8 @@ returns-clause-here c =
       t.0,
       fresh,
       ap bare c.look.ensures.same ∙ ap bare t.1,
-      record {
-        exists = subst (λ z. (c.args.r / 256 < length z.names) × (c.args.r % 256 < z.records)) (sym own.0.1) own.1;
-        lot = t.2;
-        full = t.3;
-        own = subst (λ z. IsOwn log_of z t.0) (sym own.0.0) (c.in_ok-accept.ensures.log t.0 at);
-      },
+      record { exists = subst (λ z. (c.args.r / 256 < length z.names) × (c.args.r % 256 < z.records)) (sym own.0.1) own.1; lot = t.2; full = t.3 },
       c.look.ensures.header t.0 at,
-      came_elsewhere _ c.args.r c.args.direction _ c.args.seat.now c.accept.new.seat c.look.new.seat t c.look.ensures.same,
     )
 
 pub returns-in_err-accept-clause-missing : goal.returns-in_err-accept-clause-missing

@@ -1,6 +1,6 @@
 use Rattle.xh_place.proofs.Common.{rules, ℕ, refl, sym, ap, ◌∙◌, replicate, subst, ◌++◌, ◌∷◌, [], length-replicate, IsRecord, HasNow, bare, bytes, claims, vacates, advanced, no_record, starts_more}
 use Rattle.xh_place.proofs.Common.{starts_same, has, undone}
-use Rattle.xh_place.proofs.Gained.{bytes_own, changed, lot_is, fits_bytes}
+use Rattle.xh_place.proofs.Gained.{changed, lot_is, fits_bytes}
 use Rattle.xh_place.proofs.lots.make_block.Goals as goal
 
 pub vacate-requires-clause-held : goal.vacate-requires-clause-held
@@ -52,7 +52,6 @@ returns-in_default-filled-clause-block g c =
         exists = search rules;
         lot = t.2;
         full = (c.requires.size.0, fits_bytes m.body (replicate n 0) n (ap bytes c.in-Some.ensures) (length-replicate n 0) c.requires.size.0 c.requires.size.3);
-        own = bytes_own c.args.seat.now.table m (replicate n 0) (ap bytes c.in-Some.ensures);
       },
       refl,
       ap bytes c.in-Some.ensures,

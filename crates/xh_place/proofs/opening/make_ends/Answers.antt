@@ -30,8 +30,8 @@ returns-in_default-fitted-clause-made g c =
       m',
       record {
         two = record { lots = now; first_fresh = two.first_fresh; second_fresh = two.second_fresh; apart = two.apart; first_arena = two.first_arena; second_arena = two.second_arena };
-        first = record { exists = k.2.first.0; lot = k.2.first.1; full = (omega arith, refl); own = λ t some at. let e : c.args.low.log ≡ t = cc in sym e ∙ c.requires.log.0 };
-        second = record { exists = k.2.second.0; lot = k.2.second.1; full = (omega arith, refl); own = λ t some at. let e : c.args.high.log ≡ t = cc in sym e ∙ c.requires.log.1 };
+        first = record { exists = k.2.first.0; lot = k.2.first.1; full = (omega arith, refl) };
+        second = record { exists = k.2.second.0; lot = k.2.second.1; full = (omega arith, refl) };
       },
       refl,
       refl,

@@ -86,5 +86,5 @@ pub returns-clause-token : goal.returns-clause-token
 returns-clause-token g c =
     let f = c.loop-k.invariant.3 in (
       c.split_seat.ensures.3 ∙ f.table ∙ ap (λ h. h.table) c.seat.view_is,
-      c.split_seat.ensures.4 ∙ ap (λ z. (z, [])) (f.view ∙ sym (views_are c.args.seat _ _ _ c.seat.inside.token.me c.seat.view_is _ _ c.seat.invariant)),
+      c.split_seat.ensures.4 ∙ ap (λ z. (z, [])) (f.view ∙ sym (views_are c.args.seat _ _ _ c.seat.inside.token.me c.seat.view_is _ _ _ c.seat.invariant)),
     )

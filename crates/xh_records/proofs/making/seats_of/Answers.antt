@@ -10,8 +10,8 @@ one_left count k below = omega arith
 
 pub split_seat-token-requires : goal.split_seat-token-requires
 split_seat-token-requires g c =
-    let i = c.loop-place.invariant in let p : ℕ = c.loop-place.place in let all : ℕ = c.args.places in let key = c.args.board.now.key in let t = c.args.board.now.table_id in
-    (i.here, c.requires.own.1, deals g.B.Fits.is_fit g.B.Fits.log key _ _ (t, key, p, all - (p + 1), i.view ∙ ap (dealer t key p) (one_left all p c.loop-place-test.true)))
+    let i = c.loop-place.invariant in let p : ℕ = c.loop-place.place in let all : ℕ = c.args.places in let key = c.args.board.now.key in
+    (i.here, c.requires.own.1, deals g.B.Fits.is_fit key _ _ (key, p, all - (p + 1), i.view ∙ ap (dealer key p) (one_left all p c.loop-place-test.true)))
 
 pub invariant_of-push_reserved : goal.invariant_of-push_reserved
 invariant_of-push_reserved g c = grind (arith, nat_tests, one_left, seat_is)

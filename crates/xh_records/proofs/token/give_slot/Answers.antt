@@ -1,4 +1,4 @@
-use Rattle.xh_records.proofs.Common.{ℕ, ◌<◌, sym, ◌∙◌, subst, ◌∷◌, rest, View, arith, TableId, holder_of, Owns, IsLotAt, IsOwn, IsAlone}
+use Rattle.xh_records.proofs.Common.{ℕ, ◌<◌, sym, ◌∙◌, subst, ◌∷◌, rest, View, holder_of, Owns, IsLotAt, IsAlone}
 use Rattle.xh_records.proofs.Keeps.{gives_lot}
 use Rattle.xh_records.proofs.token.give_slot.Goals as goal
 
@@ -7,12 +7,10 @@ store-requires g c =
     let t = c.turn_to-k.ensures in let lot = c.requires.lot in let view = sym t.same.2 in let slot = sym c.from.ensures in (
       t.same.0 ∙ c.requires.own.0,
       subst (λ (n : ℕ). n < c.args.board.now.table_id.words) slot c.requires.own.1,
-      gives_lot g.B.Fits.is_fit g.B.Fits.log c.args.board.now.key _ _ _ _ _ c.requires.owned.0 (holder_of c.args.to) lot.0 _ c.encode-word.ensures c.requires.away.0 c.requires.away.1
+      gives_lot g.B.Fits.is_fit c.args.board.now.key _ _ _ _ _ c.requires.owned.0 (holder_of c.args.to) lot.0 _ c.encode-word.ensures c.requires.away.0 c.requires.away.1
           (t.turned.first ∙ (λ i. (slot i, lot.1 i) ∷ rest c.turn_to-k.new.token.me.1))
           (subst (λ (z : View). IsAlone z c.requires.owned.0) view c.requires.owned.1)
           (subst (λ (z : View × ℕ). Owns z.0 z.1 c.requires.owned.0) (λ i. (view i, slot i)) c.requires.owned.2)
           (subst (λ (z : View × ℕ). IsLotAt z.0.shape z.1 lot.0) (λ i. (view i, slot i)) lot.2)
-          lot.3
-          (subst (λ (z : View). 0 < z.log.words) view (subst (λ (t : TableId). 0 < t.words) (sym c.requires.log) (omega (arith, c.requires.own.1))))
-          (subst (λ (z : View). IsOwn g.B.Fits.log z.log lot.0) view lot.4),
+          lot.3,
     )

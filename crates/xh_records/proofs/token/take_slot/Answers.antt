@@ -1,4 +1,4 @@
-use Rattle.xh_records.proofs.Common.{ℕ, ◌<◌, ◌++◌, [], ◌∷◌, get_or, ap, sym, subst, ◌∙◌, Some, none, turned, holder_of, IsLotAt, Owns, gained, TellsWord, View, front_in}
+use Rattle.xh_records.proofs.Common.{ℕ, ◌<◌, ◌++◌, [], ◌∷◌, get_or, ap, sym, subst, ◌∙◌, Some, none, turned, holder_of, IsLotAt, Owns, gained}
 use Rattle.xh_records.proofs.Keeps.{takes_lot}
 use Rattle.xh_records.proofs.token.take_slot.Goals as goal
 
@@ -7,8 +7,7 @@ compare_exchange-found-requires g c =
     let there = subst (λ k. (k < c.args.board.now.table_id.words) × (k < c.args.board.now.table_id.slots)) (sym c.from-at.ensures) c.requires.inside in (
       c.requires.own,
       there.0,
-      takes_lot g.B.Fits.is_fit g.B.Fits.log c.args.board.now.key _ _ _ _ _ _ c.args.process (holder_of c.args.from) none c.encode-wanted.ensures
-          c.encode-owned.ensures c.requires.away there.1 c.requires.process,
+      takes_lot g.B.Fits.is_fit c.args.board.now.key _ _ _ _ _ _ c.args.process (holder_of c.args.from) none c.encode-wanted.ensures c.encode-owned.ensures c.requires.away there.1 c.requires.process,
     )
 
 pub returns-clause-taken : goal.returns-clause-taken
@@ -24,7 +23,4 @@ returns-clause-taken g c =
       subst (λ k. IsLotAt me.0.shape k t.0) c.from-at.ensures t.4,
       u.1,
       subst (λ k. (p : ℕ) → Owns me.0 k p → ⊥) c.from-at.ensures t.5,
-      t.6,
-      subst (λ (z : View × ℕ × ℕ). TellsWord z.0.shape.records (front_in z.0) z.1 z.2)
-          (λ i. (sym (ap (λ m. m.0) c.turn.ensures.2) i, c.from-at.ensures i, c.encode-owned.ensures i)) t.7,
     )

@@ -1,4 +1,4 @@
-use Rattle.xh_calls.proofs.Common.{FindsFull, Opens, arena_tests, at_home, length, places, rules, sym, ◌++◌, ◌≡◌}
+use Rattle.xh_calls.proofs.Common.{FindsFull, Opens, arena_tests, length, places, rules, sym, ◌++◌, ◌≡◌}
 use Rattle.xh_place.specs.Starts.{start as starts}
 use Rattle.xh_calls.proofs.Asking.{unopened}
 use Rattle.xh_calls.proofs.Moved.{lent_back}
@@ -6,8 +6,7 @@ use Rattle.xh_calls.proofs.heap.Heap.open_ends.Goals as goal
 
 pub returns-clause-opened : goal.returns-clause-opened
 returns-clause-opened g c =
-    let home = at_home c.args.place.now.place.table in
-    lent_back (λ x y. Opens c.args.arena (home c.args.low) (home c.args.high) c.args.place.now.place c.open-answer.new.self.place x y c.open-answer.result)
+    lent_back (λ x y. Opens c.args.arena c.args.low c.args.high c.args.place.now.place c.open-answer.new.self.place x y c.open-answer.result)
     c.as_mut_slice-tallies.ensures.value (search (rules, places)) c.open-answer.ensures.opened
 
 pub returns-clause-why : goal.returns-clause-why

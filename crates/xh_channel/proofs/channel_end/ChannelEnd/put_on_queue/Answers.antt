@@ -6,7 +6,6 @@ pub returns-then-not-stays_sent-clause-refused : goal.returns-then-not-stays_sen
 returns-then-not-stays_sent-clause-refused g c =
     let sent = c.in_ok-no.ensures.put in
     let went = sent.4 in
-    let notes = went.4 in
     let same = went.0.0 in
     let un = c.if-not-stays_sent.ensures in
     let ends = un.same in (
@@ -18,15 +17,5 @@ returns-then-not-stays_sent-clause-refused g c =
         λ e. un.drained ∙ went.0.4 e,
       ),
       un.state ∙ state_stays _ _ _ _ c.requires went.3,
-      inr (
-        un.pushed ∙ (went.1 ∙ ap (λ n. c.args.self.now.pushed ++ message n c.args.tag c.args.blocks ∷ []) sent.0),
-        un.closed,
-        record {
-          sent_notes = un.sent_notes _ _ notes.sent_notes;
-          pushed_notes = un.pushed_notes ∙ notes.pushed_notes;
-          got_notes = un.got_notes ∙ notes.got_notes;
-          note = un.note ∙ notes.note;
-          heard = un.heard ∙ notes.heard;
-        },
-      ),
+      inr (un.pushed ∙ (went.1 ∙ ap (λ n. c.args.self.now.pushed ++ message n c.args.tag c.args.blocks ∷ []) sent.0), un.closed),
     )

@@ -1,6 +1,5 @@
 use Rattle.xh_place.proofs.Common.{◌∙◌, arith, ◌≡◌, ◌+◌, [], ◌∷◌, ◌++◌, length, length-append, refl, ap, put_same, end_block, IsSeen, seen_wide, starts_same, starts_more}
-use Rattle.xh_place.proofs.Words.{Laid, toward_in, value_at}
-use Rattle.xh_place.proofs.Drained.{drained, drained_all, draining_at, draining_more, draining_none, draining_as, unpacks_as, Unpacking}
+use Rattle.xh_place.proofs.Drained.{drained, drained_all, draining_at, draining_more, draining_none, draining_as, takes_as}
 use Rattle.xh_place.proofs.place.Place.drain.Goals as goal
 
 pub take_message-requires-clause-end : goal.take_message-requires-clause-end
@@ -17,10 +16,8 @@ pub loop-count-preserved : goal.loop-count-preserved
 loop-count-preserved g c =
     let i = c.loop-count.invariant in let old = c.args.self.now in let mid = c.loop-count.self in let new = c.take_message.new.self in let after = c.take_message.ensures.place.3 in
     let was = draining_as (IsSeen old mid) (IsSeen old new) (seen_wide old mid old new refl (starts_same refl) after) c.args.e i.0 old.place mid.place i.1 in
-    let is = c.in-Ok.ensures.taken in let x : Laid = is.1 in
-    let wide = seen_wide mid new old new (ap (λ p. p.shape) i.1.4 ∙ ap (λ p. p.shape) i.1.2.3) i.3 (starts_same refl) x.note in
-    let t : Unpacking (IsSeen old new) c.args.e mid.place new.place _ =
-    (is.0, x, is.2, unpacks_as (IsSeen mid new x.note) (IsSeen old new x.note) wide (toward_in (value_at c.args.e mid.place.blocks)) x.message is.0 new.place _ is.3) in
+    let t = takes_as (IsSeen mid new) (IsSeen old new) (seen_wide mid new old new (ap (λ p. p.shape) i.1.4 ∙ ap (λ p. p.shape) i.1.2.3) i.3 (starts_same refl)) c.args.e mid.place new.place _
+    c.in-Ok.ensures.taken in
     let long : length (i.0 ++ t.1 ∷ []) ≡ length i.0 + 1 = length-append i.0 (t.1 ∷ []) in
     (i.0 ++ t.1 ∷ [], draining_more (IsSeen old new) c.args.e i.0 old.place mid.place was new.place _ t, omega (arith, long, i.2), starts_more old.front i.3 after)
 

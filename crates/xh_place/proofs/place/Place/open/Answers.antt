@@ -2,12 +2,7 @@ use Rattle.xh_place.proofs.Common.{rules, arith, ◌≡◌, ℕ, ◌+◌, ◌<�
 use Rattle.xh_place.proofs.Common.{first_refusal, Tests, start, SawFull, list_room, over_running, stays, total_bound, placed, untested}
 use Rattle.xh_place.specs.Vaults.{IsNoPair}
 use Rattle.xh_place.proofs.Gained.{both_listed, opened, room_second}
-use Rattle.xh_place.proofs.Words.{at_home, end_block}
 use Rattle.xh_place.proofs.place.Place.open.Goals as goal
-
-pub make_ends-requires-clause-log : goal.make_ends-requires-clause-log
-make_ends-requires-clause-log g c =
-    let own = sym (ap (λ p. p.table) (placed c.self.view_is) ∙ c.requires.at.0.0) in (ap (λ p. p.log) c.with_log-low.ensures.0 ∙ own, ap (λ p. p.log) c.with_log-low.ensures.1 ∙ own)
 
 pub push_reserved-requires : goal.push_reserved-requires
 push_reserved-requires g c =
@@ -35,15 +30,13 @@ pub returns-clause-opened : goal.returns-clause-opened
 returns-clause-opened g c =
     let k = c.in_ok-made.ensures.made in let old = c.args.self.now.place in let rs = c.self.inside.list.items in let alive = over_running c.self.inside.state (search rules) in
     let sum : c.self.inside.total + c.from-2.result ≡ c.self.inside.total + k.0.len + k.1.len = omega (arith, c.from-2.ensures, ap (λ x. x.len) k.3, ap (λ x. x.len) k.4) in
-    let home = sym c.requires.at.0.0 in
-    let low = k.3 ∙ ap end_block (c.with_log-low.ensures.0 ∙ ap (λ t. at_home t c.args.low) home) in let high = k.4 ∙ ap end_block (c.with_log-low.ensures.1 ∙ ap (λ t. at_home t c.args.high) home) in
     let both = opened rs c.self.invariant alive k.2
     (c.push_reserved-2.ensures.items ∙ ap (λ z. z ++ c.in_ok-made.made.1 ∷ []) c.push_reserved.ensures.items) (c.push_reserved-2.ensures.capacity ∙ c.push_reserved.ensures.capacity) sum in (
-      both.1 old (placed c.self.view_is) ∙ (λ i. with_blocks old (old.blocks ++ (c.in_ok-made.made.0, low i) ∷ (c.in_ok-made.made.1, high i) ∷ [])),
+      both.1 old (placed c.self.view_is) ∙ (λ i. with_blocks old (old.blocks ++ (c.in_ok-made.made.0, k.3 i) ∷ (c.in_ok-made.made.1, k.4 i) ∷ [])),
       (refl, k.2.two.first_arena),
       (refl, k.2.two.second_arena),
       c.in_ok-made.ensures.taken,
-      both_listed rs c.self.invariant alive k.2 c.push_reserved-2.new.self.items both.0 low high,
+      both_listed rs c.self.invariant alive k.2 c.push_reserved-2.new.self.items both.0 k.3 k.4,
     )
 
 pub invariant_of-self : goal.invariant_of-self

@@ -6,7 +6,7 @@ pub pass_block-len-requires : goal.pass_block-len-requires
 pass_block-len-requires c =
     let q = end_listed (value_at c.args.r c.args.self.now.place.blocks) c.requires.end in let v = placed c.self.view_is in let f = found c.self.invariant v c.args.r q.1 in
     let own = own_record c.self.invariant v c.args.records.now c.requires.own.0 c.args.r q.1 in
-    record { own = (own.0, c.requires.own.1); held = (f.lot, f.held, f.block) }
+    record { own = (own.0, own.1, c.requires.own.1); held = (f.lot, f.held, f.block.lot, f.block.full) }
 
 pub remove-requires : goal.remove-requires
 remove-requires c = list_distinct c.self.inside.list.items c.self.invariant

@@ -1,4 +1,4 @@
-use Rattle.xh_place.proofs.Common.{ap, ◌∙◌, subst, TableId, IsOf, Takes, placed, own_record, end_held, end_did, end_log, found, kind_of, takes_log}
+use Rattle.xh_place.proofs.Common.{Takes, placed, own_record, end_held, end_did}
 use Rattle.xh_place.proofs.place.Place.pop.Goals as goal
 
 pub take_at-requires : goal.take_at-requires
@@ -8,15 +8,7 @@ take_at-requires g c = let v = placed c.self.view_is in record {
 }
 
 pub invariant_of-self : goal.invariant_of-self
-invariant_of-self g c = (end_did c.self.inside.list.items c.self.invariant (placed c.self.view_is) c.args.e c.requires.end c.take_at.new.seat (Takes c.take_at.result.2 c.take_at.result.0)
-    (takes_log c.take_at.result.2 c.take_at.result.0) (λ l h. (c.take_at.ensures.seat l h).1)).0
+invariant_of-self g c = (end_did c.self.inside.list.items c.self.invariant (placed c.self.view_is) c.args.e c.requires.end c.take_at.new.seat (Takes c.take_at.result.0) (λ l h. (c.take_at.ensures.seat l h).1)).0
 
 pub returns-clause-took : goal.returns-clause-took
-returns-clause-took g c = (end_did c.self.inside.list.items c.self.invariant (placed c.self.view_is) c.args.e c.requires.end c.take_at.new.seat (Takes c.take_at.result.2 c.take_at.result.0)
-    (takes_log c.take_at.result.2 c.take_at.result.0) (λ l h. (c.take_at.ensures.seat l h).1)).1
-
-pub returns-clause-log : goal.returns-clause-log
-returns-clause-log g c =
-    let v = placed c.self.view_is in let f = found c.self.invariant v c.args.e c.requires.end.1 in
-    let end = ap (λ x. kind_of x.content) f.same ∙ c.requires.end.2 in
-    subst (λ (t : TableId). IsOf t c.take_at.result.2) (ap (λ p. p.table) v ∙ c.requires.own.0) (c.take_at.ensures.log c.self.inside.seat.table f.lot f.held (end_log f.block end))
+returns-clause-took g c = (end_did c.self.inside.list.items c.self.invariant (placed c.self.view_is) c.args.e c.requires.end c.take_at.new.seat (Takes c.take_at.result.0) (λ l h. (c.take_at.ensures.seat l h).1)).1

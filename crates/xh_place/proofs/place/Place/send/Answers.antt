@@ -3,7 +3,6 @@ use Rattle.xh_place.proofs.Common.{kind_of, there_and_back, away_in, end_block, 
 use Rattle.xh_place.proofs.Common.{Puts, all_move, heard, heard_shows, shown_keys, list_distinct, over_running, total_bound, IsNow, placed, place_gone, on_err_weaker, all_found, found, IsRecord}
 use Rattle.xh_place.proofs.Common.{PlaceOf}
 use Rattle.xh_place.proofs.Ends.{item_now, item_was}
-use Rattle.xh_place.proofs.Words.{Noted, Passed, PlaceSeen}
 use Rattle.xh_place.proofs.Givens.{given_place, passed_below, settled_same, shown_look}
 use Rattle.xh_place.proofs.place.Place.send.Goals.{After-settle}
 use Rattle.xh_place.proofs.place.Place.send.Goals as goal
@@ -24,7 +23,7 @@ went g c =
     let run : is_running c.self.inside.state ≡ true = ap (λ p. is_running p.state) v ∙ ap is_running c.requires.running in
     given_place rs (over_running c.self.inside.state run)
     (heard (there_and_back seat.process (away (item_in (value_at c.args.e seat.lots)).content) given c.give_all-put.result.back.items) c.self.invariant)
-    f.held end.3 (ap (λ z. z.len) end.2.1.3) end.1 c.requires.given.0 c.requires.given.1 held a.moved a.others a.back
+    f.held end.3 (ap (λ z. z.len) end.2.3) end.1 c.requires.given.0 c.requires.given.1 held a.moved a.others a.back
     (c.settle.ensures.items ∙ (λ i. less_all (c.as_slice.ensures.value i) (λ r. list_any (λ q. q == r) (c.as_slice-2.ensures.value i)) rs)) c.settle.ensures.room sum
 
 pub give_all-put-requires-clause-end : goal.give_all-put-requires-clause-end
@@ -56,29 +55,24 @@ returns-clause-sent g c =
     let way : d ≡ away_in (value_at c.args.e old.blocks) = ap (λ o. away (item_in o).content) f.held ∙ ap (λ x. away x.content) f.same ∙ sym (ap away_in c.requires.end.1) in
     let log : es ≡ there_and_back old.process (away_in (value_at c.args.e old.blocks)) given (keys (shown last.lots back)) =
     λ i. there_and_back (v i).process (way i) given (sym (shown_keys last.lots back) i) in
-    let note : Noted = end.2.0 in let does : Posted → Posted → Type 0 = Puts note c.args.tag c.args.given.now c.give_all-put.result.put in
-    let now : Item = end_block end.2.1.1 in let xs' : List (ℕ × Item) = put c.args.e now old.blocks in
+    let does : Posted → Posted → Type 0 = Puts c.args.tag c.args.given.now c.give_all-put.result.put in
+    let now : Item = end_block end.2.1 in let xs' : List (ℕ × Item) = put c.args.e now old.blocks in
     let blocks : settled given (λ r. item_at (value_at r last.lots)) (put c.args.e (item_of end.0) old.blocks) ≡ settled given (λ r. value_at r (shown last.lots back)) xs' =
-    ap (λ x. settled given (λ r. item_at (value_at r last.lots)) (put c.args.e x old.blocks)) (item_now does f.block end.2.1)
+    ap (λ x. settled given (λ r. item_at (value_at r last.lots)) (put c.args.e x old.blocks)) (item_now does f.block end.2)
     ∙ settled_same given (λ r. item_at (value_at r last.lots)) (λ r. value_at r (shown last.lots back)) xs' (λ r h. sym (shown_look last.lots back r (a.back.here r h))) in record {
       mid = with_blocks old xs';
       blocks = c.args.given.now;
       answered = c.give_all-put.result.put;
       back = shown last.lots back;
       all = refl;
-      records = λ r h. subst (λ (p : PlaceOf). IsRecord p.shape r) v (all_found c.self.invariant v given c.requires.listed r h).2.exists;
-      note = note;
-      noted = (
-        end.2.2 ∙ ap (λ p. p.table) v,
-        subst (λ (z : PlaceSeen). Passed z.place.process (away_in (value_at c.args.e old.blocks)) given z.front note.front) c.self.view_is
-            (subst (λ (w : ℕ). Passed seat.process w given seat.front note.front) way end.2.3),
-      );
-      made = (end.2.1.0, end.2.1.1, c.requires.end.1 ∙ ap (λ x. Some x) (sym f.same ∙ item_was does f.block end.2.1), refl, end.2.1.4);
+      made = (end.2.0, end.2.1, c.requires.end.1 ∙ ap (λ x. Some x) (sym f.same ∙ item_was does f.block end.2), refl, end.2.4);
       moved = (
         (went g (goal.at.returns-clause-sent g c).After-settle).1 (with_moved old es) (heard_shows es seat (all_move seat.process d given back) v)
             ∙ (λ i. with_moved (with_blocks old (blocks i)) (log i)),
         (λ r h. a.back.only r (subst (λ ks. Among ks r) (shown_keys last.lots back) h)),
       );
-      lost = on_err_weaker c.give_all-put.result.put (λ h r among. place_gone seat c.self.view_is last d (away_in (value_at c.args.e old.blocks)) r way (h r among)) a.left;
+      lost = on_err_weaker c.give_all-put.result.put (λ h r among missed.
+          let there = h r among (subst (λ ks. Among ks r → ⊥) (shown_keys last.lots back) missed) in
+          place_gone seat c.self.view_is last d (away_in (value_at c.args.e old.blocks)) r way there) a.missed;
       answer = subst (λ ks. Answers ks c.give_all-put.result.put c.answer.result) (sym (shown_keys last.lots back)) c.answer.ensures;
     }

@@ -31,14 +31,14 @@ module _ (g : Over) (c : After-close_with g) where
 pub unload-requires-clause-some_lot : goal.unload-requires-clause-some_lot
 unload-requires-clause-some_lot g c =
     let s = (goal.at.unload-requires-clause-some_lot g c).After-close_with in
-    λ k h. some_lot g.B.Fits.is_fit g.B.Fits.log c.self.inside.table.shared.key c.join_all-token.result.id c.join_all-token.result.me.0 (slots_items c.close_with.result.words)
+    λ k h. some_lot g.B.Fits.is_fit c.self.inside.table.shared.key c.join_all-token.result.id c.join_all-token.result.me.0 (slots_items c.close_with.result.words)
     (slots_items c.close_with.result.slots) c.args.seats.items c.join_all-token.new.held.items
     c.close_with.ensures.values.2 c.join_all-token.ensures.gathered (long g s) c.self.invariant.small (own g s) (all g s) (sized g s) k (subst (λ n. k < n) (count g s) h)
 
 pub returns : goal.returns
 returns g c =
     let s = (goal.at.returns g c).After-close_with in let key = c.self.inside.table.shared.key in
-    let done = ends g.B.Fits.is_fit g.B.Fits.log key c.join_all-token.result.id c.join_all-token.result.me.0 (slots_items c.close_with.result.words)
+    let done = ends g.B.Fits.is_fit key c.join_all-token.result.id c.join_all-token.result.me.0 (slots_items c.close_with.result.words)
     (slots_items c.close_with.result.slots) c.args.seats.items c.join_all-token.new.held.items
     c.close_with.ensures.values.2 c.join_all-token.ensures.gathered (long g s) c.self.invariant.small (own g s) (all g s) (sized g s) c.unload.result.1.items
     (c.unload.ensures.long ∙ count g s) c.unload.ensures.lots in

@@ -1,5 +1,5 @@
 use Rattle.xh_records.proofs.Common.{rules, ◌≡◌, ℕ, ◌<◌, List, [], ◌∷◌, ◌++◌, get_or, length, refl, ap, ◌∙◌, subst, Option, get_elem?, some, number_of, place_of, without, Event, holder_of, giving}
-use Rattle.xh_records.proofs.Common.{adds, lost, numbered, Holder, Me, LotOf, View, IsOwn, sym}
+use Rattle.xh_records.proofs.Common.{adds, lost, numbered, Holder, Me, LotOf, View}
 use Rattle.xh_records.specs.inner.Steps.{process_in}
 use Rattle.xh_records.proofs.History.{by_place_more}
 use Rattle.xh_records.proofs.Keeps.{giving_is}
@@ -20,8 +20,8 @@ who : {B : Type 0} {p : ℕ} (me : Me (Option (LotOf B)) View) (slot : ℕ) (h :
 who me slot h others mine = ap (λ l. (lost me.0 slot (get_or l 0 0) h others, without slot me.1)) mine
 
 -- where the lot is, and where its slot stands
-lent : (g : Over) (c : After-as_slice g) → Lent c.args.seat.now _ _ _ c.seat.inside.token.me c.seat.view_is _ _ c.seat.invariant c.slot_of-slot.result c.args.number c.requires.held.0
-lent g c = lends _ _ _ _ _ _ _ _ _ _ _ _ (spot_of _ _ _ _ _ c.seat.view_is c.args.self.now _ _ c.requires.own c.requires.exists c.slot_of-slot.ensures.index) c.requires.held.1
+lent : (g : Over) (c : After-as_slice g) → Lent c.args.seat.now _ _ _ c.seat.inside.token.me c.seat.view_is _ _ _ c.seat.invariant c.slot_of-slot.result c.args.number c.requires.held.0
+lent g c = lends _ _ _ _ _ _ _ _ _ _ _ _ _ (spot_of _ _ _ _ _ c.seat.view_is c.args.self.now _ _ c.requires.own c.requires.exists c.slot_of-slot.ensures.index) c.requires.held.1
 
 place : (g : Over) (c : After-give_slot-k g) → get_elem? c.seat.inside.order.items c.give_slot-k.result ≡ some c.slot_of-slot.result
 place g c = subst (λ z. get_elem? z c.give_slot-k.result ≡ some c.slot_of-slot.result) c.as_slice.ensures.value c.give_slot-k.ensures.place
@@ -32,12 +32,7 @@ give_slot-k-requires-clause-listed g c =
 
 pub give_slot-k-requires-clause-lot : goal.give_slot-k-requires-clause-lot
 give_slot-k-requires-clause-lot g c =
-    let h = c.requires.held in let reach = (lent g (goal.at.give_slot-k-requires-clause-lot g c).After-as_slice).reach in
-    let log = c.seat.invariant.log ∙ ap (λ z. z.table) c.seat.view_is ∙ c.requires.own.0 in
-    (h.0, reach.has, reach.lot, h.2, subst (λ t. IsOwn g.B.Fits.log t h.0) (sym log) (c.requires.log h.0 h.1))
-
-pub give_slot-k-requires-clause-log : goal.give_slot-k-requires-clause-log
-give_slot-k-requires-clause-log g c = c.seat.invariant.log ∙ ap (λ z. z.table) c.seat.view_is ∙ c.requires.own.0 ∙ sym (ap (λ r. r.table) c.self.view_is)
+    let h = c.requires.held in let reach = (lent g (goal.at.give_slot-k-requires-clause-lot g c).After-as_slice).reach in (h.0, reach.has, reach.lot, h.2)
 
 pub give_slot-k-requires-clause-owned : goal.give_slot-k-requires-clause-owned
 give_slot-k-requires-clause-owned g c =
@@ -51,7 +46,7 @@ remove-requires g c =
 
 pub invariant_of-seat : goal.invariant_of-seat
 invariant_of-seat g c =
-    seat_is _ _ _ _ _ _ _ _ _ _ refl c.remove.ensures.items c.remove.ensures.capacity c.give_slot-k.ensures.token.0
+    seat_is _ _ _ _ _ _ _ _ _ _ refl c.remove.ensures.items c.remove.ensures.capacity (ap (λ z. z.slots) c.give_slot-k.ensures.token.0)
     (c.give_slot-k.ensures.given.2 ∙ who c.seat.inside.token.me c.slot_of-slot.result (holder_of c.args.to) c.give_slot-k.ensures.given.0 c.seat.invariant.processes)
     (loses _ _ _ _ c.seat.inside.token.me c.give_slot-k.result c.slot_of-slot.result (holder_of c.args.to) c.give_slot-k.ensures.given.0 c.seat.invariant
     (place g (goal.at.invariant_of-seat g c).After-give_slot-k))
@@ -65,7 +60,7 @@ returns g c =
     let given = c.give_slot-k.ensures.given in let e = giving x.process c.args.number h in
     let whose = ap (λ z. z.process) c.seat.view_is in
     let now = given.2 ∙ who me slot h given.0 c.seat.invariant.processes in
-    lost_by x _ x.process c.args.number h (held_as x _ _ _ me c.seat.view_is _ _ c.seat.invariant _ _ c.give_slot-k.new.token.me _ given.0 (e ∷ []) _ last.0 last.1 (ap (λ m. m.0.shape) now)
+    lost_by x _ x.process c.args.number h (held_as x _ _ _ me c.seat.view_is _ _ _ c.seat.invariant _ _ c.give_slot-k.new.token.me _ given.0 (e ∷ []) _ last.0 last.1 (ap (λ m. m.0.shape) now)
     (ap (λ m. numbered m.0.shape.records m.1) now ∙ without_numbered me.0.shape c.seat.invariant.small me.1 slot c.seat.invariant.lots ∙ (λ i. without (number i) (c.seat.view_is i).lots))
     (ap (λ m. m.0.fronts) now ∙ (λ i. adds (given.0 ++ giving (whose i) (number i) h ∷ []) me.0.fronts)) given.1
     (by_place_more (place_of x.process) [] e (ap place_of (giving_is x.process c.args.number h c.requires.away.0).3)) refl)

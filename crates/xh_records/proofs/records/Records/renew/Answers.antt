@@ -12,7 +12,7 @@ load-requires g c =
     let generation : generation_of c.args.seat.now.process + 1 < GENERATIONS = c.requires.generation in (
       ap (λ h. h.table) c.seat.view_is ∙ c.requires.own.0 ∙ sym (ap (λ r. r.table) c.self.view_is),
       table.some,
-      ages g.B.Fits.is_fit c.self.inside.table.shared.key g.B.Fits.log _ _ _ c.seat.inside.process (subst (λ n. 0 < n) (table.words ∙ sym table.slots) table.some) s.processes
+      ages g.B.Fits.is_fit c.self.inside.table.shared.key _ _ _ c.seat.inside.process (subst (λ n. 0 < n) (table.words ∙ sym table.slots) table.some) s.processes
           (s.records ∙ ap (owned_by c.seat.inside.process) (s.ordered ∙ ap keys bare)) (omega arith),
     )
 

@@ -1,6 +1,4 @@
-use Rattle.xh_records.proofs.Common.{rules, ◌≡◌, ℕ, ◌<◌, length, refl, sym, ap, ◌∙◌, subst, [], ◌∷◌, ◌++◌, vec_capacity, number_of, place_of, holder_of}
-use Rattle.xh_records.proofs.Common.{taking, adds, numbered, Some, TableId, LotOf, IsOwn, value_at, Shape, Process, TellsWord, front_in, word_of}
-use Rattle.xh_model.proofs.Keyed.{last_at}
+use Rattle.xh_records.proofs.Common.{rules, ◌≡◌, ℕ, ◌<◌, length, refl, sym, ap, ◌∙◌, subst, [], ◌∷◌, ◌++◌, vec_capacity, number_of, place_of, holder_of, taking, adds, numbered}
 use Rattle.xh_records.proofs.History.{by_place_more}
 use Rattle.xh_records.proofs.Keeps.{taking_is}
 use Rattle.xh_records.proofs.Seating.{not_among, has_room, gains, seat_is}
@@ -30,7 +28,7 @@ invariant_of-seat g c =
     let slot : ℕ = c.slot_of-slot.result in
     let t = c.in-Ok.ensures.taken in
     let within = inside g (goal.at.invariant_of-seat g c).After-take_slot in
-    seat_is _ _ _ _ _ _ _ _ _ _ refl c.push_reserved.ensures.items c.push_reserved.ensures.capacity c.take_slot.ensures.same.0 t.2
+    seat_is _ _ _ _ _ _ _ _ _ _ refl c.push_reserved.ensures.items c.push_reserved.ensures.capacity (ap (λ z. z.slots) c.take_slot.ensures.same.0) t.2
     (gains _ _ _ _ _ slot t.0 (holder_of c.args.from) t.1 c.seat.invariant within t.4 t.6)
 
 pub returns-in-Ok-clause-taken : goal.returns-in-Ok-clause-taken
@@ -44,12 +42,10 @@ returns-in-Ok-clause-taken g c =
     let e = taking x.process c.args.number h in
     let who = ap (λ z. z.process) c.seat.view_is in
     gained_by x _ x.process c.args.number h _ t.0 (lot_back x _ _ _ me c.seat.view_is slot c.args.number t.0 here.at here.below t.4) t.5
-    (held_as x _ _ _ me c.seat.view_is _ _ c.seat.invariant _ _ c.take_slot.new.token.me _ t.1 (e ∷ []) _ c.take_slot.ensures.same.0 c.take_slot.ensures.same.1 (ap (λ m. m.0.shape) t.2)
+    (held_as x _ _ _ me c.seat.view_is _ _ _ c.seat.invariant _ _ c.take_slot.new.token.me _ t.1 (e ∷ []) _ c.take_slot.ensures.same.0 c.take_slot.ensures.same.1 (ap (λ m. m.0.shape) t.2)
     (ap (λ m. numbered m.0.shape.records m.1) t.2 ∙ numbered_push me.0.shape.records me.1 slot t.0 ∙ (λ i. (c.seat.view_is i).lots ++ (number i, t.0) ∷ []))
     (ap (λ m. m.0.fronts) t.2 ∙ (λ i. adds (t.1 ++ taking (who i) (number i) h ∷ []) me.0.fronts)) t.3
     (by_place_more (place_of x.process) [] e (ap place_of (taking_is x.process c.args.number h c.requires.away).3)) refl)
-    (subst (λ (z : Shape × ℕ × ℕ). TellsWord z.0.records (front_in c.take_slot.new.token.me.0) z.1 (word_of (Some (Process z.2))))
-    (λ i. ((ap (λ m. m.0.shape) t.2 ∙ ap (λ z. z.shape) c.seat.view_is) i, here.at i, who i)) t.8)
 
 pub returns-in-Ok-clause-fresh : goal.returns-in-Ok-clause-fresh
 returns-in-Ok-clause-fresh g c =
@@ -57,22 +53,12 @@ returns-in-Ok-clause-fresh g c =
     let x = c.args.seat.now in let me = c.seat.inside.token.me in
     let t = c.in-Ok.ensures.taken in
     let at = (spot g (goal.at.returns-in-Ok-clause-fresh g c).After-take_slot).at in
-    fresh x _ _ _ me c.seat.view_is _ _ c.seat.invariant slot c.args.number at (not_among _ _ _ _ me slot c.seat.invariant t.6)
+    fresh x _ _ _ me c.seat.view_is _ _ _ c.seat.invariant slot c.args.number at (not_among _ _ _ _ me slot c.seat.invariant t.6)
 
 pub returns-in-Err-clause-missed : goal.returns-in-Err-clause-missed
 returns-in-Err-clause-missed g c =
     let same = c.take_slot.ensures.same in let m = c.in-Err.ensures.missed in (
       m.0,
-      held_seen c.args.seat.now _ _ _ c.seat.inside.token.me c.seat.view_is _ _ c.seat.invariant _ _ _ _ c.args.number c.in-Err.word same.0 same.1
+      held_seen c.args.seat.now _ _ _ c.seat.inside.token.me c.seat.view_is _ _ _ c.seat.invariant _ _ _ _ c.args.number c.in-Err.word same.0 same.1
           (spot g (goal.at.returns-in-Err-clause-missed g c).After-take_slot).at m.1,
     )
-
-pub returns-in-Ok-clause-log : goal.returns-in-Ok-clause-log
-returns-in-Ok-clause-log g c = λ l has.
-    let x = c.args.seat.now in let me = c.seat.inside.token.me in let t = c.in-Ok.ensures.taken in
-    let here = spot g (goal.at.returns-in-Ok-clause-log g c).After-take_slot in
-    let lots = ap (λ m. numbered m.0.shape.records m.1) t.2 ∙ numbered_push me.0.shape.records me.1 c.slot_of-slot.result t.0 ∙ (λ i. (c.seat.view_is i).lots ++ (here.number i, t.0) ∷ []) in
-    let new = fresh x _ _ _ me c.seat.view_is _ _ c.seat.invariant c.slot_of-slot.result c.args.number here.at (not_among _ _ _ _ me c.slot_of-slot.result c.seat.invariant t.6) in
-    let same : Some t.0 ≡ Some l = sym (last_at c.args.number t.0 x.lots new) ∙ ap (value_at c.args.number) (sym lots) ∙ has in
-    let is : t.0 ≡ l = cc in
-    subst (λ (z : TableId × LotOf g.row.B.Denot). IsOwn g.B.Fits.log z.0 z.1) (λ i. ((c.seat.invariant.log ∙ ap (λ h. h.table) c.seat.view_is ∙ c.requires.own.0) i, is i)) t.7

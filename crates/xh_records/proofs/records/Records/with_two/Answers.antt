@@ -8,22 +8,22 @@ use Rattle.xh_records.proofs.records.Records.with_two.Goals.{After-as_slice-orde
 use Rattle.xh_records.proofs.records.Records.with_two.Goals as goal
 
 -- where the lots are
-both : (g : Over) (c : After-as_slice-order g) → LentBoth c.args.seat.now _ _ _ c.seat.inside.token.me c.seat.view_is _ _ c.seat.invariant c.slot_of-i.result c.slot_of-j.result c.args.first
+both : (g : Over) (c : After-as_slice-order g) → LentBoth c.args.seat.now _ _ _ c.seat.inside.token.me c.seat.view_is _ _ _ c.seat.invariant c.slot_of-i.result c.slot_of-j.result c.args.first
     c.args.second c.requires.held.0 c.requires.held.1
-both g c = lends_both _ _ _ _ _ _ _ _ _ _ _ _ _ _ _
+both g c = lends_both _ _ _ _ _ _ _ _ _ _ _ _ _ _ _ _
     (spot_of _ _ _ _ _ c.seat.view_is c.args.self.now _ _ c.requires.own c.requires.exists.0 c.slot_of-i.ensures.index)
     (spot_of _ _ _ _ _ c.seat.view_is c.args.self.now _ _ c.requires.own c.requires.exists.1 c.slot_of-j.ensures.index)
     c.requires.exists.2 c.requires.held.2 c.requires.held.3
 
 -- the first lot lies in its slot, and the second is the one that was taken out
-here : (g : Over) (c : After-slot_mut g) → LentBoth c.args.seat.now _ _ _ c.seat.inside.token.me c.seat.view_is _ _ c.seat.invariant c.slot_of-i.result c.slot_of-j.result c.args.first
+here : (g : Over) (c : After-slot_mut g) → LentBoth c.args.seat.now _ _ _ c.seat.inside.token.me c.seat.view_is _ _ _ c.seat.invariant c.slot_of-i.result c.slot_of-j.result c.args.first
     c.args.second c.requires.held.0 c.requires.held.1 → c.slot_mut.result.now ≡ Some c.requires.held.0
 here g c b = grind (arith, nat_tests, first_is, slot_other)
 
 is_left : (g : Over) (c : In-Some g) → c.slot_mut.result.now ≡ Some c.requires.held.0 → c.in-Some.left ≡ c.requires.held.0
 is_left g c has = let same : Some c.in-Some.left ≡ Some c.requires.held.0 = sym c.in-Some.is ∙ has in cc
 
-is_also : (g : Over) (c : In-Some g) → LentBoth c.args.seat.now _ _ _ c.seat.inside.token.me c.seat.view_is _ _ c.seat.invariant c.slot_of-i.result c.slot_of-j.result c.args.first
+is_also : (g : Over) (c : In-Some g) → LentBoth c.args.seat.now _ _ _ c.seat.inside.token.me c.seat.view_is _ _ _ c.seat.invariant c.slot_of-i.result c.slot_of-j.result c.args.first
     c.args.second c.requires.held.0 c.requires.held.1 → c.unwrap-also.result ≡ c.requires.held.1
 is_also g c b = let same : Some c.unwrap-also.result ≡ Some c.requires.held.1 = sym c.unwrap-also.ensures ∙ c.swap_slot.ensures.value ∙ b.two.reach.has in cc
 
@@ -33,7 +33,7 @@ left_in : (g : Over) (c : After-turn_by g)
 left_in g c = grind (arith, nat_tests)
 
 -- what was lent, and the seat afterwards
-module _ (g : Over) (c : After-swap_slot-2 g) (b : LentBoth c.args.seat.now _ _ _ c.seat.inside.token.me c.seat.view_is _ _ c.seat.invariant c.slot_of-i.result c.slot_of-j.result c.args.first
+module _ (g : Over) (c : After-swap_slot-2 g) (b : LentBoth c.args.seat.now _ _ _ c.seat.inside.token.me c.seat.view_is _ _ _ c.seat.invariant c.slot_of-i.result c.slot_of-j.result c.args.first
     c.args.second c.requires.held.0 c.requires.held.1) (left : c.in-Some.left ≡ c.requires.held.0) (also : c.unwrap-also.result ≡ c.requires.held.1)
     (now : c.turn_by.new.token.me ≡ (c.seat.inside.token.me.0, put c.slot_of-i.result (Some c.call_at_two-answer.new.x) (put c.slot_of-j.result None c.seat.inside.token.me.1))) where
   called : CalledAtPairMut g.F.FnMut c.args.f.now c.requires.held.0 c.requires.held.1 c.call_at_two-answer.result c.call_at_two-answer.new.f c.call_at_two-answer.new.x c.call_at_two-answer.new.y
@@ -85,9 +85,9 @@ invariant_of-seat g c =
     let at = goal.at.invariant_of-seat g c in let s = at.After-swap_slot-2 in let b = both g at.After-as_slice-order in
     let left = is_left g at.In-Some (here g at.After-slot_mut b) in let also = is_also g at.In-Some b in let now = left_in g at.After-turn_by in
     let good = c.requires.held.5 _ _ _ _ (called g s b left also now) in
-    seat_is _ _ _ _ _ _ _ _ _ _ refl refl refl
-    (c.swap_slot-2.ensures.token.0 ∙ c.turn_by.ensures.0 ∙ c.turn_to-k.ensures.same.0 ∙ c.swap_slot.ensures.token.0) (last g s b left also now)
-    (kept_two _ _ _ _ _ c.seat.view_is _ _ c.seat.invariant _ _ _ _ _ _ _ _ b.one b.two good.0 good.1)
+    seat_is _ _ _ _ _ _ _ _ _ _ refl refl refl (ap (λ z. z.slots) (c.swap_slot-2.ensures.token.0 ∙ c.turn_by.ensures.0 ∙ c.turn_to-k.ensures.same.0
+    ∙ c.swap_slot.ensures.token.0)) (last g s b left also now)
+    (kept_two _ _ _ _ _ c.seat.view_is _ _ _ c.seat.invariant _ _ _ _ _ _ _ _ b.one b.two good.0 good.1)
 
 pub returns : goal.returns
 returns g c =
@@ -103,5 +103,5 @@ returns g c =
       c.requires.held.2,
       c.requires.held.3,
       called g s b left also now,
-      after_two _ _ _ _ _ c.seat.view_is _ _ c.seat.invariant _ _ c.swap_slot-2.new.token.me _ _ _ _ _ _ _ _ b.one b.two good.0 table id (last g s b left also now),
+      after_two _ _ _ _ _ c.seat.view_is _ _ _ c.seat.invariant _ _ c.swap_slot-2.new.token.me _ _ _ _ _ _ _ _ b.one b.two good.0 table id (last g s b left also now),
     )

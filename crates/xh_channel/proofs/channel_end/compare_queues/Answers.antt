@@ -1,6 +1,6 @@
 use Rattle.xh_channel.proofs.Common.{AgreesWith, Posted, ap, rules, subst, ◌∙◌}
 use Rattle.xh_channel.proofs.Ends.{agrees}
-use Rattle.xh_channel.proofs.channel_end.pair.compare_queues.Goals as goal
+use Rattle.xh_channel.proofs.channel_end.compare_queues.Goals as goal
 
 pub returns-clause-agree : goal.returns-clause-agree
 returns-clause-agree c =
@@ -13,6 +13,6 @@ returns-clause-agree c =
     let x = one.inside in
     let y = other.inside in
     subst (λ (z : Posted × Posted). AgreesWith z.0 z.1 × AgreesWith z.1 z.0) (λ i. (one.view_is i, other.view_is i)) (
-      agrees x.spot y.spot _ _ x.sender y.sender x.receiver y.receiver x.word y.word _ _ x.line y.line _ _ _ _ a b second.grows.1 first.grows.0 second.prefix one.invariant.all_sent c.agree.ensures.shut,
-      agrees y.spot x.spot _ _ y.sender x.sender y.receiver x.receiver y.word x.word _ _ y.line x.line _ _ _ _ b a first.grows.1 second.grows.0 first.prefix other.invariant.all_sent (search rules),
+      agrees x.spot y.spot _ _ x.sender y.sender x.receiver y.receiver x.word y.word _ _ x.line y.line a b second.grows.1 first.grows.0 second.prefix one.invariant.all_sent c.agree.ensures.shut,
+      agrees y.spot x.spot _ _ y.sender x.sender y.receiver x.receiver y.word x.word _ _ y.line x.line b a first.grows.1 second.grows.0 first.prefix other.invariant.all_sent (search rules),
     )
