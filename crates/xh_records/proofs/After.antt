@@ -1,6 +1,6 @@
 -- What is done on the ownership is what the core's events do.
 use Rattle.xh_records.proofs.Common.{arith, nat_tests, ◌≡◌, ℕ, eq-eqb, ◌%◌, ◌<◌, Bool, true, cond, length, set, refl, ap, ◌∙◌, Option, None, ◌==◌, Holder, Event, Claim, Carve, Cut, GiveBack}
-use Rattle.xh_records.proofs.Common.{Vacate, Pass, Accept, index_of, AreOwners, Ownership, IsHeldBy, IsHolder, IsDone, record_of, from_of, to_of, Wants, IsAfter}
+use Rattle.xh_records.proofs.Common.{Vacate, Pass, Accept, index_of, AreOwners, Ownership, IsHeldBy, IsHolder, IsDone, record_of, from_of, to_of, Wants, IsAfter, LeadsOnStores, LeadsTo, List, [], ◌∷◌}
 use Rattle.std.proofs.lemmas.Bool.{lt-ltb}
 use Rattle.xh_model.specs.Store.{Store, owner, arena_of, len, can, change, after}
 use Rattle.xh_model.proofs.Slots.{assigned}
@@ -33,5 +33,9 @@ changed : (n : ℕ) (o : Ownership) (e : Event) (m : Store) → record_of e % 25
 changed n o e m there inside known w wants = grind (arith, nat_tests, assigned)
 
 -- what is done on the ownership is the event
-pub done_after : (n : ℕ) (o o' : Ownership) (e : Event) → record_of e % 256 < n → IsHolder (to_of e) → IsDone n o e o' → IsAfter n o e o'
+done_after : (n : ℕ) (o o' : Ownership) (e : Event) → record_of e % 256 < n → IsHolder (to_of e) → IsDone n o e o' → IsAfter n o e o'
 done_after n o o' e there good done m w each known wants = grind (arith, nat_tests, can_be_done, in_range, does, changed)
+
+pub on_stores : (n : ℕ) (o : Ownership) (log : List Event) (o' : Ownership) → LeadsTo n o log o' → LeadsOnStores n o log o'
+on_stores n o [] o' leads = leads
+on_stores n o (e ∷ es) o' leads = (leads.0, leads.1, done_after n o leads.0 e leads.2.0 leads.2.1 leads.1, on_stores n leads.0 es o' leads.3)

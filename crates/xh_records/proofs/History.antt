@@ -1,14 +1,14 @@
 -- The log of all events, as it grows, and the views' fronts.
 use Rattle.xh_records.proofs.Common.{nat_tests, ◌≡◌, ℕ, ◌<◌, ◌≢◌, Bool, List, [], ◌∷◌, ◌++◌, length, set, get_or, sym, refl, ap, ◌∙◌, subst, inl, inr, eq-eqb, ne_eqb, cond, arith, append_assoc}
-use Rattle.xh_records.proofs.Common.{append-nil, mod-lt, some, get_elem?, at_set, Event, Ownership, IsDone, place_of, Among, among_either, Shape, View, IsAfter, Grows, IsOneLog, LeadsTo}
+use Rattle.xh_records.proofs.Common.{append-nil, mod-lt, some, get_elem?, at_set, Event, Ownership, IsDone, place_of, Among, among_either, Shape, View, IsInside, Grows, IsOneLog, LeadsTo}
 use Rattle.xh_records.proofs.Common.{StartsWith, all_free, by_place, process_of, Sits, ViewTells, IsHistory, IsOthers, IsAlone, adds, first_front, front_in, no_events, tail_of}
 use Rattle.xh_records.proofs.Elements.{either_way, only_one}
 use Rattle.xh_records.specs.inner.Steps.{process_in}
 
 -- one more event
-pub leads_more : (n : ℕ) (o m o' : Ownership) (log : List Event) (e : Event) → LeadsTo n o log m → IsDone n m e o' → IsAfter n m e o' → LeadsTo n o (log ++ e ∷ []) o'
-leads_more n o m o' [] e leads done after = (o', subst (λ (z : Ownership). IsDone n z e o') leads done, subst (λ (z : Ownership). IsAfter n z e o') leads after, refl)
-leads_more n o m o' (x ∷ xs) e leads done after = (leads.0, leads.1, leads.2, leads_more n leads.0 m o' xs e leads.3 done after)
+pub leads_more : (n : ℕ) (o m o' : Ownership) (log : List Event) (e : Event) → LeadsTo n o log m → IsDone n m e o' → IsInside n e → LeadsTo n o (log ++ e ∷ []) o'
+leads_more n o m o' [] e leads done inside = (o', subst (λ (z : Ownership). IsDone n z e o') leads done, inside, refl)
+leads_more n o m o' (x ∷ xs) e leads done inside = (leads.0, leads.1, leads.2, leads_more n leads.0 m o' xs e leads.3 done inside)
 
 cond_append : (b : Bool) (x : Event) (l m : List Event) → cond b (x ∷ (l ++ m)) (l ++ m) ≡ cond b (x ∷ l) l ++ m
 cond_append b x l m = grind (arith, nat_tests)
@@ -93,10 +93,10 @@ tells_others log u e tells apart = record {
 
 -- one more event, by the seat id
 pub more_history : (s : Shape) (o o' : Ownership) (views : List View) (log : List Event) (id : ℕ) (w : View) (e : Event) → IsHistory s o views log → IsDone s.records o e o'
-    → IsAfter s.records o e o' → length o' ≡ length o → place_of (process_of e) < s.places → Sits w (process_of e) → w.fronts ≡ (place_of (process_of e), log ++ e ∷ []) ∷ []
+    → IsInside s.records e → length o' ≡ length o → place_of (process_of e) < s.places → Sits w (process_of e) → w.fronts ≡ (place_of (process_of e), log ++ e ∷ []) ∷ []
     → ((j p : ℕ) (u : View) → j ≢ id → get_elem? views j ≡ some u → Sits u p → place_of (process_of e) ≢ place_of p) → IsHistory s o' (set views id w) (log ++ e ∷ [])
-more_history s o o' views log id w e old done after long inside sits one apart = record {
-  leads = subst (λ (n : ℕ). LeadsTo s.records (all_free n) (log ++ e ∷ []) o') (sym long) (leads_more s.records (all_free (length o)) o o' log e old.leads done after);
+more_history s o o' views log id w e old done there long inside sits one apart = record {
+  leads = subst (λ (n : ℕ). LeadsTo s.records (all_free n) (log ++ e ∷ []) o') (sym long) (leads_more s.records (all_free (length o)) o o' log e old.leads done there);
   theirs = λ x there. either_way (among_either log (e ∷ []) x there) (λ a. old.theirs x a) (λ b. subst (λ (z : Event). place_of (process_of z) < s.places) (sym (only_one b)) inside);
   tells = λ j u there. either_way (at_set views id j w u there) (λ t. subst (ViewTells (log ++ e ∷ [])) t.1 (tells_all (log ++ e ∷ []) w (process_of e) sits one))
       (λ t. tells_others log u e (old.tells j u t.1) (λ p sits. apart j p u t.0 t.1 sits));

@@ -10,7 +10,6 @@ use mathlib.Core.Option as maybe
 use lib.Seq.{map-set}
 use Rattle.xh_records.proofs.History.{Unseen, more_history, one_log, tells_all, unseen}
 use Rattle.xh_records.proofs.Cuts.{sat, shares_out, stands, still_seated}
-use Rattle.xh_records.proofs.After.{done_after}
 use Rattle.xh_records.proofs.Elements.{either_way, in_range, is_there, nth_is, only_one}
 use prog.Atomic.{either}
 
@@ -95,7 +94,7 @@ module _ {B : Type 0} (fits : B → ℕ → Bool) (s : Shape) (o : Ownership) (w
     views_fit = λ j u there. either_way (at_set vs id j w u there) (λ t. subst (ViewFits s o') t.1 mine_fits) (λ t. others_fit j u t.0 t.1);
     small = shown.small;
     log = shown.log ++ e ∷ [];
-    history = more_history s o o' vs shown.log id w e shown.history done (done_after s.records o o' e by.inside (subst IsHolder (sym by.to) good) done) (length-set o r k)
+    history = more_history s o o' vs shown.log id w e shown.history done (by.inside, subst IsHolder (sym by.to) good) (length-set o r k)
         (shown.inside id (process_of e) v at by.sits).0 (sits (process_of e) by.sits) by.front elsewhere;
   }
 

@@ -1,19 +1,23 @@
 -- The events on the records of a table, in their order.
-use Rattle.std.specs.Prelude.{◌≡◌, ◌⊎◌, ℕ, List, [], ◌∷◌, ◌++◌, ◌==◌, cond, length, replicate, None, Option}
+use Rattle.std.specs.Prelude.{◌≡◌, ◌⊎◌, ℕ, ◌%◌, ◌<◌, List, [], ◌∷◌, ◌++◌, ◌==◌, cond, length, replicate, None, Option}
 use Rattle.xh_model.specs.declared.event.Event.{Event}
 use Rattle.xh_model.specs.declared.event.Event.TheVariants.{Claim, Carve, Cut, GiveBack, Vacate, Pass, Accept}
 use Rattle.xh_model.specs.declared.event.Holder.{Holder}
-use Rattle.xh_model.specs.Words.{Ownership, IsDone, IsHeldBy, place_of, word_of}
-use Rattle.xh_records.specs.After.{IsAfter}
+use Rattle.xh_model.specs.declared.limits.TheConstants.{MAX_RECORDS}
+use Rattle.xh_model.specs.Words.{Ownership, IsDone, IsHeldBy, IsHolder, place_of, record_of, to_of, word_of}
 
 -- no record of n is held
 abbrev pub all_free : ℕ → Ownership
 all_free n = replicate n None
 
--- the events, in this order, lead from the ownership o to o', with n records in an arena, each also by the meaning that it has in the core
+-- an arena of n records has the event's record, and who has it then is a holder
+abbrev pub IsInside : ℕ → Event → Type 0
+IsInside n e = (record_of e % MAX_RECORDS < n) × IsHolder (to_of e)
+
+-- the events, in this order, lead from the ownership o to o', with n records in an arena
 abbrev pub LeadsTo : ℕ → Ownership → List Event → Ownership → Type 0
 LeadsTo n o [] o' = o' ≡ o
-LeadsTo n o (e ∷ es) o' = (m : Ownership) × IsDone n o e m × IsAfter n o e m × LeadsTo n m es o'
+LeadsTo n o (e ∷ es) o' = (m : Ownership) × IsDone n o e m × IsInside n e × LeadsTo n m es o'
 
 -- the process of an event
 abbrev pub process_of : Event → ℕ

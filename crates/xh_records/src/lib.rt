@@ -2,6 +2,7 @@
 #![tactic(auto)]
 
 mod closing;
+mod laws;
 mod lending;
 mod making;
 mod plays;
@@ -15,6 +16,7 @@ mod token;
 mod view;
 mod word;
 
+pub use laws::events_are_the_cores;
 pub use records::Records;
 pub use refused::Refused;
 pub use seat::Seat;

@@ -1,4 +1,4 @@
-ghost use Rattle.std.specs.Prelude.{◌≡◌, ◌≢◌, ℕ, ◌+◌, ◌*◌, ◌/◌, ◌%◌, ◌<◌, ◌≤◌, [], ◌∷◌, ◌++◌, length, slice_get, slice_index, Some, IfOk, IfErr, OnErr, OnOk, MatchBool};
+ghost use Rattle.std.specs.Prelude.{◌≡◌, ◌≢◌, ℕ, ◌+◌, ◌*◌, ◌/◌, ◌%◌, ◌<◌, ◌≤◌, [], ◌∷◌, ◌++◌, length, slice_get, slice_index, None, Some, IfOk, IfErr, OnErr, OnOk, MatchBool};
 ghost use mathlib.Core.Option.{none};
 ghost use Rattle.xh_arena.specs.Views.{LotOf};
 ghost use Rattle.xh_model.specs.declared.event.Event.TheVariants.{Claim, Vacate, Pass, Accept};
@@ -163,28 +163,22 @@ impl<B: Fits + Drop> Records<B> {
         seat.order.remove(k);
     }
 
-    // One compare on each record of the arena, up to the first that it finds free. The error has the words that it found.
+    // Takes a record that it finds free, and whose word is at this slot. The error is the word that it found, which isn't that of a free record. A look at a record that is taken costs
+    // much less than a compare.
     #[inline(always)]
-    fn claim_seen(&self, seat: &mut Seat<B>, arena: u8) -> Result<u16, Seen>
+    fn claim_at(&self, seat: &mut Seat<B>, slot: u16, number: u16) -> Result<(), u64>
         requires own { IsSeatOf self.now seat.old }
-        requires arena { arena < length self.now.shape.names }
-        ensures record { IfOk result (λ r. (r / MAX_RECORDS ≡ arena) × (r % MAX_RECORDS < self.now.shape.records)) }
-        ensures claimed { IfOk result (λ r. HasGained (Claim seat.old.process r) (IsEmpty B.is_fit) seat.old seat.new) }
-        ensures fresh { IfOk result (λ r. Among (keys seat.old.lots) r → ⊥) }
-        ensures seen { IfErr result (λ s. SawTaken arena s.words.items seat.old seat.new) }
-        ensures missed { OnErr result (HasLooked seat.old seat.new) }
+        requires exists { IsRecord self.now.shape number }
+        requires at { (slot ≡ index_of self.now.shape.records number) × (slot < self.now.table.words) × (slot < self.now.table.slots) }
+        ensures claimed { OnOk result (HasGained (Claim seat.old.process number) (IsEmpty B.is_fit) seat.old seat.new) }
+        ensures fresh { OnOk result (Among (keys seat.old.lots) number → ⊥) }
+        ensures missed { IfErr result (λ word. HasMissed None number word seat.old seat.new) }
     {
-        let mut seen = Seen {
-            words: ArrayVec::new(),
-        };
-        for index in 0..self.records {
-            let number = number_at(arena, index);
-            match self.take(seat, number, OwnerWord::Free) {
-                Ok(()) => return Ok(number),
-                Err(word) => seen.words.push(word),
-            }
+        let word = self.word_at(seat, slot, number);
+        if word != OwnerWord::Free.encode() {
+            return Err(word);
         }
-        Err(seen)
+        self.take(seat, number, OwnerWord::Free)
     }
 
     /// Takes the first record of the arena that it finds free, from index 0 on. Its lot is empty: no
@@ -200,17 +194,19 @@ impl<B: Fits + Drop> Records<B> {
         ensures seen { IfErr result (λ s. SawTaken arena s.words.items seat.old seat.new) }
         ensures missed { OnErr result (HasLooked seat.old seat.new) }
     {
-        // A look at a record that is taken costs much less than a compare.
-        for index in 0..self.records {
+        let mut seen = Seen {
+            words: ArrayVec::new(),
+        };
+        let records = self.records;
+        let first = self.slot_of(number_at(arena, 0));
+        for index in 0..records {
             let number = number_at(arena, index);
-            if self.owner_word(seat, number) != OwnerWord::Free.encode() {
-                continue;
-            }
-            if let Ok(()) = self.take(seat, number, OwnerWord::Free) {
-                return Ok(number);
+            match self.claim_at(seat, first + index, number) {
+                Ok(()) => return Ok(number),
+                Err(word) => seen.words.push(word),
             }
         }
-        self.claim_seen(seat, arena)
+        Err(seen)
     }
 
     /// Takes a record that is in flight on the direction (0 to 127). The error is the word that it
@@ -247,6 +243,18 @@ impl<B: Fits + Drop> Records<B> {
         self.give(seat, number, OwnerWord::Free);
     }
 
+    // The word at a slot, which is the record's.
+    #[inline(always)]
+    fn word_at(&self, seat: &mut Seat<B>, slot: u16, number: u16) -> u64
+        requires own { IsSeatOf self.now seat.old }
+        requires exists { IsRecord self.now.shape number }
+        requires at { (slot ≡ index_of self.now.shape.records number) × (slot < self.now.table.words) × (slot < self.now.table.slots) }
+        ensures { HasSeen number result seat.old seat.new }
+    {
+        let board = &self.table.shared;
+        board.load::<Looks>(&mut seat.token, usize::from(slot))
+    }
+
     /// A record's word at one moment, by any seat: `OwnerWord::decode` says what it means. It names the
     /// seat's own process exactly where the seat holds the record.
     pub fn owner_word(&self, seat: &mut Seat<B>, number: u16) -> u64
@@ -254,9 +262,8 @@ impl<B: Fits + Drop> Records<B> {
         requires exists { IsRecord self.now.shape number }
         ensures { HasSeen number result seat.old seat.new }
     {
-        let board = &self.table.shared;
         let slot = self.slot_of(number);
-        board.load::<Looks>(&mut seat.token, usize::from(slot))
+        self.word_at(seat, slot, number)
     }
 
     /// The seat, which holds no record, stands for the next generation of its place, at most 127. The

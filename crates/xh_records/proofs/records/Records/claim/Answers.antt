@@ -1,30 +1,53 @@
-use Rattle.xh_records.proofs.Common.{Claim, IsEmpty}
-use Rattle.std.proofs.lemmas.Result.{IfOk-weaker, IfErr-weaker}
-use Rattle.xh_records.proofs.Looks.{looks_on, gains_on, saw_on}
+use Rattle.xh_records.proofs.Common.{arith, ◌≡◌, ◌≢◌, ℕ, List, ◌+◌, ◌*◌, ◌<◌, ◌≤◌, ◌∙◌, length, get_or, subst, sym, ap, length-append, Event, Claim, StartsWith, IsEmpty, Held, HasFound}
+use Rattle.xh_records.proofs.History.{starts_itself, starts_twice}
+use Rattle.xh_records.proofs.Lists.{seen_more}
+use Rattle.xh_records.proofs.Looks.{looks_on, gains_on, starts_on, found_on}
 use Rattle.xh_records.proofs.records.Records.claim.Goals as goal
 
-pub loop-index-preserved-then-owner_word-encode : goal.loop-index-preserved-then-owner_word-encode
-loop-index-preserved-then-owner_word-encode g c = record { looked = looks_on c.args.seat.now c.loop-index.seat c.loop-index.invariant.looked c.owner_word.new.seat c.owner_word.ensures.1 }
+-- what is kept of a word that was seen at the index k
+abbrev Saw : {B : Type 0} → Held B → List Event → ℕ → ℕ → Type 0
+Saw x now k word = (word ≢ 0) × (front : List Event) × StartsWith front x.front × StartsWith now front × HasFound k word x front
 
 pub returns-in-Ok-clause-claimed : goal.returns-in-Ok-clause-claimed
-returns-in-Ok-clause-claimed g c =
-    let look = looks_on c.args.seat.now c.loop-index.seat c.loop-index.invariant.looked c.owner_word.new.seat c.owner_word.ensures.1 in
-    gains_on c.args.seat.now c.owner_word.new.seat look (λ p. Claim p c.number_at-number.result) (IsEmpty g.B.Fits.is_fit) c.take.new.seat c.in-Ok.ensures.taken
+returns-in-Ok-clause-claimed g c = gains_on c.args.seat.now c.loop-index.seat c.loop-index.invariant.looked (λ p. Claim p c.number_at-number.result)
+    (IsEmpty g.B.Fits.is_fit) c.claim_at.new.seat c.in-Ok.ensures.claimed
 
 pub loop-index-preserved : goal.loop-index-preserved
 loop-index-preserved g c =
-    let look = looks_on c.args.seat.now c.loop-index.seat c.loop-index.invariant.looked c.owner_word.new.seat c.owner_word.ensures.1 in
-    record { looked = looks_on c.args.seat.now c.owner_word.new.seat look c.take.new.seat c.in_default.ensures.missed.1.1 }
-
-pub returns-clause-claimed : goal.returns-clause-claimed
-returns-clause-claimed g c =
-    IfOk-weaker c.claim_seen.result _ _ (λ r gained. gains_on c.args.seat.now c.loop-index.seat c.loop-index.invariant.looked (λ p. Claim p r)
-    (IsEmpty g.B.Fits.is_fit) c.claim_seen.new.seat gained) c.claim_seen.ensures.claimed
+    let i = c.loop-index.invariant in
+    let miss = c.in-Err.ensures.missed in
+    let x = c.args.seat.now in let y = c.loop-index.seat in let z = c.claim_at.new.seat in
+    let n : ℕ = c.args.self.now.shape.records in
+    let words = c.loop-index.seen.words.items in
+    let long : length words ≡ c.loop-index.index = i.long in
+    let at = c.number_at-number.ensures in
+    let each = ap (λ h. h.shape.records) i.looked.0 ∙ ap (λ s. s.records) c.requires.own.1 in
+    let later = starts_on y z miss.1.1 z.front (starts_itself z.front) in
+    let found = subst (λ k. HasFound k c.in-Err.word x z.front) (λ j. at.0 j * each j + (at.1 ∙ sym long) j) (found_on x y i.looked _ c.in-Err.word z.front miss.1.0) in record {
+      looked = looks_on x y i.looked z miss.1.1;
+      long = ap length c.push.ensures.items ∙ length-append words _ ∙ ap (λ n. n + 1) long;
+      seen = λ k below. subst (λ l. Saw x z.front (c.args.arena * n + k) (get_or l k 0)) (sym c.push.ensures.items)
+          (seen_more (λ j w. Saw x z.front (c.args.arena * n + j) w) words c.in-Err.word
+          (λ j m. let t = i.seen j (omega arith) in (t.0, t.1, t.2, starts_twice t.1 y.front z.front t.3 later, t.4))
+          (miss.0, z.front, starts_on x y i.looked z.front later, starts_itself z.front, found) k (omega arith));
+    }
 
 pub returns-clause-seen : goal.returns-clause-seen
 returns-clause-seen g c =
-    IfErr-weaker c.claim_seen.result _ _ (λ s saw. saw_on c.args.seat.now c.loop-index.seat c.loop-index.invariant.looked c.args.arena s.words.items c.claim_seen.new.seat saw) c.claim_seen.ensures.seen
+    let i = c.loop-index.invariant in
+    let past : c.self.inside.records ≤ c.loop-index.index = c.loop-index-test.false in
+    let most : c.loop-index.index ≤ c.self.inside.records = c.loop-index.auto.index-end in
+    let all : c.args.self.now.shape.records ≡ c.loop-index.index = sym (ap (λ r. r.shape.records) c.self.view_is) ∙ c.self.invariant.records
+    ∙ (let e : c.self.inside.records ≡ c.loop-index.index = omega arith in e) in
+    let own : c.args.seat.now.shape.records ≡ c.args.self.now.shape.records = ap (λ s. s.records) c.requires.own.1 in (
+      i.long ∙ sym all ∙ sym own,
+      λ k below. subst (λ n. Saw c.args.seat.now c.loop-index.seat.front (c.args.arena * n + k) (get_or c.loop-index.seen.words.items k 0)) (sym own)
+          (i.seen k (subst (λ n. k < n) (own ∙ all) below)),
+    )
 
-pub returns-clause-missed : goal.returns-clause-missed
-returns-clause-missed g c =
-    IfErr-weaker c.claim_seen.result _ _ (λ s look. looks_on c.args.seat.now c.loop-index.seat c.loop-index.invariant.looked c.claim_seen.new.seat look) c.claim_seen.ensures.missed
+pub slot_of-first-requires : goal.slot_of-first-requires
+slot_of-first-requires g c =
+    let at = c.number_at.ensures in
+    let own = c.requires.arena in
+    let small : 0 < c.args.self.now.shape.records = subst (λ r. 0 < r.shape.records) c.self.view_is c.self.invariant.small.0 in
+    (subst (λ k. k < length c.args.self.now.shape.names) (sym at.0) own, subst (λ k. k < c.args.self.now.shape.records) (sym at.1) small)
