@@ -8,25 +8,22 @@ pub use Rattle.std.proofs.Common.{zero, ℕ, ⊎_elim, ◌&&◌, ◌*◌, ◌++�
 pub use Rattle.std.proofs.Math.Seq.{take-append_seam, take-length}
 pub use Rattle.std.proofs.lemmas.Bool.{and_parts, and_right, false_from_ne_true, or_cases}
 pub use Rattle.std.proofs.lemmas.List.{length-map, length-replicate, length_push, map-append, set-get_or}
-pub use Rattle.xh_channel.specs.Beside.{AllOf, IsOf, message_of, note_of}
 pub use Rattle.xh_channel.specs.Ends.{no_counts, now_shut, one_put, one_taken}
 pub use Rattle.xh_channel.specs.LineSeats.{IsDelivered, IsLessTold, LineView, OnlySaw, PutsBy, ShutsBy, TakesBy, TookAllOf, counts_at}
-pub use Rattle.xh_channel.specs.Lines.{Lined, PutsOn, Shuts, TakesOn, beside, end_of, is_drained, is_nothing, waiting}
-pub use Rattle.xh_channel.specs.Notes.{AgreesWith}
+pub use Rattle.xh_channel.specs.Lines.{Lined, PutsOn, Shuts, TakesOn, end_of, is_drained, is_nothing, waiting}
+pub use Rattle.xh_channel.specs.Agreement.{AgreesWith}
 pub use Rattle.xh_channel.specs.Numbers.{Numbered, message, number, tag}
-pub use Rattle.xh_channel.specs.QueueEnds.{IsRole, IsUncarried, QueueView}
+pub use Rattle.xh_channel.specs.QueueEnds.{IsRole, QueueView}
 pub use Rattle.xh_channel.specs.Queues.{Posted, posted}
 pub use Rattle.xh_channel.specs.declared.counts.Counts.{Counts}
-pub use Rattle.xh_channel.specs.declared.laid.Laid.{Laid}
 pub use Rattle.xh_channel.specs.declared.line_end.LineEnd.{LineEnd}
 pub use Rattle.xh_channel.specs.declared.line_rule.Account.{Account}
 pub use Rattle.xh_channel.specs.declared.line_rule.Part.{Part}
 pub use Rattle.xh_channel.specs.declared.message.Message.{Message}
 pub use Rattle.xh_channel.specs.inner.FreeNumbers.{StandAtTheirNumbers, at_place, has_depth}
-pub use Rattle.xh_channel.specs.inner.LineRule.{Grows, IsEndBy, IsNoted, IsSettled, LiesFor, holding, line_view, telling}
+pub use Rattle.xh_channel.specs.inner.LineRule.{Grows, IsEndBy, IsSettled, LiesFor, holding, line_view}
 pub use Rattle.xh_model.proofs.Direction.{number_at, numbers_before, numbers_join}
 pub use Rattle.xh_model.specs.declared.limits.TheConstants.{CHANNELS, DIRECTIONS}
-pub use Rattle.xh_records.specs.Seats.{Noted, no_table}
 pub use lib.ListN.{get_elem?}
 pub use mathlib.Core.Option.{none, some, some-injective, some-ne-none}
 pub use prog.Atomic.{either}

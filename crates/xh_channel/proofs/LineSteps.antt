@@ -11,7 +11,7 @@ use Rattle.std.proofs.Common.{replicate}
 use Rattle.atomic_table.specs.Table.{Splits, Joins, opening}
 use Rattle.atomic_table.proofs.Lists.{at_set}
 use Rattle.xh_channel.specs.declared.message.Message.{Message}
-use Rattle.xh_channel.specs.inner.LineRule.{both_sides, low_side, high_side, joined, telling, hearing}
+use Rattle.xh_channel.specs.inner.LineRule.{both_sides, low_side, high_side, joined}
 use Rattle.xh_channel.proofs.Views.{every_two, every_snoc, one_view}
 
 abbrev S : Type 0
@@ -334,43 +334,6 @@ joins id v other w side side' owns owns' idle idle' s h at two at' =
             f.1,
             f.2,
           )),
-    )
-
-across : (k : ℕ) (low high : Account) → k ≤ 1 → by (1 - k) high low ≡ by k low high
-across zero low high h = refl
-across (suc zero) low high h = refl
-across (suc (suc k)) low high h = absurd (omega arith)
-
-pub tells : (id : ℕ) (v : Part) → v.owns ≡ true → v.side ≤ 1 → Splits Kept id v v (telling v)
-tells id v owns few s h at =
-    let t : Truth = h.0 in
-    let mine = h.2 id v at in
-    let vs : List Part = set s.views id v in
-    let is = across v.side t.low t.high few ∙ (mine.0 owns).own in (
-      t,
-      h.1,
-      every_snoc (Fits t) vs (telling v) ((λ p. absurd (true≢false (sym p))), subst (IsTold (counts_in v.own)) (sym is) (all_told v.own), nothing_told (by (1 - v.side) t.low t.high))
-          (every_set (Fits t) s.views id v mine (λ j u _ e. h.2 j u e)),
-    )
-
-pub told_either : (c d : Counts) (a : Account) → IsTold c a → IsTold d a → IsTold (record { put = max c.put d.put; taken = max c.taken d.taken; shut = c.shut || d.shut }) a
-told_either c d a x y = let p = x.0 in let q = y.0 in let r = x.1 in let z = y.1 in (omega arith, omega arith, λ e. ⊎_elim x.2 y.2 (or_cases c.shut d.shut e))
-
-pub hears : (id : ℕ) (v : Part) (other : ℕ) (w : Part) → w.side ≡ v.side → Joins Kept id v other w (hearing v w) no_part
-hears id v other w same s h at two at' =
-    let t : Truth = h.0 in
-    let both : Part = hearing v w in
-    let was : get_elem? s.views other ≡ some w = ⊎_elim (λ x. absurd (two x.0)) (λ x. x.1) (at_set s.views id other both w at') in
-    let mine = h.2 id v at in
-    let theirs = subst (λ (n : ℕ). IsTold w.told (by n t.high t.low)) same (h.2 other w was).1 in (
-      t,
-      h.1,
-      every_two (Fits t) s.views id other both no_part (
-        (λ p. let o : Owns t id v = mine.0 p in record { seat = o.seat; own = o.own; holds = o.holds; knows = o.knows; both = o.both }),
-        told_either v.told w.told (by v.side t.high t.low) mine.1 theirs,
-        mine.2,
-      )
-          (no_fits t other) (λ j u _ _ e. h.2 j u e),
     )
 
 pub begins : Kept (opening (replicate 16 0) (replicate 1 None) both_sides)

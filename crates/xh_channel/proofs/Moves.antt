@@ -6,7 +6,7 @@ use Rattle.crossbeam_queue.specs.Fifo.{Forks, Learns, Merges, Pops, Pushes}
 use Rattle.crossbeam_queue.proofs.Lists.{at_set}
 use Rattle.xh_channel.specs.declared.direction.Role.{Role}
 use Rattle.xh_channel.proofs.Views.{Every, every_set, every_two, every_snoc, one_view}
-use Rattle.xh_channel.specs.Directions.{Fits, Got, Ordered, Sent, WaitsAhead, WaitsBehind, hearing, nothing, role}
+use Rattle.xh_channel.specs.Directions.{Fits, Got, Ordered, Sent, WaitsAhead, WaitsBehind, role}
 
 pub begins : Ordered [] (role true true [] [] 0 0 ∷ [])
 begins = (0, 0, [], [], (refl, tt), one_view (Fits 0 0 [] []) (role true true [] [] 0 0) ((λ _. (refl, refl)), (λ _. (refl, refl)), omega arith, omega arith))
@@ -106,29 +106,3 @@ merges port v other u a b items views h at two at' =
     with_reader items views (set (set views port both) other (idle 0 0)) h port
     (every_two (Fits h.0 port h.2 h.3) views port other both (idle 0 0) ((λ _. mine.0 a), (λ _. (refl, theirs.1)), f.2, mine.3)
     (idle_fits h.0 port h.2 h.3 other 0 0 (omega arith) (omega arith)) (λ j y _ apart e. let g = h.5 j y e in (g.0, (λ p. absurd (apart ((g.1 p).0 ∙ sym theirs.0))), g.2, g.3)))
-
-no_longer : (b : Bool) {P : Type 0} (own all : List Message) → (b ≡ true → P × (own ≡ all)) → (b ≡ false → own ≡ []) → length own ≤ length all
-no_longer true own all is none = let same = ap length (is refl).1 in omega arith
-no_longer false own all is none = let same = ap length (none refl) in omega arith
-
--- a pass stays, and a new one tells of no more than it did
-pub tells : (port : ℕ) (v : Role) → IsRole v → Forks Ordered port v v (idle (length v.sent) (length v.got))
-tells port v is items views h at =
-    let vs : List Role = set views port v in
-    let mine = h.5 port v at in
-    with_reader items views (vs ++ idle (length v.sent) (length v.got) ∷ []) h h.1
-    (every_snoc (Fits h.0 h.1 h.2 h.3) vs (idle (length v.sent) (length v.got))
-    (idle_fits h.0 h.1 h.2 h.3 (length vs) (length v.sent) (length v.got) (no_longer v.pushes v.sent h.2 mine.0 is.2) (no_longer v.pops v.got h.3 mine.1 is.3))
-    (every_set (Fits h.0 h.1 h.2 h.3) views port v mine (λ j u _ e. h.5 j u e)))
-
-pub hears : (port : ℕ) (v : Role) (other : ℕ) (u : Role) → Merges Ordered port v other u (hearing v u.told_put u.told_taken) (role false false [] [] 0 0)
-hears port v other u items views h at two at' =
-    let both : Role = hearing v u.told_put u.told_taken in
-    let mine = h.5 port v at in
-    let was : get_elem? views other ≡ some u = ⊎_elim (λ x. absurd (two x.0)) (λ x. x.1) (at_set views port other both u at') in
-    let theirs = h.5 other u was in
-    let a : max v.told_put u.told_put ≤ length h.2 = let m = mine.2 in let t = theirs.2 in omega arith in
-    let b : max v.told_taken u.told_taken ≤ length h.3 = let m = mine.3 in let t = theirs.3 in omega arith in
-    with_reader items views (set (set views port both) other (idle 0 0)) h h.1
-    (every_two (Fits h.0 h.1 h.2 h.3) views port other both (idle 0 0) (mine.0, mine.1, a, b)
-    (idle_fits h.0 h.1 h.2 h.3 other 0 0 (omega arith) (omega arith)) (λ j y _ _ e. h.5 j y e))

@@ -11,10 +11,6 @@ use Rattle.xh_channel.specs.Numbers.{number, Numbered}
 abbrev pub role : Bool → Bool → List Message → List Message → ℕ → ℕ → Role
 role a b sent got put taken = record { pushes = a; pops = b; sent = sent; got = got; told_put = put; told_taken = taken }
 
--- it was told of so many as well
-abbrev pub hearing : Role → ℕ → ℕ → Role
-hearing v put taken = role v.pushes v.pops v.sent v.got (max v.told_put put) (max v.told_taken taken)
-
 abbrev pub Fits : ℕ → ℕ → List Message → List Message → ℕ → Role → Type 0
 Fits writer reader sent got port v = (v.pushes ≡ true → (port ≡ writer) × (v.sent ≡ sent)) × (v.pops ≡ true → (port ≡ reader) × (v.got ≡ got))
     × (v.told_put ≤ length sent) × (v.told_taken ≤ length got)

@@ -3,7 +3,7 @@ pub mod Directions
 pub mod Ends
 pub mod LineSeats
 pub mod Lines
-pub mod Notes
+pub mod Agreement
 pub mod Numbers
 pub mod Pairs
 pub mod QueueEnds

@@ -29,14 +29,6 @@ pub record LineView : Type 0 where
   pub told_put : ℕ
   pub told_taken : ℕ
 
--- of which table and whose note it is, how many messages that end put and took until then, and whether it was shut
-pub record LineTelling : Type 0 where
-  pub table : TableId
-  pub side : ℕ
-  pub put : ℕ
-  pub taken : ℕ
-  pub shut : Bool
-
 abbrev pub counts_at : LineView → Counts
 counts_at s = record { put = length s.sent; taken = length s.got; shut = s.shut }
 
@@ -97,10 +89,3 @@ IsDelivered from to = (items : List Message) × WaitsAfter from.sent to.got item
 -- a drained end was shut, and took all that the other sent
 abbrev pub TookAllOf : LineView → LineView → Type 0
 TookAllOf from to = to.drained ≡ true → (to.shut ≡ true) × (to.got ≡ from.sent)
-
--- what a seat tells, and what the peer's knows then
-abbrev pub told_on_line : LineView → LineTelling
-told_on_line s = record { table = s.table; side = s.side; put = length s.sent; taken = length s.got; shut = s.shut }
-
-abbrev pub hearing_on_line : LineView → LineTelling → LineView
-hearing_on_line s note = record s { peer_shut = s.peer_shut || note.shut; told_put = max s.told_put note.put; told_taken = max s.told_taken note.taken }

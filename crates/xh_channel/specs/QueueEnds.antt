@@ -12,12 +12,6 @@ pub record QueueView : Type 0 where
   pub depth : ℕ
   pub role : Role
 
--- how many messages an end pushed, and how many it popped
-pub record Telling : Type 0 where
-  pub queue : TableId
-  pub put : ℕ
-  pub taken : ℕ
-
 -- what it pushed and what it popped is numbered, and nothing where it doesn't push or pop
 abbrev pub IsRole : Role → Type 0
 IsRole v = Numbered v.sent × Numbered v.got × (v.pushes ≡ false → v.sent ≡ []) × (v.pops ≡ false → v.got ≡ [])

@@ -2,7 +2,7 @@
 ghost use Rattle.std.specs.Prelude.{◌≡◌, ◌+◌, ◌*◌, ◌<◌, ◌≤◌, suc, true, false, OnErr, IfOk, IfErr, MatchBool};
 ghost use Rattle.xh_model.specs.declared.limits.TheConstants.{CHANNELS, MAX_DEPTH, MAX_MESSAGES};
 ghost use Rattle.xh_channel.specs.Ends.{given_back};
-ghost use Rattle.xh_channel.specs.Notes.{AgreesWith, ArePeers, IsOfPeer, hearing, told_by};
+ghost use Rattle.xh_channel.specs.Agreement.{AgreesWith, ArePeers, told_all};
 ghost use Rattle.xh_channel.specs.LineSeats.{IsBlank};
 ghost use Rattle.xh_channel.specs.Numbers.{message};
 ghost use Rattle.xh_channel.specs.Pairs.{IsPair, IsUnused, ruled_by, unruled};
@@ -11,7 +11,6 @@ ghost use Rattle.xh_channel.specs.Queues.{AreIdle, IsSameEnd, IsUnsent, KeepsIts
 use crate::closed_word::ClosedWord;
 use crate::line_seat::{self, LineSeat};
 use crate::message::Message;
-use crate::note::Note;
 use crate::queue_end::{self, QueueEnd};
 use crate::refused::Refused;
 use crate::signal::{OwnSignal, Signal};
@@ -86,7 +85,7 @@ pub fn begin<R: Wait>(
 // As `compare`, by both queues and the closed words.
 fn compare_queues(one: ChannelEnd, other: ChannelEnd) -> (ChannelEnd, ChannelEnd)
     requires { ArePeers one other × (one.has_contract ≡ false) }
-    ensures told { (result.0 ≡ hearing one (told_by other)) × (result.1 ≡ hearing other (told_by one)) }
+    ensures told { (result.0 ≡ told_all one other) × (result.1 ≡ told_all other one) }
     ensures agree { AgreesWith one other × AgreesWith other one }
 {
     let (sender, receiver) = queue_end::compare(one.sender, other.receiver);
@@ -112,7 +111,7 @@ fn compare_queues(one: ChannelEnd, other: ChannelEnd) -> (ChannelEnd, ChannelEnd
 // As `compare`, by the line, side 0 first.
 fn compare_lines(low: ChannelEnd, high: ChannelEnd) -> (ChannelEnd, ChannelEnd)
     requires { ArePeers low high × (low.has_contract ≡ true) × (low.side ≡ 0) }
-    ensures told { (result.0 ≡ hearing low (told_by high)) × (result.1 ≡ hearing high (told_by low)) }
+    ensures told { (result.0 ≡ told_all low high) × (result.1 ≡ told_all high low) }
     ensures agree { AgreesWith low high × AgreesWith high low }
 {
     let (line, peers) = line_seat::compare(low.line, high.line);
@@ -127,7 +126,7 @@ fn compare_lines(low: ChannelEnd, high: ChannelEnd) -> (ChannelEnd, ChannelEnd)
 /// Shows, of both ends of a channel, that what each took is a prefix of what the other pushed, and tells each what the other did.
 pub fn compare(one: ChannelEnd, other: ChannelEnd) -> (ChannelEnd, ChannelEnd)
     requires { ArePeers one other }
-    ensures told { (result.0 ≡ hearing one (told_by other)) × (result.1 ≡ hearing other (told_by one)) }
+    ensures told { (result.0 ≡ told_all one other) × (result.1 ≡ told_all other one) }
     ensures agree { AgreesWith one other × AgreesWith other one }
 {
     if !one.has_contract() {
@@ -197,34 +196,6 @@ impl ChannelEnd {
         ChannelEnd {
             has_contract: false,
             ..self
-        }
-    }
-
-    /// What the peer may hear of it.
-    pub fn note(&mut self) -> Note
-        ensures told { result ≡ told_by self.old }
-        ensures same { self.new ≡ self.old }
-    {
-        Note {
-            spot: self.spot,
-            has_contract: self.has_contract,
-            put: self.sender.note(),
-            taken: self.receiver.note(),
-            shut: self.word.note(),
-            line: self.line.note(),
-        }
-    }
-
-    pub fn hear(&mut self, note: Note)
-        requires { IsOfPeer note self.old }
-        ensures { self.new ≡ hearing self.old note }
-    {
-        if note.has_contract && self.has_contract {
-            self.line.hear(note.line);
-        } else if !note.has_contract && !self.has_contract {
-            self.receiver.hear(note.put);
-            self.sender.hear(note.taken);
-            self.word.hear(note.shut);
         }
     }
 

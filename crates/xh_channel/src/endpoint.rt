@@ -1,12 +1,11 @@
 //! One end of a channel.
 ghost use Rattle.std.specs.Prelude.{◌≡◌, ◌<◌};
 ghost use Rattle.xh_model.specs.declared.limits.TheConstants.{CHANNELS};
-ghost use Rattle.xh_channel.specs.Notes.{AgreesWith, ArePeers, IsOfPeer, hearing, told_by};
+ghost use Rattle.xh_channel.specs.Agreement.{AgreesWith, ArePeers, told_all};
 
 use crate::channel_end::{self, ChannelEnd};
 use crate::free_numbers::Home;
 use crate::message::Message;
-use crate::note::Note;
 use crate::spot::Spot;
 use std::marker::Model;
 
@@ -27,12 +26,12 @@ impl Model for Endpoint {
 }
 
 /// Shows, of both ends of a channel, that what each took is a prefix of what the other pushed, each message once, with the numbers 1, 2, .. in order.
-/// It takes both ends and gives them back, each told of all that the other did, as by a note of the other. What an end was told before is no more
+/// It takes both ends and gives them back, each told of all that the other did. What an end was told before is no more
 /// than that. All that an end pushed it also sent, but for a message that met a shut peer. A drained end took all that its peer pushed: nothing waits
 /// for it, and since it stays drained nothing ever will.
 pub fn compare(one: Endpoint, other: Endpoint) -> (Endpoint, Endpoint)
     requires { ArePeers one other }
-    ensures told { (result.0 ≡ hearing one (told_by other)) × (result.1 ≡ hearing other (told_by one)) }
+    ensures told { (result.0 ≡ told_all one other) × (result.1 ≡ told_all other one) }
     ensures agree { AgreesWith one other × AgreesWith other one }
 {
     let (first, second) = channel_end::compare(one.inner, other.inner);
@@ -62,22 +61,4 @@ impl Endpoint {
         self.inner.has_contract()
     }
 
-    /// How much it put and took until now, whether it was shut, and whether its channel has a contract, for its peer to hear.
-    pub fn note(&mut self) -> Note
-        ensures told { result ≡ told_by self.old }
-        ensures same { self.new ≡ self.old }
-    {
-        self.inner.note()
-    }
-
-    /// Hears a note of its peer. From then on a take finds nothing only where as much was taken as the note says was put, a put
-    /// finds no room only where as many messages as the depth were put beyond those that the note says were taken, and no put
-    /// succeeds where the note says that the peer was shut. To an end of a channel with a contract a note of one without tells
-    /// nothing, nor the other way: the pair was given back in between, and opened anew.
-    pub fn hear(&mut self, note: Note)
-        requires { IsOfPeer note self.old }
-        ensures { self.new ≡ hearing self.old note }
-    {
-        self.inner.hear(note);
-    }
 }

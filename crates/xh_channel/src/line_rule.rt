@@ -91,26 +91,4 @@ impl Join<Part> for BothSides {
     ghost spent = { no_part };
 }
 
-/// A new seat tells the peer what the side did.
-pub struct Tells;
-
-impl Split<Part> for Tells {
-    ghost use Rattle.xh_channel.specs.inner.LineRule.{telling};
-
-    ghost left = { λ v. v };
-
-    ghost right = { telling };
-}
-
-/// A seat hears what its peer tells.
-pub struct Hears;
-
-impl Join<Part> for Hears {
-    ghost use Rattle.xh_channel.specs.inner.LineRule.{hearing, no_part};
-
-    ghost both = { hearing };
-
-    ghost spent = { no_part };
-}
-
 pub type LineTable = Table<Option<Line>, Part, (), Keeping, Global>;

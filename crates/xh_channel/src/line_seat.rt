@@ -1,12 +1,12 @@
 //! An end's seat at the line of its channel.
-ghost use Rattle.std.specs.Prelude.{◌+◌, ◌<◌, IfOk, OnErr};
+ghost use Rattle.std.specs.Prelude.{◌≡◌, ◌+◌, ◌<◌, ◌≤◌, IfOk, OnErr};
 ghost use Rattle.xh_model.specs.declared.limits.TheConstants.{MAX_DEPTH, MAX_MESSAGES};
-ghost use Rattle.xh_channel.specs.LineSeats.{AreAcross, IsBegun, IsBlank, IsDelivered, IsLessTold, OnlySaw, PutsBy, ShutsBy, TakesBy, TookAllOf, begun, hearing_on_line, told_all, told_on_line};
+ghost use Rattle.xh_channel.specs.LineSeats.{AreAcross, IsBegun, IsBlank, IsDelivered, IsLessTold, OnlySaw, PutsBy, ShutsBy, TakesBy, TookAllOf, begun, told_all};
 ghost use Rattle.std.specs.Arc.{arc_value};
 ghost use Rattle.xh_channel.specs.inner.LineRule.{IsWhole, high_side, line_view, low_side};
 
 use crate::line::Line;
-use crate::line_rule::{BothSides, Compares, Hears, LineTable, Sides, Tells};
+use crate::line_rule::{BothSides, Compares, LineTable, Sides};
 use crate::line_steps::{HOME, Token, hold, lock, settle};
 use crate::message::Message;
 use crate::refused::Refused;
@@ -40,24 +40,6 @@ impl Model for LineSeat {
     ghost view = { λ s. line_view s.seat.table_id s.seat.me.0 };
 
     ghost invariant = { λ s. IsLineSeat (arc_value s.table).shared.table_id s.seat.table_id s.seat.me s.side };
-}
-
-/// What an end tells its peer of what it did.
-#[derive(Drop)]
-pub struct LineNote {
-    seat: Token,
-}
-
-impl Model for LineNote {
-    ghost use Rattle.std.specs.Prelude.{◌≡◌, ◌≤◌, []};
-    ghost use Rattle.xh_channel.specs.LineSeats.{LineTelling};
-    ghost use Rattle.xh_channel.specs.inner.LineRule.{line_telling};
-
-    ghost Value = { LineTelling };
-
-    ghost view = { λ n. line_telling n.seat.table_id n.seat.me.0 };
-
-    ghost invariant = { λ n. (n.seat.me.1 ≡ []) × (n.seat.me.0.side ≤ 1) };
 }
 
 type OwnTable = Arc<LineTable, Global>;
@@ -198,26 +180,5 @@ impl LineSeat {
         };
         line.shut(self.side);
         settle(board, &mut self.seat);
-    }
-
-    /// What its peer may hear of it.
-    #[tactic(auto, using(crate::proofs::LineMoves::has_word, crate::proofs::LineSteps::tells))]
-    pub fn note(&mut self) -> LineNote
-        ensures told { result ≡ told_on_line self.old }
-        ensures same { self.new ≡ self.old }
-    {
-        let table = &self.table;
-        LineNote {
-            seat: table.shared.split_seat::<Tells>(&mut self.seat),
-        }
-    }
-
-    #[tactic(auto, using(crate::proofs::LineMoves::has_word, crate::proofs::LineSteps::hears))]
-    pub fn hear(&mut self, note: LineNote)
-        requires { (note.table ≡ self.old.table) × (note.side + self.old.side ≡ 1) }
-        ensures { self.new ≡ hearing_on_line self.old note }
-    {
-        let table = &self.table;
-        table.shared.join_seat::<Hears>(&mut self.seat, note.seat);
     }
 }

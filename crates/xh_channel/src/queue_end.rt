@@ -1,10 +1,10 @@
 // The ends of a direction's queue. An endpoint has the sending end of one, and the receiving end of the other.
 ghost use Rattle.std.specs.Prelude.{◌≡◌, ◌<◌, ◌≤◌, ◌+◌, suc, true, false, List, [], length, MatchOption, MatchResult, IfOk};
 ghost use Rattle.xh_channel.specs.QueueEnds.{IsNewDirection, sending, getting};
-ghost use Rattle.xh_channel.specs.Directions.{WaitsAfter, hearing, role};
+ghost use Rattle.xh_channel.specs.Directions.{WaitsAfter, role};
 ghost use Rattle.xh_channel.specs.Numbers.{Numbered};
 
-use crate::direction::{Gets, Halves, Hears, Port, Queue, Sends, Tells, Together, Total};
+use crate::direction::{Gets, Halves, Port, Queue, Sends, Together, Total};
 use crate::message::Message;
 use std::alloc::{AllocError, Global};
 use std::marker::Model;
@@ -29,23 +29,6 @@ impl Model for QueueEnd {
     ghost view = { λ e. record { queue = e.pass.table_id; depth = ruled_capacity (arc_value e.queue); role = e.pass.me.0.client } };
 
     ghost invariant = { λ e. IsPassOf (arc_value e.queue) e.pass × IsRole e.pass.me.0.client };
-}
-
-/// What an end of a queue tells of how much it pushed and popped.
-#[derive(Drop)]
-pub struct QueueNote {
-    pass: Port,
-}
-
-impl Model for QueueNote {
-    ghost use Rattle.std.specs.Prelude.{◌≡◌, []};
-    ghost use Rattle.xh_channel.specs.QueueEnds.{Telling};
-
-    ghost Value = { Telling };
-
-    ghost view = { λ n. record { queue = n.pass.table_id; put = n.pass.me.0.client.told_put; taken = n.pass.me.0.client.told_taken } };
-
-    ghost invariant = { λ n. n.pass.me.1 ≡ [] };
 }
 
 /// Both ends of a new direction, the sending end first.
@@ -118,26 +101,5 @@ impl QueueEnd {
     {
         let queue = &self.queue;
         queue.pop_as::<Gets, R>(rt, &mut self.pass)
-    }
-
-    /// How much it has pushed and popped.
-    #[tactic(auto, using(crate::proofs::Moves::tells))]
-    pub fn note(&mut self) -> QueueNote
-        ensures note { result ≡ record { queue = self.old.queue; put = length self.old.role.sent; taken = length self.old.role.got } }
-        ensures same { self.new ≡ self.old }
-    {
-        let queue = &self.queue;
-        QueueNote {
-            pass: queue.another::<Tells>(&mut self.pass),
-        }
-    }
-
-    #[tactic(auto, using(crate::proofs::Moves::hears))]
-    pub fn hear(&mut self, note: QueueNote)
-        requires { note.queue ≡ self.old.queue }
-        ensures { self.new ≡ record self.old { role = hearing self.old.role note.put note.taken } }
-    {
-        let queue = &self.queue;
-        queue.absorb::<Hears>(&mut self.pass, note.pass);
     }
 }

@@ -13,7 +13,7 @@ use Rattle.xh_channel.specs.declared.line_rule.Account.{Account}
 use Rattle.xh_channel.specs.declared.line_rule.Part.{Part}
 use Rattle.xh_channel.specs.declared.message.Message.{Message}
 use Rattle.xh_channel.specs.Ends.{no_counts}
-use Rattle.xh_channel.specs.LineSeats.{LineView, LineTelling}
+use Rattle.xh_channel.specs.LineSeats.{LineView}
 use Rattle.xh_channel.specs.Lines.{Lined, end_of, is_drained, waiting}
 use Rattle.xh_channel.specs.Numbers.{number}
 
@@ -98,13 +98,6 @@ high_side v = record { side = 1; owns = true; both = false; holds = false; own =
 abbrev pub joined : Part → Part → Part
 joined v w = record v { both = true; peer = w.own; peer_told = w.told }
 
--- what the peer of a side is told: what the side did
-abbrev pub telling : Part → Part
-telling v = record no_part { side = 1 - v.side; told = counts_in v.own }
-
-abbrev pub hearing : Part → Part → Part
-hearing v w = record v { told = record { put = max v.told.put w.told.put; taken = max v.told.taken w.told.taken; shut = v.told.shut || w.told.shut } }
-
 abbrev pub holding : Part → Account → Part
 holding v peer = record v { holds = true; peer = peer }
 
@@ -187,7 +180,7 @@ pub record IsWhole (low high seat : TableId) (me : Me (Option Lined) Part) : Typ
   pub both : me.0.both ≡ true
   pub home : me.0.holds ≡ false
 
--- what contracts see of a seat, and of what a seat tells
+-- what contracts see of a seat
 abbrev pub line_view : TableId → Part → LineView
 line_view table v = record {
   table = table;
@@ -203,6 +196,3 @@ line_view table v = record {
   told_put = v.told.put;
   told_taken = v.told.taken;
 }
-
-abbrev pub line_telling : TableId → Part → LineTelling
-line_telling table v = record { table = table; side = 1 - v.side; put = v.told.put; taken = v.told.taken; shut = v.told.shut }
