@@ -2,11 +2,11 @@
 use Rattle.xh_channel.proofs.Common.{Account, Allows, Counts, Grows, IsEndBy, IsSettled, LiesFor, LineEnd, Lined, List, Me, None, Option, Part, Some, [], and_parts, ap, append-nil}
 use Rattle.xh_channel.proofs.Common.{arith, carried_after, either, eq-eqb, eqb, eqb-true, exchanged, false, get_elem?, gives, holding, inl, inr, is_nothing, keeps, ne_eqb}
 use Rattle.xh_channel.proofs.Common.{no_counts, none, or_cases, put_back, refl, set, slice_index, some, step, subst, suc, sym, takes, true, true≢false, waiting, zero, ℕ, ⊎_elim, ◌++◌}
-use Rattle.xh_channel.proofs.Common.{◌-◌, ◌||◌, ◌∙◌, ◌∷◌, ◌≡◌, ◌≢◌, ◌⊎◌}
+use Rattle.xh_channel.proofs.Common.{◌||◌, ◌∙◌, ◌∷◌, ◌≡◌, ◌≢◌, ◌⊎◌}
 use mathlib.Core.Option as maybe
 use Rattle.xh_channel.specs.inner.LineRule.{Compared, Fits, IsHome, IsOut, IsTaken, IsTold, Kept, Lies, Locked, Owns, Settled, Truth, by, counts_in, no_account, no_part, own_by, peer_by, settled}
 use Rattle.xh_channel.proofs.Views.{every_set}
-use Rattle.std.proofs.Common.{◌≤◌, max, length}
+use Rattle.std.proofs.Common.{length}
 use Rattle.std.proofs.Common.{replicate}
 use Rattle.atomic_table.specs.Table.{Splits, Joins, opening}
 use Rattle.atomic_table.proofs.Lists.{at_set}

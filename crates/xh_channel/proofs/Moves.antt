@@ -1,7 +1,7 @@
 -- Each move keeps the rule of a direction.
-use Rattle.xh_channel.proofs.Common.{Bool, IsRole, List, Message, Numbered, [], ap, append_assoc, arith, false, get_elem?, length, length-append}
-use Rattle.xh_channel.proofs.Common.{max, number, number_at, numbers_before, numbers_join, refl, set, some, subst, suc, sym, true, true≢false, ℕ}
-use Rattle.xh_channel.proofs.Common.{⊎_elim, ◌++◌, ◌+◌, ◌∙◌, ◌∷◌, ◌≡◌, ◌≢◌, ◌≤◌}
+use Rattle.xh_channel.proofs.Common.{List, Message, Numbered, [], ap, append_assoc, arith, false, get_elem?, length, length-append}
+use Rattle.xh_channel.proofs.Common.{number, number_at, numbers_before, numbers_join, refl, set, some, subst, suc, sym, true, true≢false, ℕ}
+use Rattle.xh_channel.proofs.Common.{⊎_elim, ◌++◌, ◌∙◌, ◌∷◌, ◌≡◌, ◌≢◌, ◌≤◌}
 use Rattle.crossbeam_queue.specs.Fifo.{Forks, Learns, Merges, Pops, Pushes}
 use Rattle.crossbeam_queue.proofs.Lists.{at_set}
 use Rattle.xh_channel.specs.declared.direction.Role.{Role}

@@ -1,5 +1,5 @@
 -- What both ends of a channel show.
-use Rattle.std.specs.Prelude.{◌≡◌, ℕ, ◌+◌, ◌≤◌, true, false, List, length}
+use Rattle.std.specs.Prelude.{◌≡◌, ◌+◌, ◌≤◌, true, false, List, length}
 use Rattle.xh_channel.specs.declared.message.Message.{Message}
 use Rattle.xh_channel.specs.Directions.{WaitsAfter}
 use Rattle.xh_channel.specs.Queues.{Posted}

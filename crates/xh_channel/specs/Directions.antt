@@ -1,6 +1,6 @@
 -- The rule of a direction: what was sent is what was taken and then what waits, numbered from 1. One pass at most may push, and it has the list of what was sent. The same for pops.
 -- No pass was told of more than was sent, or of more than was taken.
-use Rattle.std.specs.Prelude.{◌≡◌, ℕ, suc, ◌+◌, ◌≤◌, max, Bool, true, List, [], ◌∷◌, ◌++◌, length}
+use Rattle.std.specs.Prelude.{◌≡◌, ℕ, suc, ◌+◌, ◌≤◌, Bool, true, List, [], ◌∷◌, ◌++◌, length}
 use mathlib.Core.Option.{some}
 use lib.ListN.{get_elem?}
 use Rattle.xh_model.specs.Direction.{IsDirection}

@@ -60,5 +60,4 @@ impl Endpoint {
     {
         self.inner.has_contract()
     }
-
 }

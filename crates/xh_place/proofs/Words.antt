@@ -34,7 +34,7 @@ pub use Rattle.xh_place.specs.Endpoints.{AreGot, AreUnpacked, EndsWith, IsDraine
 pub use Rattle.xh_place.specs.Ends.{EndDoes, IsTooLate, RefusedOr, away_in, end_block, ending_again, toward_in}
 pub use Rattle.xh_place.specs.Messages.{Answers, IsSent, IsTaken, IsUntaken, Unpacks, is_listed, settle, settled}
 pub use Rattle.xh_place.specs.Moves.{accepted_on, moves, passed_on, there_and_back}
-pub use Rattle.xh_place.specs.Places.{Lists}
+pub use Rattle.xh_place.specs.Places.{AreBlocks, Fits, IsBlock, IsPlace, IsPlaceOf, IsQuiet, IsWhole, Item, Lists, PlaceOf, entry_of, found as found_at, header_of, item_at, item_in, item_of, shown}
 pub use Rattle.xh_place.specs.Places.{total_of, with_blocks, with_list, with_more, with_moved}
 pub use Rattle.xh_place.specs.Seen.{Came, HasLeft, IsElsewhere, IsSamePlace, IsSeen, PlaceSeen, SawAfter, SawAt, SawFull, SawWord, SeesMore, Stays}
 pub use Rattle.xh_place.specs.Starts.{start, stop}

@@ -109,7 +109,7 @@ pub(crate) fn take_at<R: Wait, V, G>(
             };
             let spot = end.spot();
             taken = channels.take(rt, end);
-            2 * spot.channel + spot.side
+            spot.toward()
         },
     );
     (taken, direction)

@@ -132,7 +132,7 @@ fn post<R: Wait, V, G: Gate>(
     ensures bytes { result.2 ≡ lens given.now.items (λ r. value_at r seat.old.lots) }
 {
     let spot = spot_at(desk.records, seat, e);
-    let direction = 2 * spot.channel + 1 - spot.side;
+    let direction = spot.away();
     let bytes = pass_all(desk.records, seat, given.as_slice(), direction);
     desk.gate.between(place_of(seat), Point::Passed);
     let put = put_at(desk, seat, e, tag, given);
