@@ -3,7 +3,6 @@ mod answers;
 mod bells;
 mod ends;
 mod lines;
-mod notes;
 mod opening;
 mod order;
 mod scenes;

@@ -27,7 +27,7 @@ pub use Rattle.xh_model.specs.declared.limits.TheConstants.{GENERATIONS, MAX_REC
 pub use Rattle.xh_records.specs.After.{IsAfter, LeadsOnStores, Wants}
 pub use Rattle.xh_records.specs.Encoding.{holder_of}
 pub use Rattle.xh_records.specs.History.{Grows, IsInside, IsOneLog, LeadsTo, StartsWith, TellsWord, all_free, by_place, process_of}
-pub use Rattle.xh_records.specs.Seats.{Advances, Ends, EndsAs, HasFound, HasGained, HasLooked, HasLost, HasSeen, Held, IsRecord, IsSeatOf, Knows, RecordsOf, SawTaken, did, indices, lot_in, no_table}
+pub use Rattle.xh_records.specs.Seats.{Advances, Ends, EndsAs, HasFound, HasGained, HasLooked, HasLost, HasSeen, Held, IsRecord, IsSeatOf, Knows, RecordsOf, SawTaken, did, indices, lot_in}
 pub use Rattle.xh_records.specs.Seats.{owned_by, seen, view_of, with_lots}
 pub use Rattle.xh_records.specs.Showing.{HomeFits, IsEmpty, IsHistory, IsLotAt, IsLotOf, IsSmall, Owns, Shown, Shows, Sits, ViewFits, ViewTells}
 pub use Rattle.xh_records.specs.declared.shape.Shape.{Shape}

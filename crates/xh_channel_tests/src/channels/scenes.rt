@@ -4,7 +4,6 @@ ghost use Rattle.xh_channel.specs.Pairs.{IsPair};
 use super::answers::{Answer, Call, Ends, assert_answers};
 use super::bells::{Way, assert_deadlines, rings};
 use super::ends::{assert_full_at, assert_refusals};
-use super::notes::assert_put_heard;
 use super::opening::{
     assert_all_open, assert_free_again, assert_goes_back, assert_own_rooms, opened,
 };
@@ -30,7 +29,6 @@ pub(super) enum Act {
     PutAndShut,
     Unwaited,
     Deadlines,
-    PutHeard,
 }
 
 /// What is done on new channels: an act on so many of them, one after the other, or what opens ends by itself. The channels
@@ -64,7 +62,6 @@ fn act_at<R: Clock + Threads + Wait + Abort + Sync>(
         Act::PutAndShut => assert_put_and_shut(rt, channels, ends, at),
         Act::Unwaited => assert_unwaited(rt, channels, ends),
         Act::Deadlines => assert_deadlines(rt, channels, ends),
-        Act::PutHeard => assert_put_heard(rt, channels, ends),
     }
 }
 

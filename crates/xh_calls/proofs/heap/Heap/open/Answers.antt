@@ -6,7 +6,6 @@ use Rattle.xh_place.specs.Seen.{FindsFull}
 use Rattle.xh_place.specs.Starts.{start}
 use Rattle.xh_calls.specs.inner.Opening.{LacksSpace}
 use Rattle.xh_calls.specs.Vaults.{AsksVault}
-use Rattle.xh_calls.proofs.Asking.{unopened_after}
 use Rattle.xh_calls.proofs.heap.Heap.open.Goals as goal
 
 pub returns-clause-refused : goal.returns-clause-refused
