@@ -18,6 +18,6 @@ pub use Rattle.xh_place.proofs.Seeing.{advanced, all_got_as, away_as, clears_as,
 pub use Rattle.xh_place.proofs.Seeing.{came_before, came_last, came_more, seen_wide, since, starts_more, starts_same, swept_as, swept_by_as, word_wide, one_more}
 pub use Rattle.xh_place.proofs.Steps.{IsNow, block_small, count_room, enough, held_is, held_record, holds_nothing, list_distinct, list_few, list_room, listed, lost, over_running, stays, total_bound}
 pub use Rattle.xh_place.proofs.Steps.{won, moved_last, without_long}
-pub use Rattle.xh_place.proofs.Ends.{end_did, end_held}
+pub use Rattle.xh_place.proofs.Ends.{end_did, end_held, end_kind}
 pub use Rattle.xh_place.proofs.Gained.{has, undone}
 pub use Rattle.xh_place.proofs.Swept.{unrefused, untested}

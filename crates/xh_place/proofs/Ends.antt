@@ -1,14 +1,20 @@
 -- An endpoint that a call works on in its lot, and what follows of the channel's clauses.
-use Rattle.xh_place.proofs.Words.{rules, ◌≡◌, ℕ, List, true, sym, ap, ◌∙◌, subst, Some, LotOf, Status, END_BYTES, put, value_at, Shape, IsLotOf, Held, with_lots, Posted, Body, End, content_of}
+use Rattle.xh_place.proofs.Words.{rules, refl, Content, bytes, ◌≡◌, ℕ, List, true, sym, ap, ◌∙◌, subst, Some, LotOf, Status, END_BYTES, put, value_at, Shape, IsLotOf, Held, with_lots, Posted, Body, End, content_of}
 use Rattle.xh_place.proofs.Words.{endpoint, fits_in, kind_of, IsEnd, LotDoes, bare, EndDoes, end_block, Item, PlaceOf, IsBlock, IsPlace, item_of, shown, with_blocks, Ok, Err, Result, IfErr}
 use Rattle.xh_place.proofs.Words.{MatchResult, Message, IsSameEnd, Refused, put_same, toward, Taken, Shuts, Takes, IsTaken, IsUntaken, PlaceSeen}
 use Rattle.xh_channel.specs.declared.refused.Refused.{Refused as NoMessage}
 use Rattle.xh_channel.specs.Refusals.{same_refusal}
 use Rattle.xh_core.specs.declared.refused.Refused.TheVariants.{Empty}
+use Rattle.xh_place.specs.Bodies.{IsEndAt}
 use Rattle.xh_place.proofs.Found.{found}
 use Rattle.xh_place.proofs.Steps.{turned, view_of}
 use Rattle.xh_core.specs.declared.header.Kind.TheVariants as kind
 use Rattle.xh_channel.specs.declared.refused.Refused.TheVariants as none
+
+-- who is at a channel and a side is an endpoint
+pub end_kind : (c : Content) (channel side : ℕ) → IsEndAt c channel side → kind_of c ≡ kind.End
+end_kind (bytes xs) channel side h = absurd h
+end_kind (endpoint e) channel side h = refl
 
 end_long : (n : ℕ) (p : Posted) → fits_in (End p) n ≡ true → n ≡ END_BYTES
 end_long n p e = search rules

@@ -54,9 +54,10 @@ untested tests told refusal passed h = subst (λ (o : Option Refused). MatchOpti
 total_left : (k : ℕ) (xs : List (ℕ × Item)) → total_of (drop k xs) ≤ total_of xs
 total_left k xs = omega (arith, total_both (take k xs) (drop k xs), ap total_of (take-append-drop k xs))
 
-late_bytes : (saw : ℕ → ℕ → Type 0) (d r : ℕ) (x : Item) (old new : PlaceOf) (bytes left : ℕ) → IsSwept saw (length old.blocks) MAX_BUDGET (with_more d ((r, x) ∷ []) old) new bytes left
-    → x.len ≤ bytes
-late_bytes saw d r x old new bytes left is = go is.count refl is.by.accepted is.by.list is.by.sum where
+-- what a sweep from the last record on gave back is no less than its length
+last_bytes : (saw : ℕ → ℕ → Type 0) (front : List (ℕ × Item)) (r : ℕ) (x : Item) (old new : PlaceOf) (bytes left : ℕ) → old.blocks ≡ front ++ (r, x) ∷ []
+    → IsSwept saw (length front) MAX_BUDGET old new bytes left → x.len ≤ bytes
+last_bytes saw front r x old new bytes left whole is = go is.count refl is.by.accepted is.by.list is.by.sum where
   from : ℕ
   from = length front
 

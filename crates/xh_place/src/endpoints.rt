@@ -1,14 +1,15 @@
 // What a place does to an endpoint, in its lot.
-ghost use Rattle.std.specs.Prelude.{◌≡◌, ◌+◌, ◌*◌, ◌<◌, Some};
+ghost use Rattle.std.specs.Prelude.{◌≡◌, ◌<◌, MatchOption, Some};
 ghost use Rattle.xh_arena.specs.Views.{LotOf};
 ghost use Rattle.xh_model.specs.Keyed.{value_at, put};
-ghost use Rattle.xh_model.specs.declared.limits.TheConstants.{CHANNELS, DIRECTIONS};
-ghost use Rattle.xh_place.specs.Bodies.{IsEndAt, content_of, toward};
+ghost use Rattle.xh_core.specs.declared.header.Kind.TheVariants as kind;
+ghost use Rattle.xh_model.specs.declared.limits.TheConstants.{DIRECTIONS};
+ghost use Rattle.xh_place.specs.Bodies.{IsEndAt, content_of, fits_in, kind_of, toward};
 ghost use Rattle.xh_place.specs.Endpoints.{Puts, Shuts, Takes};
 ghost use Rattle.xh_place.specs.declared.body.Body.{Body};
 ghost use Rattle.xh_place.specs.inner.Lots.{IsEnd, LotDoes};
 ghost use Rattle.xh_records.specs.Seats.{IsSeatOf, IsRecord, with_lots};
-ghost use Rattle.xh_records.specs.Showing.{IsLotOf};
+ghost use Rattle.xh_records.specs.Showing.{IsFull, IsLotOf};
 
 use crate::body::Body;
 use crate::desk::Desk;
@@ -18,27 +19,27 @@ use xh_arena::Lot;
 use xh_channel::{Message, Refused as Untaken, Spot, Unsent};
 use xh_records::{Records, Seat};
 
-// The channel and side of the endpoint.
+// The channel and side of the record's block, if it is an endpoint.
 #[tactic(auto, using(xh_model::proofs::Keyed::put_same))]
-pub(crate) fn spot_at(records: &Records<Body>, seat: &mut Seat<Body>, e: u16) -> Spot
-    requires own { IsSeatOf records.now seat.old × IsRecord records.now.shape e }
-    requires held { (l : LotOf Body) × (value_at e seat.old.lots ≡ Some l) × IsLotOf seat.old.shape e l × IsEnd l }
+pub(crate) fn spot_at(records: &Records<Body>, seat: &mut Seat<Body>, r: u16) -> Option<Spot>
+    requires own { IsSeatOf records.now seat.old × IsRecord records.now.shape r }
+    requires held { (l : LotOf Body) × (value_at r seat.old.lots ≡ Some l) × IsLotOf seat.old.shape r l × IsFull fits_in l }
     ensures same { seat.new ≡ seat.old }
-    ensures spot { (l : LotOf Body) → value_at e seat.old.lots ≡ Some l → IsEndAt (content_of l.body) result.channel result.side }
-    ensures small { (result.channel < CHANNELS) × (result.side < 2) }
+    ensures spot { (l : LotOf Body) → value_at r seat.old.lots ≡ Some l
+        → MatchOption result (kind_of (content_of l.body) ≡ kind.Data) (λ s. IsEndAt (content_of l.body) s.channel s.side) }
 {
     records.with_lot(
         seat,
-        e,
-        &mut |lot: &mut Lot<Body>|
-            requires { IsEnd lot.old }
+        r,
+        &mut |lot: &mut Lot<Body>| -> Option<Spot>
+            requires { IsFull fits_in lot.old }
             ensures same { lot.new ≡ lot.old }
-            ensures spot { IsEndAt (content_of lot.old.body) result.channel result.side × (result.channel < CHANNELS) × (result.side < 2) }
+            ensures spot { MatchOption result (kind_of (content_of lot.old.body) ≡ kind.Data) (λ s. IsEndAt (content_of lot.old.body) s.channel s.side) }
         {
-            let Body::End(end) = lot.body() else {
-                unreachable!()
-            };
-            end.spot()
+            match lot.body() {
+                Body::End(end) => Some(end.spot()),
+                Body::Nothing | Body::Data(_) => None,
+            }
         },
     )
 }

@@ -3,7 +3,7 @@ ghost use Rattle.std.specs.Prelude.{◌≡◌, ◌≢◌, ℕ, ◌+◌, ◌*◌,
 ghost use Rattle.xh_arena.specs.Views.{LotOf};
 ghost use Rattle.xh_model.specs.Keyed.{Among, Distinct, value_at};
 ghost use Rattle.xh_model.specs.declared.limits.TheConstants.{DIRECTIONS, MAX_BLOCKS};
-ghost use Rattle.xh_place.specs.Bodies.{away, content_of, kind_of};
+ghost use Rattle.xh_place.specs.Bodies.{IsEndAt, away, content_of};
 ghost use Rattle.xh_place.specs.Endpoints.{Puts};
 ghost use Rattle.xh_place.specs.Messages.{Answers};
 ghost use Rattle.xh_place.specs.Places.{IsBlock, item_in};
@@ -14,16 +14,15 @@ ghost use Rattle.xh_records.specs.Seats.{IsSeatOf, IsRecord};
 ghost use Rattle.arrayvec.specs.ArrayVec.{ArrayVec};
 ghost use Rattle.xh_place.specs.Moves.{accepted_on, passed_on, there_and_back};
 ghost use Rattle.xh_place.specs.inner.Lists.{AreBack, CameBack, lens};
-ghost use Rattle.xh_core.specs.declared.header.Kind.TheVariants as kind;
 
 use crate::body::Body;
 use crate::desk::Desk;
-use crate::endpoints::{put_at, spot_at};
+use crate::endpoints::put_at;
 use crate::gate::{Gate, Point};
 use crate::lots::{accept_block, pass_block, place_of};
 use arrayvec::ArrayVec;
 use std::sync::Wait;
-use xh_channel::Unsent;
+use xh_channel::{Spot, Unsent};
 use xh_core::Refused;
 use xh_records::{Records, Seat};
 
@@ -114,11 +113,12 @@ fn post<R: Wait, V, G: Gate>(
     desk: &Desk<'_, R, V, G>,
     seat: &mut Seat<Body>,
     e: u16,
+    spot: Spot,
     tag: u16,
     given: &ArrayVec<u16, 8>,
 ) -> (Result<u64, Unsent>, u8, u64)
     requires own { IsSeatOf desk.now.records.now seat.old }
-    requires end { (l : LotOf Body) × (value_at e seat.old.lots ≡ Some l) × IsBlock seat.old.shape e l × (kind_of (content_of l.body) ≡ kind.End) }
+    requires end { (l : LotOf Body) × (value_at e seat.old.lots ≡ Some l) × IsBlock seat.old.shape e l × IsEndAt (content_of l.body) spot.channel spot.side }
     requires distinct { Distinct given.now.items × (Among given.now.items e → ⊥) }
     requires held { (r : ℕ) → Among given.now.items r → (l : LotOf Body) × (value_at r seat.old.lots ≡ Some l) × IsBlock seat.old.shape r l }
     ensures direction { (result.1 ≡ away (item_in (value_at e seat.old.lots)).content) × (result.1 < DIRECTIONS) }
@@ -131,7 +131,6 @@ fn post<R: Wait, V, G: Gate>(
     ensures others { (r : ℕ) → (Among given.now.items r → ⊥) → e ≢ r → value_at r seat.new.lots ≡ value_at r seat.old.lots }
     ensures bytes { result.2 ≡ lens given.now.items (λ r. value_at r seat.old.lots) }
 {
-    let spot = spot_at(desk.records, seat, e);
     let direction = spot.away();
     let bytes = pass_all(desk.records, seat, given.as_slice(), direction);
     desk.gate.between(place_of(seat), Point::Passed);
@@ -145,11 +144,12 @@ pub(crate) fn give_all<R: Wait, V, G: Gate>(
     desk: &Desk<'_, R, V, G>,
     seat: &mut Seat<Body>,
     e: u16,
+    spot: Spot,
     tag: u16,
     given: &ArrayVec<u16, 8>,
 ) -> Given
     requires own { IsSeatOf desk.now.records.now seat.old }
-    requires end { (l : LotOf Body) × (value_at e seat.old.lots ≡ Some l) × IsBlock seat.old.shape e l × (kind_of (content_of l.body) ≡ kind.End) }
+    requires end { (l : LotOf Body) × (value_at e seat.old.lots ≡ Some l) × IsBlock seat.old.shape e l × IsEndAt (content_of l.body) spot.channel spot.side }
     requires distinct { Distinct given.now.items × (Among given.now.items e → ⊥) }
     requires held { (r : ℕ) → Among given.now.items r → (l : LotOf Body) × (value_at r seat.old.lots ≡ Some l) × IsBlock seat.old.shape r l }
     ensures moved { HasNow (with_done (there_and_back seat.old.process (away (item_in (value_at e seat.old.lots)).content) given.now.items result.back.items) seat.old) seat.new.lots seat.new }
@@ -164,7 +164,7 @@ pub(crate) fn give_all<R: Wait, V, G: Gate>(
         → SeatHasLeft seat.old seat.new (away (item_in (value_at e seat.old.lots)).content) r) }
     ensures seen { SeatSeesMore seat.old seat.new }
 {
-    let (put, direction, lost) = post(desk, seat, e, tag, given);
+    let (put, direction, lost) = post(desk, seat, e, spot, tag, given);
     let Err(unsent) = put else {
         return Given {
             put,

@@ -66,7 +66,7 @@ fn fill<R, V: Vaults, G>(
             ensures why { IfErr result (IsRefusedAt V.changes vaults.entry.now vaults.exit.now arena n) }
         {
             vaults.carve(arena, lot, tally, n)?;
-            mem::swap(lot.body_mut(), body);
+            *lot.body_mut() = mem::take(body);
             Ok(())
         },
     )
@@ -97,7 +97,7 @@ fn empty<R, V: Vaults, G>(desk: &mut Desk<'_, R, V, G>, seat: &mut Seat<Body>, r
         {
             let len = lot.len();
             vaults.give_back(arena, lot, tally);
-            drop(mem::take(lot.body_mut()));
+            *lot.body_mut() = Body::Nothing;
             len
         },
     )
@@ -303,7 +303,7 @@ fn part<R, V: Vaults, G>(
             ensures tail { tail.new ≡ record tail.old { len = head.old.len - k; body = body.entry.now } }
         {
             vaults.cut(arena, head, tail, k);
-            mem::swap(tail.body_mut(), body);
+            *tail.body_mut() = mem::take(body);
             let Body::Data(buffer) = head.body_mut() else {
                 unreachable!()
             };

@@ -76,8 +76,8 @@ fn halve<R, V: Vaults, G>(
         {
             vaults.carve(arena, low, tally, 2 * END_BYTES)?;
             vaults.cut(arena, low, high, END_BYTES);
-            mem::swap(low.body_mut(), first);
-            mem::swap(high.body_mut(), second);
+            *low.body_mut() = mem::take(first);
+            *high.body_mut() = mem::take(second);
             Ok(())
         },
     )

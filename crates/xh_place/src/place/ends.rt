@@ -34,26 +34,26 @@ use crate::place::{Place, check_start};
 use crate::vaults::Vaults;
 use std::sync::Wait;
 use xh_channel::{Endpoint, Spot};
-use xh_core::{Block, Header, Kind, Refused, Status};
+use xh_core::{Block, Kind, Refused, Status};
 use xh_model::limits::{END_BYTES, MAX_BUDGET};
 use xh_records::Records;
 
 impl Place {
-    // The tests of a call on an endpoint.
-    pub(super) fn test_end(&mut self, records: &Records<Body>, e: u16) -> Result<(), Refused>
+    // The tests of a call on an endpoint: its channel and side.
+    pub(super) fn test_end(&mut self, records: &Records<Body>, e: u16) -> Result<Spot, Refused>
         requires own { IsPlaceOf records.now self.old.place }
         ensures same { Stays self.old self.new }
         ensures tested { Tested (start self.old.place.state ++ end_tests (found self.old.place e)) result
-            (λ _. (self.old.place.state ≡ status.Running) × ((x : Item) × (value_at e self.old.place.blocks ≡ Some x) × (kind_of x.content ≡ kind.End))) }
+            (λ s. (self.old.place.state ≡ status.Running) × ((x : Item) × (value_at e self.old.place.blocks ≡ Some x) × IsEndAt x.content s.channel s.side)) }
     {
         check_start(self.state())?;
-        let Some(header) = self.header(records, e) else {
+        if !self.has(records, e) {
             return Err(Refused::NotOwned);
-        };
-        if header.kind == Kind::Data {
-            return Err(Refused::NotEndpoint);
         }
-        Ok(())
+        let Some(spot) = self.spot_of(records, e) else {
+            return Err(Refused::NotEndpoint);
+        };
+        Ok(spot)
     }
 
     /// The channel and side of an endpoint of the list; of any other record None.
@@ -62,26 +62,20 @@ impl Place {
         ensures same { Stays self.old self.new }
         ensures spot { MatchOption result (has_end (found self.old.place r) ≡ false) (λ s. (x : Item) × (value_at r self.old.place.blocks ≡ Some x) × IsEndAt x.content s.channel s.side) }
     {
-        let Some(
-            Header {
-                kind: Kind::End,
-                ..
-            },
-        ) = self.header(records, r)
-        else {
+        if !self.has(records, r) {
             return None;
-        };
-        Some(self.spot_of(records, r))
+        }
+        self.spot_of(records, r)
     }
 
-    // The channel and side of an endpoint of the list.
-    fn spot_of(&mut self, records: &Records<Body>, e: u16) -> Spot
+    // The channel and side of a block of the list, if it is an endpoint.
+    fn spot_of(&mut self, records: &Records<Body>, r: u16) -> Option<Spot>
         requires own { IsPlaceOf records.now self.old.place }
-        requires end { (x : Item) × (value_at e self.old.place.blocks ≡ Some x) × (kind_of x.content ≡ kind.End) }
+        requires listed { (x : Item) × (value_at r self.old.place.blocks ≡ Some x) }
         ensures same { Stays self.old self.new }
-        ensures spot { (x : Item) → value_at e self.old.place.blocks ≡ Some x → IsEndAt x.content result.channel result.side }
+        ensures spot { MatchOption result (has_end (found self.old.place r) ≡ false) (λ s. (x : Item) × (value_at r self.old.place.blocks ≡ Some x) × IsEndAt x.content s.channel s.side) }
     {
-        spot_at(records, &mut self.seat, e)
+        spot_at(records, &mut self.seat, r)
     }
 
     /// Both ends of a channel that was just opened, with a contract or without, come to the end of the list: side 0, then side 1, each of 32 bytes, the halves of one first fit of 64.

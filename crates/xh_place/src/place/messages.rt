@@ -5,7 +5,7 @@ ghost use Rattle.xh_core.specs.Refusing.{Tested};
 ghost use Rattle.xh_core.specs.Statuses.{is_over};
 ghost use Rattle.xh_model.specs.Keyed.{Among, Distinct, value_at};
 ghost use Rattle.xh_model.specs.declared.limits.TheConstants.{DIRECTIONS};
-ghost use Rattle.xh_place.specs.Bodies.{kind_of};
+ghost use Rattle.xh_place.specs.Bodies.{IsEndAt, kind_of};
 ghost use Rattle.xh_place.specs.Endpoints.{AreGot, IsGot, Takes, record_of};
 ghost use Rattle.xh_place.specs.Ends.{EndDoes, RefusedOr, toward_in};
 ghost use Rattle.xh_place.specs.Messages.{is_listed, IsSent, IsTaken, IsUntaken};
@@ -28,7 +28,7 @@ use crate::lots::{accept_block, place_of};
 use crate::place::Place;
 use arrayvec::ArrayVec;
 use std::sync::Wait;
-use xh_channel::{Message, Refused as Untaken};
+use xh_channel::{Message, Refused as Untaken, Spot};
 use xh_core::{Block, Header, Refused, is_twice};
 use xh_records::Records;
 
@@ -47,9 +47,9 @@ impl Place {
         ensures given { RefusedOr (start self.old.place.state ++ end_tests (found self.old.place e) ++ given_tests (is_listed self.old.place.blocks) e blocks.now) result
             (self.new.place ≡ self.old.place) (IsSent e tag blocks.now self.old self.new result) }
     {
-        self.test_end(desk.records, e)?;
+        let spot = self.test_end(desk.records, e)?;
         let given = self.test_given(desk.records, e, blocks)?;
-        self.send(desk, e, tag, &given)
+        self.send(desk, e, spot, tag, &given)
     }
 
     // Whether each of the records is one of the list.
@@ -95,12 +95,13 @@ impl Place {
         &mut self,
         desk: &Desk<'_, R, V, G>,
         e: u16,
+        spot: Spot,
         tag: u16,
         given: &ArrayVec<u16, 8>,
     ) -> Result<u64, Refused>
         requires own { IsPlaceOf desk.now.records.now self.old.place }
         requires running { self.old.place.state ≡ status.Running }
-        requires end { (x : Item) × (value_at e self.old.place.blocks ≡ Some x) × (kind_of x.content ≡ kind.End) }
+        requires end { (x : Item) × (value_at e self.old.place.blocks ≡ Some x) × IsEndAt x.content spot.channel spot.side }
         requires given { Distinct given.now.items × (Among given.now.items e → ⊥) }
         requires listed { (r : ℕ) → Among given.now.items r → (x : Item) × (value_at r self.old.place.blocks ≡ Some x) }
         ensures place { IsSamePlace self.old self.new }
@@ -111,7 +112,7 @@ impl Place {
             back,
             lost,
             gained,
-        } = give_all(desk, &mut self.seat, e, tag, given);
+        } = give_all(desk, &mut self.seat, e, spot, tag, given);
         settle(&mut self.list, given.as_slice(), back.as_slice());
         self.total = self.total - lost + gained;
         answer(put, back)

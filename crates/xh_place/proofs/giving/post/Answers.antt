@@ -1,43 +1,40 @@
 use Rattle.xh_place.proofs.Common.{rules, ◌≡◌, ◌≢◌, ℕ, ◌+◌, ◌*◌, ◌-◌, List, sym, ap, ◌∙◌, subst, Some, Among, value_at, put, put_at, put_other, IsLotOf, Held, with_lots, passed_on, LotDoes, bare}
 use Rattle.xh_place.proofs.Common.{with_done, Body, Posted, Puts, IsBlock, lens, starts_more, starts_same, Came, Pass, came_more}
-use Rattle.xh_place.proofs.Ends.{still_block}
+use Rattle.xh_place.proofs.Ends.{end_kind, still_block}
 use Rattle.xh_place.proofs.giving.post.Goals.{After-pass_all-bytes}
 use Rattle.xh_place.proofs.giving.post.Goals as goal
 
 pub pass_all-bytes-requires-clause-held : goal.pass_all-bytes-requires-clause-held
 pass_all-bytes-requires-clause-held g c = λ r a.
-    let q = c.requires.end in let same = c.spot_at-spot.ensures.same in
-    let h = c.requires.held r (subst (λ l. Among l r) c.as_slice.ensures.value a) in
-    (h.0, ap (λ z. value_at r z.lots) same ∙ h.1, subst (λ s. IsBlock s r h.0) (sym (ap (λ z. z.shape) same)) h.2)
+    c.requires.held r (subst (λ l. Among l r) c.as_slice.ensures.value a)
 
-there : (g : _) (c : After-pass_all-bytes g) → c.spot_at-spot.new.seat ≡ c.args.seat.now → value_at c.args.e c.pass_all-bytes.new.seat.lots ≡ Some c.requires.end.0
-there g c same = c.pass_all-bytes.ensures.others c.args.e (λ a. c.requires.distinct.1 (subst (λ l. Among l c.args.e) c.as_slice.ensures.value a))
-    ∙ ap (λ h. value_at c.args.e h.lots) same ∙ c.requires.end.1
+there : (g : _) (c : After-pass_all-bytes g) → value_at c.args.e c.pass_all-bytes.new.seat.lots ≡ Some c.requires.end.0
+there g c = c.pass_all-bytes.ensures.others c.args.e (λ a. c.requires.distinct.1 (subst (λ l. Among l c.args.e) c.as_slice.ensures.value a)) ∙ c.requires.end.1
 
 pub put_at-put-requires-clause-held : goal.put_at-put-requires-clause-held
 put_at-put-requires-clause-held g c =
-    let q = c.requires.end in let same = c.spot_at-spot.ensures.same in
-    let at = there g (goal.at.put_at-put-requires-clause-held g c).After-pass_all-bytes same in
-    (q.0, at, subst (λ s. IsLotOf s c.args.e q.0) (sym (ap (λ h. h.shape) c.pass_all-bytes.ensures.passed ∙ ap (λ h. h.shape) same)) q.2.lot, q.3)
+    let q = c.requires.end in
+    let at = there g (goal.at.put_at-put-requires-clause-held g c).After-pass_all-bytes in
+    (q.0, at, subst (λ s. IsLotOf s c.args.e q.0) (sym (ap (λ h. h.shape) c.pass_all-bytes.ensures.passed)) q.2.lot, end_kind _ _ _ q.3)
 
 pub returns : goal.returns
 returns g c =
-    let q = c.requires.end in let seat = c.args.seat.now in let look = c.spot_at-spot.new.seat in let gone = c.pass_all-bytes.new.seat in let pass = c.pass_all-bytes.ensures in
+    let q = c.requires.end in let seat = c.args.seat.now in let gone = c.pass_all-bytes.new.seat in let pass = c.pass_all-bytes.ensures in
     let value = c.as_slice.ensures.value in
-    let same = c.spot_at-spot.ensures.same in let at = there g (goal.at.returns g c).After-pass_all-bytes same in
+    let at = there g (goal.at.returns g c).After-pass_all-bytes in
     let k = c.put_at-put.ensures q.0 at in let m = k.0 in
-    let d : ℕ = 2 * c.spot_at-spot.result.channel + 1 - c.spot_at-spot.result.side in
+    let d : ℕ = c.away-direction.result in
     let after : Held Body → List ℕ → Held Body = λ h rs. bare (with_done (passed_on h.process d rs) h) in
     let now : Held Body = after seat c.args.given.now.items in
     let chain : bare gone ≡ with_lots now gone.lots =
-    pass.passed ∙ ap (λ h. with_lots (after h c.as_slice.result.now) gone.lots) same ∙ ap (λ rs. with_lots (after seat rs) gone.lots) value in
+    pass.passed ∙ ap (λ rs. with_lots (after seat rs) gone.lots) value in
     let does : Posted → Posted → Type 0 = Puts c.args.tag c.args.given.now c.put_at-put.result in
     let apart : (r : ℕ) → Among c.args.given.now.items r → c.args.e ≢ r = λ r a s. c.requires.distinct.1 (subst (λ z. Among c.args.given.now.items z) (sym s) a) in record {
       direction = search rules;
       passed = ap bare k.2 ∙ ap (λ h. with_lots h (put c.args.e m gone.lots)) chain ∙ sym (ap (λ h. with_lots now h.lots) k.2);
-      seen = starts_more seat.front (starts_same (ap (λ h. h.front) same)) (starts_more look.front pass.seen (starts_same (ap (λ h. h.front) k.2)));
+      seen = starts_more seat.front pass.seen (starts_same (ap (λ h. h.front) k.2));
       came = λ r a. came_more (Pass seat.process r d) seat.front
-          (subst (λ (z : Held Body). Came (Pass z.process r d) z.front gone.front) same (pass.came r (subst (λ l. Among l r) (sym value) a))) (starts_same (ap (λ h. h.front) k.2));
+          (pass.came r (subst (λ l. Among l r) (sym value) a)) (starts_same (ap (λ h. h.front) k.2));
       end = λ l at'. let two : Some q.0 ≡ Some l = sym q.1 ∙ at' in let one : q.0 ≡ l = cc in (
         m,
         ap (λ h. value_at c.args.e h.lots) k.2 ∙ put_at c.args.e m q.0 gone.lots at,
@@ -46,6 +43,6 @@ returns g c =
       );
       gone = λ r a. ap (λ h. value_at r h.lots) k.2 ∙ put_other r c.args.e m gone.lots (apart r a) ∙ pass.gone r (subst (λ l. Among l r) (sym value) a);
       others = λ r n o. ap (λ h. value_at r h.lots) k.2 ∙ put_other r c.args.e m gone.lots o
-          ∙ pass.others r (λ a. n (subst (λ l. Among l r) value a)) ∙ ap (λ h. value_at r h.lots) same;
-      bytes = pass.bytes ∙ (λ i. lens (value i) (λ r. value_at r (same i).lots));
+          ∙ pass.others r (λ a. n (subst (λ l. Among l r) value a));
+      bytes = pass.bytes ∙ (λ i. lens (value i) (λ r. value_at r seat.lots));
     }

@@ -16,7 +16,7 @@ send-requires-clause-listed g c = let t = c.in_ok-given.ensures.tested in let sa
 
 pub returns-clause-given : goal.returns-clause-given
 returns-clause-given g c =
-    let old = c.args.self.now in let one = c.in_ok-test_end.ensures.same in let two = c.in_ok-given.ensures.same in
+    let old = c.args.self.now in let one = c.in_ok-spot.ensures.same in let two = c.in_ok-given.ensures.same in
     let tests : Tests = start old.place.state ++ end_tests (found_at old.place c.args.e) ++ given_tests (is_listed old.place.blocks) c.args.e c.args.blocks.now in
     let passed : first_refusal tests ≡ None = search rules in
     let same : Stays old c.test_given.new.self = (two.0 ∙ one.0, starts_more old.front one.1 two.1) in

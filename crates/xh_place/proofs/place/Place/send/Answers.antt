@@ -2,6 +2,7 @@ use Rattle.xh_place.proofs.Common.{arith, ◌≡◌, ℕ, ◌+◌, ◌-◌, ◌�
 use Rattle.xh_place.proofs.Common.{kind_of, there_and_back, away_in, end_block, lens, less_all, with_done, Item, item_at, item_in, item_of, shown, with_blocks, with_moved, Answers, settled, Posted}
 use Rattle.xh_place.proofs.Common.{Puts, all_move, heard, heard_shows, shown_keys, list_distinct, over_running, total_bound, IsNow, placed, place_gone, on_err_weaker, all_found, found, IsRecord}
 use Rattle.xh_place.proofs.Common.{PlaceOf}
+use Rattle.xh_place.specs.Bodies.{IsEndAt}
 use Rattle.xh_place.proofs.Ends.{item_now, item_was}
 use Rattle.xh_place.proofs.Givens.{given_place, passed_below, settled_same, shown_look}
 use Rattle.xh_place.proofs.place.Place.send.Goals.{After-settle}
@@ -28,7 +29,7 @@ went g c =
 
 pub give_all-put-requires-clause-end : goal.give_all-put-requires-clause-end
 give_all-put-requires-clause-end g c =
-    let t = found c.self.invariant (placed c.self.view_is) c.args.e c.requires.end.1 in (t.lot, t.held, t.block, ap (λ x. kind_of x.content) t.same ∙ c.requires.end.2)
+    let t = found c.self.invariant (placed c.self.view_is) c.args.e c.requires.end.1 in (t.lot, t.held, t.block, subst (λ x. IsEndAt x.content c.args.spot.channel c.args.spot.side) (sym t.same) c.requires.end.2)
 
 pub give_all-put-requires-clause-held : goal.give_all-put-requires-clause-held
 give_all-put-requires-clause-held g c = all_found c.self.invariant (placed c.self.view_is) c.args.given.now.items c.requires.listed

@@ -1,4 +1,4 @@
-use Rattle.xh_place.proofs.Common.{◌≡◌, ℕ, ◌++◌, MatchResult, end_tests, IsTaken, IsUntaken, found_at, start, unrefused}
+use Rattle.xh_place.proofs.Common.{end_kind, ap, ◌∙◌, value_at, ◌≡◌, ℕ, ◌++◌, MatchResult, end_tests, IsTaken, IsUntaken, found_at, start, unrefused}
 use Rattle.xh_place.proofs.Drained.{taken_from}
 use Rattle.xh_place.proofs.place.Place.take.Goals as goal
 
@@ -9,3 +9,6 @@ returns-clause-taken g c =
     unrefused (start old.place.state ++ end_tests (found_at old.place e)) c.take_message.result (new.place ≡ old.place)
     (MatchResult c.take_message.result (IsTaken e old new) (IsUntaken e old.place new.place))
     t.tested.0 (taken_from e old c.test_end.new.self new c.take_message.result t.same c.take_message.ensures.taken)
+
+pub take_message-requires-clause-end : goal.take_message-requires-clause-end
+take_message-requires-clause-end g c = let t = c.in_ok-test_end.ensures in let x = t.tested.1.1 in (x.0, ap (λ p. value_at c.args.e p.blocks) t.same.0 ∙ x.1, end_kind _ _ _ x.2)
