@@ -23,7 +23,7 @@ use xh_channel::{Channels, Refused, Unsent};
 fn a_cancelled_number_is_free_again(rt: HostRuntime) {
     play(&rt, rt.alloc(), 1, Scene::FreeAgain(FREE));
     play(&rt, rt.alloc(), 1, Scene::FreeAgain(ONE_WAY));
-    assert!(rt; matches!(Channels::new(rt.alloc(), 17), Err(Refused::BadSize)));
+    assert!(rt; matches!(Channels::new(rt.alloc(), 17).err(), Some(Refused::BadSize)));
 }
 
 #[test]
