@@ -29,6 +29,10 @@ fn holes_merge(rt: HostRuntime) {
         (Books, Bytes(48, 0)),
     ];
     assert_on(&rt, rt.alloc(), 256, 8, 1000, CALLS);
+    assert_eq!(rt;
+        Arena::new(rt.alloc(), 40, 8, 1000).err(),
+        Some(Refused::BadSize)
+    );
 }
 
 #[test]

@@ -8,22 +8,22 @@ use std::alloc::AllocError;
 use thiserror::Error;
 use xh_model::limits::MAX_BLOCKS;
 
-/// Why a call did nothing. The names are those of the heap's refusals.
+/// Why a call did nothing. The names and numbers are those of the heap's refusals.
 #[derive(Drop, Debug, Error)]
 pub enum Refused {
-    /// A growth of memory was refused.
+    /// A growth of memory was refused. Number 1.
     #[error("out of memory")]
     OutOfMemory,
-    /// The depth is not 1 to 16.
+    /// The depth is not 1 to 16. Number 2.
     #[error("the depth is not 1 to 16")]
     BadSize,
-    /// Each channel is taken.
+    /// Each channel is taken. Number 13.
     #[error("each channel is taken")]
     NoChannel,
-    /// No message waits, and the peer is shut. Nothing is handed back.
+    /// No message waits, and the peer is shut. Nothing is handed back. Number 15.
     #[error("no message waits, and the peer is shut")]
     PeerClosed { back: ArrayVec<u16, MAX_BLOCKS> },
-    /// No message waits.
+    /// No message waits. Number 16.
     #[error("no message waits")]
     Empty,
 }

@@ -6,16 +6,16 @@ use arrayvec::ArrayVec;
 use thiserror::Error;
 use xh_model::limits::MAX_BLOCKS;
 
-/// Why a put was refused. Each hands the blocks back.
+/// Why a put was refused. Each hands the blocks back. The names and numbers are those of the heap's refusals.
 #[derive(Drop, Debug, Error)]
 pub enum Unsent {
-    /// The channel's contract does not allow the message.
+    /// The channel's contract does not allow the message. Number 22.
     #[error("the contract does not allow the message")]
     Protocol { back: ArrayVec<u16, MAX_BLOCKS> },
-    /// The peer is shut.
+    /// The peer is shut. Number 15.
     #[error("the peer is shut")]
     PeerClosed { back: ArrayVec<u16, MAX_BLOCKS> },
-    /// As many messages wait as may, or the direction has carried its last message.
+    /// As many messages wait as may, or the direction has carried its last message. Number 14.
     #[error("the direction is full")]
     Full { back: ArrayVec<u16, MAX_BLOCKS> },
 }

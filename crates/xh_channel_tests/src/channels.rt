@@ -16,11 +16,12 @@ use opening::{FREE, ONE_WAY, REQUEST_AND_REPLY};
 use scenes::{Act, Scene, play, play_grown};
 use std::alloc::Global;
 use std::fmt::Display;
-use xh_channel::{Refused, Unsent};
+use xh_channel::{Channels, Refused, Unsent};
 
 #[test]
 fn a_cancelled_number_is_free_again(rt: HostRuntime) {
     play(&rt, rt.alloc(), 1, Scene::FreeAgain);
+    assert!(rt; matches!(Channels::new(rt.alloc(), 17).err(), Some(Refused::BadSize)));
 }
 
 #[test]

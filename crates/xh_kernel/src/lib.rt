@@ -18,3 +18,6 @@ pub use kernel::{Kernel, Settled};
 pub use parts::Parts;
 pub use scribe::Pens;
 pub use xh_calls::{Answered, MAX_ENDS, Names};
+pub use xh_core::Block;
+pub use xh_glance::Look;
+pub use xh_place::{Gate, Got, OpenGate, Point, Taken};

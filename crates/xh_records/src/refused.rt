@@ -2,11 +2,11 @@ use std::alloc::AllocError;
 use std::error::Error;
 use std::fmt;
 
-/// Why a table of records wasn't made, or not closed.
+/// Why a table of records wasn't made, or not closed. The refusal has its number in the whole heap.
 #[derive(Debug, Drop)]
 pub enum Refused {
     /// A growth was refused. What was handed in is dropped.
-    OutOfMemory,
+    OutOfMemory = 1,
 }
 
 impl fmt::Display for Refused {
