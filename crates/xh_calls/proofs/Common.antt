@@ -30,10 +30,10 @@ pub use Rattle.xh_history.specs.Histories.{FrontOf, HasSeen, History, PenOf, at,
 pub use Rattle.xh_model.specs.declared.limits.TheConstants.{END_BYTES, MAX_RECORDS}
 pub use Rattle.xh_place.specs.Bodies.{Content, IsEndAt, bytes, endpoint, fits_in, kind_of}
 pub use Rattle.xh_place.specs.Ending.{HasGivenBack, IsClosed, IsStopped, alone, back_of, but_back, last}
-pub use Rattle.xh_place.specs.Ends.{Accepts, EndDoes, IsUnopened, Opens, RefusedOr}
+pub use Rattle.xh_place.specs.Ends.{Accepts, AreListed, EndDoes, IsUnopened, Opens, RefusedOr, end_block}
 pub use Rattle.xh_place.specs.Messages.{IsUntaken, is_listed}
 pub use Rattle.xh_place.specs.Places.{AreBlocks, Fits, IsPlaceOf, Item, PlaceOf, entry_of, found, with_blocks}
-pub use Rattle.xh_place.specs.Seen.{FindsFull, IsSamePlace, IsSeen, PlaceSeen, Stays}
+pub use Rattle.xh_place.specs.Seen.{FindsFull, IsSamePlace, IsSeen, PlaceSeen, SeesMore, Stays}
 pub use Rattle.xh_place.specs.Tallies.{gave, ids_of}
 pub use Rattle.xh_place.specs.declared.body.Body.{Body}
 pub use Rattle.xh_place.specs.declared.opening.Unopened.{Unopened}

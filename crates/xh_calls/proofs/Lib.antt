@@ -5,9 +5,9 @@ pub mod Taking
 pub mod Fresh
 pub mod Made
 pub mod Moved
-pub mod Tallied
 pub mod Vaulted
 pub mod Asking
 pub mod Started
 pub mod Looks
+pub mod Opened
 pub mod Wiring

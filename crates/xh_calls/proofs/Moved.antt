@@ -1,5 +1,5 @@
 -- What a place's calls say of the tallies that they were lent.
-use Rattle.xh_calls.proofs.Common.{Accepts, Block, Bool, Closes, Ended, Err, HasGivenBack, IsClosed, IsStopped, IsUntouched, List, MatchOption, None, Ok, Option}
+use Rattle.xh_calls.proofs.Common.{Accepts, Block, Bool, Closes, Ended, Err, HasGivenBack, IfOk, IsClosed, IsStopped, IsUntouched, List, MatchOption, MatchResult, None, Ok, OnErr, Option}
 use Rattle.xh_calls.proofs.Common.{PlaceSeen, ReceivesOr, Refused, RefusedOr, Result, Running, Some, Stops, TallyOf, Tests, [], ap, arith, back_of, but_back, end_tests, false, first_refusal}
 use Rattle.xh_calls.proofs.Common.{found, inl, inr, refl, start, stop, subst, sym, ℕ, ⊎_elim, ◌++◌, ◌+◌, ◌∷◌, ◌≡◌}
 use Rattle.xh_core.specs.Statuses.{is_over}
@@ -46,3 +46,8 @@ module _ (from to : List TallyOf) where
 -- what is so of the tallies that were lent
 pub lent_back : (R : List TallyOf → List TallyOf → Type 0) {lent tallies given new : List TallyOf} → lent ≡ tallies → new ≡ given → R lent given → R tallies new
 lent_back R {lent} {tallies} {given} {new} start end h = subst (λ (z : List TallyOf). R z new) start (subst (λ (z : List TallyOf). R lent z) (sym end) h)
+
+-- what a call that may be refused says of the tallies
+pub tallied : {A : Type 0} (result : Result A Refused) (P : A → Type 0) (S Q : Type 0) → IfOk result P → OnErr result (S × Q) → MatchResult result P (λ _. Q)
+tallied (Ok a) P S Q done refused = done
+tallied (Err e) P S Q done refused = refused.1

@@ -55,7 +55,7 @@ total_left : (k : ℕ) (xs : List (ℕ × Item)) → total_of (drop k xs) ≤ to
 total_left k xs = omega (arith, total_both (take k xs) (drop k xs), ap total_of (take-append-drop k xs))
 
 -- what a sweep from the last record on gave back is no less than its length
-last_bytes : (saw : ℕ → ℕ → Type 0) (front : List (ℕ × Item)) (r : ℕ) (x : Item) (old new : PlaceOf) (bytes left : ℕ) → old.blocks ≡ front ++ (r, x) ∷ []
+pub last_bytes : (saw : ℕ → ℕ → Type 0) (front : List (ℕ × Item)) (r : ℕ) (x : Item) (old new : PlaceOf) (bytes left : ℕ) → old.blocks ≡ front ++ (r, x) ∷ []
     → IsSwept saw (length front) MAX_BUDGET old new bytes left → x.len ≤ bytes
 last_bytes saw front r x old new bytes left whole is = go is.count refl is.by.accepted is.by.list is.by.sum where
   from : ℕ

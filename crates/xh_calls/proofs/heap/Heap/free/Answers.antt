@@ -2,7 +2,7 @@ use Rattle.xh_calls.proofs.Common.{MAX_RECORDS, MatchResult, OnOk, data_tests, f
 use Rattle.xh_records.specs.declared.shape.Shape.{Shape}
 use Rattle.xh_calls.proofs.Moved.{lent_back}
 use Rattle.xh_calls.proofs.Started.{refused_tested, tested}
-use Rattle.xh_calls.proofs.Tallied.{tallied}
+use Rattle.xh_calls.proofs.Moved.{tallied}
 use Rattle.xh_calls.proofs.heap.Heap.free.Goals as goal
 
 pub returns-in_err-check_start-clause-freed : goal.returns-in_err-check_start-clause-freed

@@ -1,15 +1,24 @@
-use Rattle.std.proofs.Common.{◌++◌, length}
-use Rattle.std.specs.Prelude.{◌*◌, ⊤}
-use Rattle.xh_core.specs.Calls.{arena_tests}
-use Rattle.xh_model.specs.declared.limits.TheConstants.{END_BYTES}
-use Rattle.xh_place.specs.Seen.{FindsFull}
-use Rattle.xh_place.specs.Starts.{start}
-use Rattle.xh_calls.specs.inner.Opening.{LacksSpace}
-use Rattle.xh_calls.specs.Vaults.{AsksVault}
+use Rattle.xh_calls.proofs.Common.{FindsFull, LacksSpace, None, Refused, Tests, arena_tests, first_refusal, length, rules, start, ⊤, ◌++◌, ◌≡◌}
+use Rattle.xh_place.specs.Starts.{start as starts}
+use Rattle.xh_calls.proofs.Opened.{listed_ends, opened_ends, why_ends}
 use Rattle.xh_calls.proofs.heap.Heap.open.Goals as goal
 
-pub returns-clause-refused : goal.returns-clause-refused
-returns-clause-refused g c =
-    let parts = g.N.Names.parts in let old = c.args.till.now.seen in let new = c.open_ends-opened.new.till.seen in let place = c.args.place.now.place in let e = c.open_ends-opened.ensures in
-    unopened_after (AsksVault parts c.args.arena (2 * END_BYTES) old new) (start place.state ++ arena_tests c.args.arena (length place.shape.names)) (tt, (tt, tt)) c.open_ends-opened.result c.finish.result
-    (LacksSpace parts c.args.arena (FindsFull c.args.place.now c.open_ends-opened.new.place c.args.arena) old new) ⊤ c.finish.ensures e.why (λ e h. h.1)
+pub returns-clause-opened : goal.returns-clause-opened
+returns-clause-opened g c =
+    let old = c.args.place.now.place in let end = c.in_ok-low in let asked = c.open_ends-opened in
+    let tests : Tests = start c.args.p old ++ arena_tests c.args.arena (length g.N.Names.parts.records.shape.names) in
+    let others : Tests = starts old.state ++ arena_tests c.args.arena (length old.shape.names) in
+    let passed : first_refusal others ≡ None = search rules in record {
+      opened = opened_ends c.args.arena end.low end.high old asked.new.place.place c.args.till.now.tallies.items asked.new.till.tallies.items g.N.Names.parts.depth c.args.contract
+          asked.result c.finish.result asked.ensures.opened c.finish.ensures end.ensures.ok.0 end.ensures.ok.1 end.ensures.ok.2;
+      blocks = search rules;
+      refused = search rules;
+      why = why_ends tests others ⊤ _ _ asked.result c.finish.result c.in_ok-test_open.ensures.0 passed asked.ensures.why
+          (λ (e : Refused) (h : LacksSpace g.N.Names.parts c.args.arena (FindsFull c.args.place.now asked.new.place c.args.arena) c.args.till.now.seen asked.new.till.seen e). h.0) c.finish.ensures;
+    }
+
+pub returns-clause-ends : goal.returns-clause-ends
+returns-clause-ends g c =
+    let old = c.args.place.now.place in let end = c.in_ok-low in let asked = c.open_ends-opened in
+    listed_ends c.args.arena end.low end.high old asked.new.place.place c.args.till.now.tallies.items asked.new.till.tallies.items
+    asked.result c.finish.result end.ensures.ok.0 c.in_ok-test_open.ensures.1 asked.ensures.opened c.finish.ensures
