@@ -21,7 +21,7 @@ answered (Some refused) m done = (Err refused, m)
 
 -- the process is the latest of its place, and runs
 abbrev pub IsRunning : Machine → ℕ → Type 0
-IsRunning m p = (is_current m p ≡ true) × (is_running (place m p).status ≡ true)
+IsRunning m p = (is_current m p ≡ true) × (is_running (place m.places p).status ≡ true)
 
 -- a record with a direction toward it is an endpoint
 abbrev pub kind_of : Option ℕ → Kind
