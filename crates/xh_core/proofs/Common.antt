@@ -16,7 +16,6 @@ pub use Rattle.xh_core.specs.Talks.{AreInStep, AreOrderly, after_all}
 pub use Rattle.xh_core.specs.View.{store_of}
 pub use Rattle.xh_core.specs.Wearing.{AreCarved, IsCarved}
 pub use Rattle.xh_core.specs.declared.refused.Refused.{Refused}
-pub use Rattle.xh_core.specs.inner.Owning.{AreTotals, with_less, with_more}
 pub use Rattle.xh_model.proofs.Calls.{back_bytes, back_length, back_others, back_records, back_size, carved_bytes, carved_length, carved_size, cut_bytes, cut_head, cut_size, cut_tail, cut_wear}
 pub use Rattle.xh_model.proofs.Changed.{IsTouched, known_there, one_touched, read_arena, touched_lawful, touched_records, two_touched}
 pub use Rattle.xh_model.proofs.InStep.{front_step, put_step, swap_step}
