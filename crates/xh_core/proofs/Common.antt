@@ -10,7 +10,7 @@ pub use Rattle.std.proofs.lemmas.List.FromFn.{get_or-range_with_len, length-rang
 pub use Rattle.std.proofs.lemmas.List.Sums.{count_by-le-length, sum_by-append, sum_by-cons, sum_by-le}
 pub use Rattle.std.specs.List.{position_or_len, range_with_len}
 pub use Rattle.xh_core.specs.Refusing.{first_refusal}
-pub use Rattle.xh_core.specs.Several.{accept_all, described, handed, pass_all, times}
+pub use Rattle.xh_core.specs.Several.{handed, times}
 pub use Rattle.xh_core.specs.Space.{free_record, space_tests}
 pub use Rattle.xh_core.specs.Talks.{AreInStep, AreOrderly, after_all}
 pub use Rattle.xh_core.specs.View.{store_of}

@@ -58,16 +58,20 @@ status_whole m p s w e =
     let is : IsPlace (record (place m.places p) { status = s }) = record { generation = w.places.generations p; idle = λ h. nil_from_length (place m.places p).blocks.items (e h) } in
     places_whole m _ w (places_set m.places p (record (place m.places p) { status = s }) w.places is) (λ k q. ap (times q) (status_blocks m p k s w))
 
-ending_whole : (m : Machine) (p : ℕ) → IsWhole m → IsWhole (record m { places = restated p Ending m.places })
+-- the machine where p is ending
+abbrev pub ending : ℕ → Machine → Machine
+ending p m = record m { places = restated p Ending m.places }
+
+ending_whole : (m : Machine) (p : ℕ) → IsWhole m → IsWhole (ending p m)
 ending_whole m p w = status_whole m p Ending w (λ h. absurd (false≢true h))
 
 -- ---- a stop: the sweep of a list hangs on no status
 
 -- what is left is swept, and machines that list the same for p are as one
-pub stop_sweeps : (m n k : Machine) (p budget : ℕ) → IsWhole m → n ≡ sweep p 0 budget (record m { places = restated p Ending m.places }) → blocks k p ≡ blocks n p → Sweeps p 0 budget m k
+pub stop_sweeps : (m n k : Machine) (p budget : ℕ) → IsWhole m → n ≡ sweep p 0 budget (ending p m) → blocks k p ≡ blocks n p → Sweeps p 0 budget m k
 stop_sweeps m n k p budget w is f =
-    let h : Sweeps p 0 budget (record m { places = restated p Ending m.places }) n = rw is (sweep_sweeps budget p 0 (record m { places = restated p Ending m.places }) (ending_whole m p w)) in
-    let e : blocks (record m { places = restated p Ending m.places }) p ≡ blocks m p = status_blocks m p p Ending w in record {
+    let h : Sweeps p 0 budget (ending p m) n = rw is (sweep_sweeps budget p 0 (ending p m) (ending_whole m p w)) in
+    let e : blocks (ending p m) p ≡ blocks m p = status_blocks m p p Ending w in record {
       taken = h.taken;
       accepted = h.accepted;
       within = h.within;
@@ -80,11 +84,11 @@ stop_sweeps m n k p budget w is f =
       left = rw f h.left;
     }
 
-pub stop_frees : (m n : Machine) (p budget : ℕ) → IsWhole m → n ≡ sweep p 0 budget (record m { places = restated p Ending m.places }) → length (blocks n p) ≡ 0 → Frees (arriving m) m.store n.store (blocks m p)
+pub stop_frees : (m n : Machine) (p budget : ℕ) → IsWhole m → n ≡ sweep p 0 budget (ending p m) → length (blocks n p) ≡ 0 → Frees (arriving m) m.store n.store (blocks m p)
 stop_frees m n p budget w is none =
-    let done : length (blocks (sweep p 0 budget (record m { places = restated p Ending m.places })) p) ≤ 0 = subst (λ (x : Machine). length (blocks x p) ≤ 0) is (omega (arith, none)) in
+    let done : length (blocks (sweep p 0 budget (ending p m)) p) ≤ 0 = subst (λ (x : Machine). length (blocks x p) ≤ 0) is (omega (arith, none)) in
     subst (Frees (arriving m) m.store n.store) (status_blocks m p p Ending w)
-    (subst (λ (x : Machine). Frees (arriving m) m.store x.store (blocks (record m { places = restated p Ending m.places }) p)) (sym is) (sweep_frees budget p 0 (record m { places = restated p Ending m.places }) (ending_whole m p w) done))
+    (subst (λ (x : Machine). Frees (arriving m) m.store x.store (blocks (ending p m) p)) (sym is) (sweep_frees budget p 0 (ending p m) (ending_whole m p w) done))
 
 -- ---- a close
 

@@ -1,10 +1,11 @@
 -- A give and a take leave a whole machine.
-use Rattle.xh_serial.proofs.Common.{place, Accepted, Bool, Direction, Holder, InStep, IsValid, IsWhole, Line, List, Machine, MayGive, MayTake, Message, None, Option, Pass, Process, Row, Some, Store, []}
-use Rattle.xh_serial.proofs.Common.{accept_all, accepted_all, after, all_owners, allowed, ap, append-nil, arith, at_set, blocks, carried, change, cond, contract_of, count_append, done}
+use Rattle.xh_serial.proofs.Common.{place, Bool, Direction, Holder, InStep, IsValid, IsWhole, Line, List, Machine, MayGive, MayTake, Message, None, Option, Pass, Process, Row, Some, Store, []}
+use Rattle.xh_serial.proofs.Common.{accept_all, after, allowed, ap, append-nil, arith, at_set, blocks, carried, change, cond, contract_of, count_append, done}
 use Rattle.xh_serial.proofs.Common.{false, false≢true, flat_map-append, front, get_or-set_other, get_or-set_same, given, has_twice, holds, is_banned, is_none, is_there, len, length, length-append}
 use Rattle.xh_serial.proofs.Common.{length-set, line, list_all, list_any, listed, lt-ltb, nat_lt, nat_tests, next_state, no_line, no_message, on_way, owner, pass_all, peer, put_line, put_step}
 use Rattle.xh_serial.proofs.Common.{refl, remove, same_len, slice_index_or, slice_set, subst, sym, tags_of, take_step, taken, taken_line, times, times-cons, told_line, toward, true, unwrap_or}
 use Rattle.xh_serial.proofs.Common.{waiting, without, ℕ, ◌%◌, ◌*◌, ◌++◌, ◌+◌, ◌-◌, ◌/◌, ◌<◌, ◌==◌, ◌∙◌, ◌∷◌, ◌≡◌, ◌≢◌, ◌≤◌}
+use Rattle.xh_serial.proofs.Accepting.{Accepted, accepted_all, all_owners}
 use Rattle.xh_serial.proofs.Room.{handed_whole, has, room}
 use Rattle.xh_serial.proofs.Machines.{busy_place, current_blocks, current_generation, current_range, list_set, peer_half, peer_ne, place_there, places_set, runs_busy, way_else, way_here}
 use Rattle.xh_serial.proofs.Wired.{IsPair, half_apart, put_numbered, same_lines, set_numbered, set_reached, state_in, tags_in, taken_numbered, wired_pair}

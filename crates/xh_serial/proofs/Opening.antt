@@ -248,8 +248,11 @@ module _ (s : Store) (p q r t : ℕ) (contract : Option (List Row)) (m : Machine
             let high : new_line contract ≡ line n.lines (peer d) = sym (line_new (peer d) (peer_half d ∙ e)) in
             (v.sound rows there, same_lines rows (d % 2) (new_line contract) (line n.lines d) (new_line contract) (line n.lines (peer d)) (sym (line_new d e)) high (refl, inl refl)))
         | inr a ↦ (
-            let was = v.whole.channels.wired d rows (sym (get_or-set_other m.contracts m.opened (d / 2) contract None a) ∙ is) in
-            (was.0, same_lines rows (d % 2) (line m.lines d) (line n.lines d) (line m.lines (peer d)) (line n.lines (peer d)) (sym (line_old d a)) (sym (line_old (peer d) (λ s. a (sym (peer_half d) ∙ s)))) was.1))
+            let was = v.whole.channels.wired d rows (sym (get_or-set_other m.contracts m.opened (d / 2) contract None a) ∙ is) in (
+              was.0,
+              same_lines rows (d % 2) (line m.lines d) (line n.lines d) (line m.lines (peer d)) (line n.lines (peer d))
+                  (sym (line_old d a)) (sym (line_old (peer d) (λ s. a (sym (peer_half d) ∙ s)))) was.1,
+            ))
       ];
       few = omega (arith, v.more);
     };

@@ -1,9 +1,10 @@
 -- What sweeping one entry leaves: a whole machine.
-use Rattle.xh_serial.proofs.Common.{place, Accepted, Bool, Direction, GiveBack, Holder, IsEnd, IsLawful, IsWhole, Line, List, Machine, None, Option, Place, Process, Row, Some, Store, Vacate, []}
-use Rattle.xh_serial.proofs.Common.{accept_from, accepted_all, after, all_out, ap, arena_there, arith, arriving, at_set, blocks, buffer, cases_Bool, change, cond, count_append, done}
+use Rattle.xh_serial.proofs.Common.{place, Bool, Direction, GiveBack, Holder, IsEnd, IsLawful, IsWhole, Line, List, Machine, None, Option, Place, Process, Row, Some, Store, Vacate, []}
+use Rattle.xh_serial.proofs.Common.{accept_from, after, all_out, ap, arena_there, arith, arriving, at_set, blocks, buffer, cases_Bool, change, cond, count_append, done}
 use Rattle.xh_serial.proofs.Common.{end_of, eq-eqb, false, false≢true, get_or-le-sum_by, get_or-set_other, holds, inl, inr, is_some, is_there, len, len_back, len_back_else, length, length-append}
 use Rattle.xh_serial.proofs.Common.{length-set, line, listed, lt-ltb, nat_lt, nat_tests, ne_eqb, no_line, on_way, owner, refl, relisted, remove, same_direction, same_known, same_len, same_process}
 use Rattle.xh_serial.proofs.Common.{shut_in, slice_index_or, sum_by-remove, sweep, sweep_one, sym, times, true, way_in, ℕ, ◌*◌, ◌++◌, ◌+◌, ◌-◌, ◌/◌, ◌<◌, ◌==◌, ◌∙◌, ◌≡◌, ◌≢◌, ◌≤◌, ◌⊎◌}
+use Rattle.xh_serial.proofs.Accepting.{Accepted, accepted_all}
 use Rattle.xh_model.specs.Arena.{ArenaState}
 use Rattle.std.proofs.lemmas.List.{get_or_append_left}
 use Rattle.xh_serial.proofs.Machines.{busy_place, current_blocks, current_generation, current_range, list_set, lists_current, place_there, places_set, relisted_again, relisted_list, way_else}

@@ -10,10 +10,9 @@ use Rattle.xh_serial.specs.declared.message.Taken.{Taken}
 use Rattle.xh_serial.specs.declared.line.Line.{Line}
 use Rattle.xh_core.specs.Calls.{start, end_tests, given_tests, put_tests, take_tests}
 use Rattle.xh_core.specs.Refusing.{Tests, first_refusal}
-use Rattle.xh_core.specs.Several.{described, pass_all, accept_all}
 use Rattle.xh_serial.specs.Lines.{contract_of, is_banned, is_full, line, no_message, peer, put_line, tags_of, taken_line, told_line}
 use Rattle.xh_serial.specs.Machine.{Machine, blocks, relisted, status_at, waiting}
-use Rattle.xh_serial.specs.Commands.{Answer, answered, found, toward}
+use Rattle.xh_serial.specs.Commands.{Answer, accept_all, answered, described, found, pass_all, toward}
 
 -- ---- give
 

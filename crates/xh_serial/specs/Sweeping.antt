@@ -4,9 +4,10 @@ use Rattle.std.specs.List.{flat_map, remove}
 use Rattle.xh_model.specs.declared.event.Holder.TheVariants.{Direction}
 use Rattle.xh_model.specs.declared.event.Event.TheVariants.{GiveBack, Vacate}
 use Rattle.xh_model.specs.Store.{owner, after}
+use Rattle.xh_serial.specs.Commands.{accept_from}
 use Rattle.xh_serial.specs.Lines.{shut_in}
 use Rattle.xh_serial.specs.Machine.{Machine, end_of, blocks, relisted, arriving}
-use Rattle.xh_core.specs.Several.{times, accept_from}
+use Rattle.xh_core.specs.Several.{times}
 
 -- The entry at `from` of a list is swept: where it is an endpoint its side is shut, and what is on its way to it is accepted and put at the end of the list;
 -- then its bytes are given back, its record is vacated, and it leaves the list.

@@ -7,6 +7,7 @@ ghost use Rattle.xh_serial.specs.MessageCommands.{AreOrderly, give, take};
 use crate::channels::peer;
 use crate::message::Taken;
 use crate::serial::Serial;
+use crate::several::{accept_all, describe, pass_all};
 use xh_core::Refused;
 
 impl Serial {
@@ -20,7 +21,7 @@ impl Serial {
     {
         let own = self.check_give(p, e, tag, blocks)?;
         let to = peer(own);
-        self.plain.pass_all(p, to, blocks);
+        pass_all(&mut self.plain, p, to, blocks);
         self.places.remove_all(p, blocks);
         self.channels.tell(own, tag);
         Ok(self.channels.put(to, tag, blocks))
@@ -40,8 +41,8 @@ impl Serial {
         let _start = &self.plain;
         let d = self.check_take(p, e)?;
         let message = self.channels.take_front(d);
-        let blocks = self.plain.describe(&message.blocks);
-        self.plain.accept_all(p, d, message.blocks.as_slice());
+        let blocks = describe(&self.plain, &message.blocks);
+        accept_all(&mut self.plain, p, d, message.blocks.as_slice());
         self.places.add_all(p, message.blocks.as_slice());
         Ok(Taken {
             no: message.no,

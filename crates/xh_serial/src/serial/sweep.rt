@@ -6,6 +6,7 @@ ghost use Rattle.xh_serial.specs.Machine.{blocks, is_current};
 ghost use Rattle.xh_serial.specs.Sweeping.{sweep, sweep_one};
 
 use crate::serial::Serial;
+use crate::several::accept_from;
 
 impl Serial {
     /// How many records `p` holds.
@@ -27,7 +28,7 @@ impl Serial {
         let r = self.places.blocks(p)[from];
         let end = self.blocks.end(r);
         let came = self.channels.shut(end);
-        self.plain.accept_from(p, end, came.as_slice());
+        accept_from(&mut self.plain, p, end, came.as_slice());
         self.places.add_all(p, came.as_slice());
         let bytes = self.plain.discard(p, r);
         self.blocks.bind(r, None);

@@ -11,7 +11,7 @@ was c = machine_of c.self.inside
 
 abbrev is : goal.After-put → Machine
 is c = record (machine_of c.self.inside) {
-  store = c.pass_all.new.self;
+  store = c.pass_all.new.plain;
   places = c.remove_all.new.self;
   lines = c.put.new.self.lines;
   contracts = c.put.new.self.contracts;

@@ -31,7 +31,7 @@ begun c = (goal.at.returns c).After-take_front-message
 
 abbrev is : goal.After-add_all → Machine
 is c = record (machine_of c.self.inside) {
-  store = c.accept_all.new.self;
+  store = c.accept_all.new.plain;
   places = c.add_all.new.self;
   lines = c.take_front-message.new.self.lines;
   contracts = c.take_front-message.new.self.contracts;
