@@ -10,13 +10,12 @@ pub use Rattle.std.proofs.lemmas.List.FromFn.{get_or-range_with_len, length-rang
 pub use Rattle.std.proofs.lemmas.List.Sums.{count_by-le-length, sum_by-append, sum_by-cons, sum_by-le}
 pub use Rattle.std.specs.List.{position_or_len, range_with_len}
 pub use Rattle.xh_core.specs.Refusing.{first_refusal}
-pub use Rattle.xh_core.specs.Several.{accept_all, described, handed, pass_all, times}
+pub use Rattle.xh_core.specs.Several.{handed, times}
 pub use Rattle.xh_core.specs.Space.{free_record, space_tests}
 pub use Rattle.xh_core.specs.Talks.{AreInStep, AreOrderly, after_all}
 pub use Rattle.xh_core.specs.View.{store_of}
 pub use Rattle.xh_core.specs.Wearing.{AreCarved, IsCarved}
 pub use Rattle.xh_core.specs.declared.refused.Refused.{Refused}
-pub use Rattle.xh_core.specs.inner.Owning.{AreTotals, with_less, with_more}
 pub use Rattle.xh_model.proofs.Calls.{back_bytes, back_length, back_others, back_records, back_size, carved_bytes, carved_length, carved_size, cut_bytes, cut_head, cut_size, cut_tail, cut_wear}
 pub use Rattle.xh_model.proofs.Changed.{IsTouched, known_there, one_touched, read_arena, touched_lawful, touched_records, two_touched}
 pub use Rattle.xh_model.proofs.InStep.{front_step, put_step, swap_step}

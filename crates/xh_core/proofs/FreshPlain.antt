@@ -1,7 +1,7 @@
--- A new store is lawful, and nobody owns a byte of it.
-use Rattle.xh_core.proofs.Common.{All-replicate, AreCarved, AreTotals, ArenaState, Holder, IsCarved, IsConfig, IsLawful, IsLawfulArena, None, Option, Process, Some, Store, ap, arena_at, arith}
-use Rattle.xh_core.proofs.Common.{bytes_out, cond, false≢true, holds, is_held_by, is_some, len, length, length-replicate, length_of, no_arena, numbers, owner, refl, replicate, slice_index_or, suc}
-use Rattle.xh_core.proofs.Common.{sum_same, sum_zero, sym, zero, ℕ, ◌%◌, ◌*◌, ◌/◌, ◌<◌, ◌∙◌, ◌≡◌, ◌≤◌}
+-- A new store is lawful.
+use Rattle.xh_core.proofs.Common.{All-replicate, AreCarved, ArenaState, Holder, IsCarved, IsConfig, IsLawful, IsLawfulArena, None, Option, Some, ap, arena_at, arith}
+use Rattle.xh_core.proofs.Common.{bytes_out, cond, false≢true, is_some, length, length-replicate, length_of, no_arena, owner, refl, replicate, slice_index_or, suc}
+use Rattle.xh_core.proofs.Common.{sym, zero, ℕ, ◌%◌, ◌*◌, ◌/◌, ◌<◌, ◌∙◌, ◌≡◌, ◌≤◌}
 use Rattle.std.proofs.lemmas.List.Folds.{sum_by-replicate}
 use Rattle.xh_model.specs.declared.config.Config.{Config}
 use Rattle.xh_model.specs.Store.{new_store}
@@ -54,17 +54,3 @@ module _ (c : Config) (is : IsConfig c) where
   pub new_carved : AreCarved (new_store c)
   unfolding new_store
   new_carved = All-replicate IsCarved c.arenas _ (let z = none_out c.bytes in omega (arith, z))
-
-  pub new_totals : AreTotals (new_store c) (replicate 4096 0)
-  unfolding new_store
-  new_totals =
-      let s : Store = new_store c in
-      let most : length (replicate {A = Option ℕ} c.bytes None) ≤ 1048576 = (let e = length-replicate {A = Option ℕ} c.bytes None in let m = is.arena.most_bytes in omega (arith, e, m)) in
-      record {
-        long = length-replicate {A = ℕ} 4096 0;
-        each = λ p.
-            at_replicate {A = ℕ} 4096 p 0
-            ∙ sym (sum_same (λ r. cond (holds s (Process p) r) (len s r) 0) (λ r. 0) (numbers s)
-            (λ r. ap (λ (o : Option Holder). cond (is_held_by o (Process p)) (len s r) 0) (free r)) ∙ sum_zero (numbers s));
-        sizes = λ k. alike (λ (a : ArenaState). length a.cover ≤ 1048576) c.arenas k _ no_arena most (omega arith);
-      }

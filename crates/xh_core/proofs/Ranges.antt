@@ -1,6 +1,6 @@
 -- Sums over ranges of numbers.
-use Rattle.xh_core.proofs.Common.{List, [], ap, arith, cases_eq, cond, eq-eqb, inl, inr, length, map, nat_tests, ne_eqb, range_with_len, refl, slice_index_or, suc, sum_add, sum_by, sum_by-cons}
-use Rattle.xh_core.proofs.Common.{sum_same, sum_zero, sym, zero, ℕ, ◌+◌, ◌-◌, ◌<◌, ◌==◌, ◌∙◌, ◌∷◌, ◌≡◌, ◌≢◌, ◌≤◌}
+use Rattle.xh_core.proofs.Common.{List, [], ap, arith, cases_eq, cond, eq-eqb, inl, inr, length, map, ne_eqb, range_with_len, refl, slice_index_or, suc, sum_add, sum_by, sum_by-cons}
+use Rattle.xh_core.proofs.Common.{sum_same, sum_zero, sym, zero, ℕ, ◌+◌, ◌-◌, ◌<◌, ◌==◌, ◌∙◌, ◌∷◌, ◌≡◌, ◌≤◌}
 
 -- the terms of the range are the same
 pub same_range : (f g : ℕ → ℕ) (from k : ℕ) → ((q : ℕ) → from ≤ q → q < from + k → f q ≡ g q) → sum_by f (range_with_len from k) ≡ sum_by g (range_with_len from k)
@@ -31,38 +31,6 @@ picked n p from (suc k) a b =
           let rest : sum_by f (range_with_len (from + 1) k) ≡ n = picked n p (from + 1) k (omega arith) (omega arith) in
           omega arith)
     ]
-
--- two sums of which one term differs
-pub sum_but_one : (f g : ℕ → ℕ) (n r : ℕ) → r < n → ((q : ℕ) → q ≢ r → f q ≡ g q) → sum_by f (range_with_len 0 n) + g r ≡ sum_by g (range_with_len 0 n) + f r
-sum_but_one f g n r l h =
-    let rs : List ℕ = range_with_len 0 n in
-    let both : sum_by (λ q. f q + cond {A = ℕ} (r == q) (g r) 0) rs ≡ sum_by (λ q. g q + cond {A = ℕ} (r == q) (f r) 0) rs = sum_same _ _ rs (λ q. let other = h q in grind (
-      arith,
-      nat_tests,
-      other,
-    )) in
-    let a = sum_add f (λ q. cond {A = ℕ} (r == q) (g r) 0) rs in
-    let b = sum_add g (λ q. cond {A = ℕ} (r == q) (f r) 0) rs in
-    let x = picked (g r) r 0 n (omega arith) (omega arith) in
-    let y = picked (f r) r 0 n (omega arith) (omega arith) in
-    omega (arith, both, a, b, x, y)
-
--- no term is more than the sum
-pub one_of_sum : (f : ℕ → ℕ) (n r : ℕ) → r < n → f r ≤ sum_by f (range_with_len 0 n)
-one_of_sum f n r l =
-    let rest : ℕ → ℕ = λ q. cond (q == r) 0 (f q) in
-    let none : rest r ≡ 0 = rw (eq-eqb r r refl) refl in
-    let e = sum_but_one f rest n r l (λ q d. sym (rw (ne_eqb q r d) refl)) in omega (arith, e, none)
-
--- two terms differ, and come to the same
-pub sum_but_two : (f g : ℕ → ℕ) (n r t : ℕ) → r < n → t < n → r ≢ t → ((q : ℕ) → q ≢ r → q ≢ t → f q ≡ g q) → f r + f t ≡ g r + g t →
-    sum_by f (range_with_len 0 n) ≡ sum_by g (range_with_len 0 n)
-sum_but_two f g n r t l m other h e =
-    let mid : ℕ → ℕ = λ q. cond (q == r) (f r) (g q) in
-    let here : mid r ≡ f r = rw (eq-eqb r r refl) refl in
-    let there : mid t ≡ g t = rw (ne_eqb t r (λ x. other (sym x))) refl in
-    let a = sum_but_one mid g n r l (λ q d. rw (ne_eqb q r d) refl) in
-    let b = sum_but_one f mid n t m (λ q d. let more = h q in grind (arith, nat_tests, more)) in omega (arith, a, b, here, there, e)
 
 -- the two sums may change places
 pub exchanged : (f : ℕ → ℕ → ℕ) (ps ks : List ℕ) → sum_by (λ p. sum_by (f p) ks) ps ≡ sum_by (λ k. sum_by (λ p. f p k) ps) ks

@@ -1,7 +1,7 @@
--- What accepting and giving back leave of a store.
-use Rattle.xh_core.proofs.Common.{Accept, ArenaState, Bool, Direction, GiveBack, Holder, IsLawful, List, None, Option, Process, Some, Store, [], accept_all, ap, arena_of, arith, can, change, cond}
-use Rattle.xh_core.proofs.Common.{eq-eqb, false≢true, get_or-set_other, get_or-set_same, held_known, holds, is_held_by, is_known, known_there, len, length, length-set, length_of, lt-ltb, nat_lt}
-use Rattle.xh_core.proofs.Common.{nat_tests, no_arena, owner, refl, slice_index_or, slice_set, sum_by-append, sum_by-cons, times, true, ℕ, ◌%◌, ◌++◌, ◌+◌, ◌/◌, ◌<◌, ◌==◌, ◌∙◌, ◌∷◌, ◌≡◌, ◌≢◌, ◌≤◌}
+-- What is read of a store, and what giving back leaves of it.
+use Rattle.xh_core.proofs.Common.{ArenaState, Direction, GiveBack, Holder, IsLawful, List, None, Option, Process, Some, Store, ap, arena_of, arith, can, change, cond}
+use Rattle.xh_core.proofs.Common.{eq-eqb, false≢true, get_or-set_other, get_or-set_same, held_known, holds, is_held_by, is_known, known_there, len, length, length_of, nat_lt}
+use Rattle.xh_core.proofs.Common.{nat_tests, no_arena, owner, refl, slice_index_or, slice_set, sum_by-append, sum_by-cons, times, true, ℕ, ◌%◌, ◌++◌, ◌+◌, ◌/◌, ◌<◌, ◌==◌, ◌∙◌, ◌∷◌, ◌≡◌, ◌≢◌}
 use Rattle.std.proofs.lemmas.List.{get_or_past}
 use Rattle.xh_model.specs.declared.event.Event.{Event}
 use Rattle.xh_model.specs.Store.{after}
@@ -38,48 +38,6 @@ times-cons q r rs = sum_by-cons (λ x. cond (x == q) 1 0) r rs
 
 pub count_append : (q : ℕ) (xs ys : List ℕ) → times q (xs ++ ys) ≡ times q xs + times q ys
 count_append q xs ys = sum_by-append (λ x. cond {A = ℕ} (x == q) 1 0) xs ys
-
--- p accepted these
-pub record Accepted (p : ℕ) (rs : List ℕ) (s t : Store) : Type 0 where
-  pub owners : (q : ℕ) → owner t q ≡ cond (nat_lt 0 (times q rs)) (Some (Process p)) (owner s q)
-  pub many : length t.owners ≡ length s.owners
-  pub arenas : t.arenas ≡ s.arenas
-
-accept_here : (p d r : ℕ) (s : Store) → p < 4096 → holds s (Direction d) r ≡ true → after (Accept p r d) s ≡ change (Accept p r d) s
-accept_here p d r s l h = done (Accept p r d) s (rw (lt-ltb p 4096 l, h) refl)
-
-one_accepted : (p d r q : ℕ) (s : Store) → p < 4096 → holds s (Direction d) r ≡ true → owner (after (Accept p r d) s) q ≡ cond (q == r) (Some (Process p)) (owner s q)
-one_accepted p d r q s l h = rw (accept_here p d r s l h) (at_set s.owners r q (Some (Process p)) None (is_there s (Direction d) r h))
-
--- the first of them is held and stands no more behind
-first_held : (d r : ℕ) (rs : List ℕ) (b : Bool) → times r (r ∷ rs) ≤ cond b 1 0 → (b ≡ true) × (times r rs ≡ 0)
-first_held d r rs b h = let t = times-cons r r rs in (grind (arith, nat_tests, t, h), grind (arith, nat_tests, t, h))
-
-rest_held : (p d r : ℕ) (rs : List ℕ) (s : Store) → p < 4096 → ((q : ℕ) → times q (r ∷ rs) ≤ cond (holds s (Direction d) q) 1 0) →
-    holds s (Direction d) r ≡ true → (q : ℕ) → times q rs ≤ cond (holds (after (Accept p r d) s) (Direction d) q) 1 0
-rest_held p d r rs s l h held q =
-    let o = one_accepted p d r q s l held in
-    let t = times-cons q r rs in
-    let z = (first_held d r rs (holds s (Direction d) r) (h r)).1 in
-    let k = h q in
-    grind (arith, nat_tests, o, t, z, k)
-
--- h holds these and one more
-pub all_owners : (h : Holder) (q r : ℕ) (rs : List ℕ) (o : Option Holder) →
-    cond (nat_lt 0 (times q rs)) (Some h) (cond (q == r) (Some h) o) ≡ cond (nat_lt 0 (times q (r ∷ rs))) (Some h) o
-all_owners h q r rs o = let t = times-cons q r rs in grind (arith, nat_tests, t)
-
-pub accepted_all : (p d : ℕ) (rs : List ℕ) (s : Store) → p < 4096 → ((q : ℕ) → times q rs ≤ cond (holds s (Direction d) q) 1 0) → Accepted p rs s (accept_all p d rs s)
-accepted_all p d [] s l h = record { owners = λ q. refl; many = refl; arenas = refl }
-accepted_all p d (r ∷ rs) s l h =
-    let held : holds s (Direction d) r ≡ true = (first_held d r rs (holds s (Direction d) r) (h r)).0 in
-    let is = accept_here p d r s l held in
-    let more : Accepted p rs (after (Accept p r d) s) (accept_all p d rs (after (Accept p r d) s)) = accepted_all p d rs (after (Accept p r d) s) l (rest_held p d r rs s l h held) in
-    record {
-      owners = λ q. more.owners q ∙ rw (one_accepted p d r q s l held) (all_owners (Process p) q r rs (owner s q));
-      many = more.many ∙ (ap (λ (t : Store). length t.owners) is ∙ length-set s.owners r (Some (Process p)));
-      arenas = more.arenas ∙ ap (λ (t : Store). t.arenas) is;
-    }
 
 -- ---- lengths
 

@@ -1,9 +1,9 @@
 -- What a change of a list, of a status or of free records leaves: a whole machine; and what a stop and a close reclaim.
-use Rattle.xh_serial.proofs.Common.{Bool, Carve, Claim, Cut, Direction, Ended, Ending, Frees, Gained, Holder, IsRunning, IsWhole, List, Machine, None, Process, Some, Status, Store, Sweeps, []}
+use Rattle.xh_serial.proofs.Common.{relisted, Bool, Carve, Claim, Cut, Direction, Ending, Frees, Gained, Holder, IsRunning, IsWhole, List, Machine, None, Process, Some, Status, Store, Sweeps, []}
 use Rattle.xh_serial.proofs.Common.{after, allocated, ap, append-nil, arith, arriving, at_set, blocks, buffer, cond, count_append, drop, end_of, eq-eqb, false≢true, freed_block, holds, in_range}
 use Rattle.xh_serial.proofs.Common.{is_known, is_over, is_some, last, len, length, length-drop, length-remove, length-replicate, length-set, length-take-le, listed, moved_last, nat_tests, ne_eqb}
 use Rattle.xh_serial.proofs.Common.{nil_from_length, not, one_time, owner, parted, passes_at_first, place, position, position_or_len, prefix_len-le-length, refl, remove, replicate, rules}
-use Rattle.xh_serial.proofs.Common.{set-get_or, slice_index_or, slice_set, subst, suc, sum_by-remove, sweep, sweep_one, sym, take, times, times-cons, true, unwrap_or, with_list, with_status, zero}
+use Rattle.xh_serial.proofs.Common.{set-get_or, slice_index_or, slice_set, subst, suc, sum_by-remove, sweep, sweep_one, sym, take, times, times-cons, true, unwrap_or, restated, zero}
 use Rattle.xh_serial.proofs.Common.{ℕ, ◌*◌, ◌++◌, ◌+◌, ◌-◌, ◌<◌, ◌==◌, ◌∙◌, ◌∷◌, ◌≡◌, ◌≢◌, ◌≤◌}
 use Rattle.xh_serial.proofs.Machines.{IsPlace, busy_place, current_blocks, current_generation, list_set, place_here, place_there, places_set, places_whole, runs_busy, same_lists}
 use Rattle.xh_serial.proofs.Sweeps.{finishes, sweep_frees, sweep_sweeps}
@@ -50,24 +50,28 @@ frees_block m p r h none = grind (arith, nat_tests, is_found, set-get_or, append
 
 -- ---- another status
 
-pub status_blocks : (m : Machine) (p q : ℕ) (s : Status) → IsWhole m → blocks (with_status p s m) q ≡ blocks m q
-status_blocks m p q s w = same_lists m.places p (record (place m p) { status = s }) (place_there m p w) (λ k. refl) q
+pub status_blocks : (m : Machine) (p q : ℕ) (s : Status) → IsWhole m → blocks (record m { places = restated p s m.places }) q ≡ blocks m q
+status_blocks m p q s w = same_lists m.places p (record (place m.places p) { status = s }) (place_there m p w) (λ k. refl) q
 
-pub status_whole : (m : Machine) (p : ℕ) (s : Status) → IsWhole m → (is_over s ≡ true → length (place m p).blocks.items ≡ 0) → IsWhole (with_status p s m)
+pub status_whole : (m : Machine) (p : ℕ) (s : Status) → IsWhole m → (is_over s ≡ true → length (place m.places p).blocks.items ≡ 0) → IsWhole (record m { places = restated p s m.places })
 status_whole m p s w e =
-    let is : IsPlace (record (place m p) { status = s }) = record { generation = w.places.generations p; idle = λ h. nil_from_length (place m p).blocks.items (e h) } in
-    places_whole m _ w (places_set m.places p (record (place m p) { status = s }) w.places is) (λ k q. ap (times q) (status_blocks m p k s w))
+    let is : IsPlace (record (place m.places p) { status = s }) = record { generation = w.places.generations p; idle = λ h. nil_from_length (place m.places p).blocks.items (e h) } in
+    places_whole m _ w (places_set m.places p (record (place m.places p) { status = s }) w.places is) (λ k q. ap (times q) (status_blocks m p k s w))
 
-ending_whole : (m : Machine) (p : ℕ) → IsWhole m → IsWhole (with_status p Ending m)
+-- the machine where p is ending
+abbrev pub ending : ℕ → Machine → Machine
+ending p m = record m { places = restated p Ending m.places }
+
+ending_whole : (m : Machine) (p : ℕ) → IsWhole m → IsWhole (ending p m)
 ending_whole m p w = status_whole m p Ending w (λ h. absurd (false≢true h))
 
 -- ---- a stop: the sweep of a list hangs on no status
 
 -- what is left is swept, and machines that list the same for p are as one
-pub stop_sweeps : (m n k : Machine) (p budget : ℕ) → IsWhole m → n ≡ sweep p 0 budget (with_status p Ending m) → blocks k p ≡ blocks n p → Sweeps p 0 budget m k
+pub stop_sweeps : (m n k : Machine) (p budget : ℕ) → IsWhole m → n ≡ sweep p 0 budget (ending p m) → blocks k p ≡ blocks n p → Sweeps p 0 budget m k
 stop_sweeps m n k p budget w is f =
-    let h : Sweeps p 0 budget (with_status p Ending m) n = rw is (sweep_sweeps budget p 0 (with_status p Ending m) (ending_whole m p w)) in
-    let e : blocks (with_status p Ending m) p ≡ blocks m p = status_blocks m p p Ending w in record {
+    let h : Sweeps p 0 budget (ending p m) n = rw is (sweep_sweeps budget p 0 (ending p m) (ending_whole m p w)) in
+    let e : blocks (ending p m) p ≡ blocks m p = status_blocks m p p Ending w in record {
       taken = h.taken;
       accepted = h.accepted;
       within = h.within;
@@ -80,11 +84,11 @@ stop_sweeps m n k p budget w is f =
       left = rw f h.left;
     }
 
-pub stop_frees : (m n : Machine) (p budget : ℕ) → IsWhole m → n ≡ sweep p 0 budget (with_status p Ending m) → length (blocks n p) ≡ 0 → Frees (arriving m) m.store n.store (blocks m p)
+pub stop_frees : (m n : Machine) (p budget : ℕ) → IsWhole m → n ≡ sweep p 0 budget (ending p m) → length (blocks n p) ≡ 0 → Frees (arriving m) m.store n.store (blocks m p)
 stop_frees m n p budget w is none =
-    let done : length (blocks (sweep p 0 budget (with_status p Ending m)) p) ≤ 0 = subst (λ (x : Machine). length (blocks x p) ≤ 0) is (omega (arith, none)) in
+    let done : length (blocks (sweep p 0 budget (ending p m)) p) ≤ 0 = subst (λ (x : Machine). length (blocks x p) ≤ 0) is (omega (arith, none)) in
     subst (Frees (arriving m) m.store n.store) (status_blocks m p p Ending w)
-    (subst (λ (x : Machine). Frees (arriving m) m.store x.store (blocks (with_status p Ending m) p)) (sym is) (sweep_frees budget p 0 (with_status p Ending m) (ending_whole m p w) done))
+    (subst (λ (x : Machine). Frees (arriving m) m.store x.store (blocks (ending p m) p)) (sym is) (sweep_frees budget p 0 (ending p m) (ending_whole m p w) done))
 
 -- ---- a close
 
@@ -111,7 +115,7 @@ pub free_no_end : (m : Machine) (r : ℕ) → IsWhole m → owner m.store r ≡ 
 free_no_end m r w f = grind (arith, nat_tests)
 
 -- p gains free records; endpoints, channels and the other lists stay
-module _ (p : ℕ) (rs : List ℕ) (m n : Machine) (w : IsWhole m) (r : IsRunning m p) (g : Gained p rs m.store n.store) (places : n.places ≡ (with_list p (blocks m p ++ rs) m).places)
+module _ (p : ℕ) (rs : List ℕ) (m n : Machine) (w : IsWhole m) (r : IsRunning m p) (g : Gained p rs m.store n.store) (places : n.places ≡ relisted p (blocks m p ++ rs) m.places)
     (ends : n.ends ≡ m.ends) (lines : n.lines ≡ m.lines) (contracts : n.contracts ≡ m.contracts) (opened : n.opened ≡ m.opened) (depth : n.depth ≡ m.depth)
     (buffers : length n.buffers ≡ length m.buffers) (bytes : (q : ℕ) → length (buffer n q) ≡ cond (is_some (end_of m q)) 0 (len n.store q)) where
   lists : (k : Holder) (q : ℕ) → times q (listed n k) + has None k * times q rs ≡ times q (listed m k) + has (Some (Process p)) k * times q rs
@@ -142,12 +146,12 @@ pub free_there : (m : Machine) (r : ℕ) → IsWhole m → is_known m.store r �
 free_there m r w k = subst (λ (n : ℕ). r < n) (sym w.buffers) (in_range m.store r w.store k)
 
 -- the list of a process has room for a record that nobody holds
-pub room_for : (m : Machine) (p r : ℕ) → IsWhole m → IsRunning m p → owner m.store r ≡ None → r < length m.store.owners → length (place m p).blocks.items < 2048
+pub room_for : (m : Machine) (p r : ℕ) → IsWhole m → IsRunning m p → owner m.store r ≡ None → r < length m.store.owners → length (place m.places p).blocks.items < 2048
 room_for m p r w run f there =
     let most : length m.store.owners ≤ 2048 = few_records m w in
     let l : length (r ∷ blocks m p) ≤ length m.store.owners = few (length m.store.owners) (r ∷ blocks m p)
     (λ q. grind (arith, nat_tests, times-cons q r (blocks m p), w.once (Process p) q)) (λ q l. grind (arith, nat_tests, times-cons q r (blocks m p), held_there m (Process p) q w)) in
-    let e : length (blocks m p) ≡ length (place m p).blocks.items = ap length (current_blocks m p run.0) in
+    let e : length (blocks m p) ≡ length (place m.places p).blocks.items = ap length (current_blocks m p run.0) in
     omega (arith, l, most, e)
 
 -- a block is allocated
@@ -162,7 +166,7 @@ allocated_whole m p r n w run g f there long others =
 -- ---- free
 
 pub listed_place : (m : Machine) (p r : ℕ) → IsWhole m → IsRunning m p → holds m.store (Process p) r ≡ true →
-    position_or_len (λ q. q == r) (place m p).blocks.items < length (place m p).blocks.items
+    position_or_len (λ q. q == r) (place m.places p).blocks.items < length (place m.places p).blocks.items
 listed_place m p r w run h = grind (arith, nat_tests, found, one_listed, current_blocks)
 
 -- a data block is freed

@@ -9,12 +9,12 @@ pub use Rattle.std.proofs.lemmas.List.Sums.{get_or-le-sum_by, passes_at_first, p
 pub use Rattle.std.specs.List.{flat_map, list_all, list_any, position, position_or_len, range_with_len, remove, sum_by}
 pub use Rattle.std.specs.Prelude.{All, AllPairs, Option, is_none, is_some, map, nat_lt, not, ok_or, replicate, slice_index_or, slice_set, unwrap_or, ◌==◌}
 pub use Rattle.xh_core.proofs.{Claiming.in_range, Claiming.no_bytes, Claiming.one_time, Firsts.first_append, Firsts.first_later, FreshPlain.at_replicate, Pairs.Shared, Pairs.paired_two}
-pub use Rattle.xh_core.proofs.{Pairs.shared, Stores.Accepted, Stores.accepted_all, Stores.all_owners, Stores.arena_there, Stores.at_set, Stores.count_append, Stores.done, Stores.is_there}
+pub use Rattle.xh_core.proofs.{Pairs.shared, Stores.arena_there, Stores.at_set, Stores.count_append, Stores.done, Stores.is_there}
 pub use Rattle.xh_core.proofs.{Stores.len_back, Stores.len_back_else, Stores.same_direction, Stores.same_known, Stores.same_len, Stores.same_process, Stores.times-cons}
 pub use Rattle.xh_core.specs.{Calls.end_tests, Calls.start, Flight.AreFlightLines, Gaining.Gained, Pairing.Paired, Pairing.moved, Refusing.Tests, Refusing.first_refusal, Space.free_record}
 pub use Rattle.xh_core.specs.{Space.pair_tests, Space.rounded, Space.space_tests, Statuses.is_over, declared.flight.FlightLine.FlightLine, declared.refused.Refused.TheVariants.NoPlace}
 pub use Rattle.xh_core.specs.{declared.refused.Refused.TheVariants.OutOfMemory, declared.status.Status.Status, declared.status.Status.TheVariants.Ended, declared.status.Status.TheVariants.Ending}
-pub use Rattle.xh_core.specs.Several.{accept_all, accept_from, described, has_twice, pass_all, times}
+pub use Rattle.xh_core.specs.Several.{has_twice, times}
 pub use Rattle.xh_model.proofs.{InStep.cases_Option, InStep.drain_step, InStep.front_step, InStep.put_step, InStep.take_step, Totals.sum_add, Totals.sum_same, Totals.sum_zero, Totals.total_bytes}
 pub use Rattle.xh_model.specs.{Config.IsConfig, Reclaimed.Frees, Reclaimed.Includes, Reclaimed.freed, Rows.InStep, Rows.IsValid, Rows.allowed, Rows.walk, declared.config.Config.Config}
 pub use Rattle.xh_model.specs.{declared.event.Holder.Holder, declared.event.Holder.TheVariants.Direction, declared.event.Holder.TheVariants.Process, declared.row.Row.Row}
@@ -22,13 +22,16 @@ pub use Rattle.xh_model.specs.Store.{IsLawful, Store, after, all_out, bytes_of, 
 pub use Rattle.xh_model.specs.declared.event.Event.TheVariants.{Carve, Claim, Cut, GiveBack, Pass, Vacate}
 unfoldable pub use Rattle.xh_model.specs.Store.{all_holders, new_store}
 pub use Rattle.xh_serial.specs.{BlockCommands.alloc_heads, BlockCommands.overwritten, BlockCommands.split_heads, Commands.IsRunning, Commands.found, Commands.toward, EndingCommands.last}
-pub use Rattle.xh_serial.specs.{EndingCommands.moved_last, InFlight.IsUnderWay, Sweeping.Sweeps, Sweeping.shut_in, Sweeping.shut_line, Sweeping.sweep, View.machine_of, declared.line.Line.Line}
+pub use Rattle.xh_serial.specs.{EndingCommands.moved_last, Sweeping.Sweeps, Sweeping.sweep, View.machine_of, declared.line.Line.Line}
 pub use Rattle.xh_serial.specs.{declared.message.Message.Message, declared.place.Place.Place, inner.Channeling.IsSound, inner.Checks.MayGive, inner.Checks.MaySplit, inner.Checks.MayTake}
-pub use Rattle.xh_serial.specs.{inner.Holding.BlocksOf, inner.Placing.blocks_in, inner.Placing.place_in, inner.Placing.relisted, inner.Placing.started_at}
-pub use Rattle.xh_serial.specs.Machine.{AreChannels, AreNumbered, ArePlaces, AreWired, HaveEnds, IsEnd, IsNumbered, IsWhole, Machine, arriving, blocks, buffer, carried, contract_of, drained_state}
-pub use Rattle.xh_serial.specs.Machine.{end_of, is_current, line, listed, next_state, no_line, no_place, on_way, peer, place, status_at, tags_of, waiting, way_in, with_list, with_status}
-pub use Rattle.xh_serial.specs.MessageCommands.{AreOrderly, front, is_banned, message_tests, no_message, put_line, taken_line, told_line, without}
-pub use Rattle.xh_serial.specs.PlaceCommands.{flight_line, flight_lines, is_ready, place_lines, spawn_at, started, total}
+pub use Rattle.xh_serial.specs.{inner.Holding.BlocksOf, PlaceCommands.started_at}
+pub use Rattle.xh_serial.specs.Commands.{accept_all, accept_from, described, pass_all}
+pub use Rattle.xh_serial.specs.Lines.{AreNumbered, IsNumbered, carried, contract_of, drained_state, is_banned, line, new_line, next_state, no_line, no_message, peer, put_line, shut_in, shut_line}
+pub use Rattle.xh_serial.specs.Lines.{tags_of, taken_line, told_line, way_in}
+pub use Rattle.xh_serial.specs.Machine.{AreChannels, ArePlaces, AreWired, HaveEnds, IsEnd, IsWhole, Machine, arriving, blocks, buffer}
+pub use Rattle.xh_serial.specs.Machine.{end_of, is_current, listed, no_place, on_way, place, relisted, restated, status_at, waiting}
+pub use Rattle.xh_serial.specs.MessageCommands.{AreOrderly, front, without}
+pub use Rattle.xh_serial.specs.PlaceCommands.{flight_line, flight_lines, is_ready, place_lines, started, total}
 unfoldable pub use Rattle.xh_serial.specs.{EndingCommands.close, EndingCommands.closed, MessageCommands.give, MessageCommands.given, MessageCommands.taken, Sweeping.sweep_one}
 unfoldable pub use Rattle.xh_serial.specs.BlockCommands.{alloc, allocated, free, freed_block, parted, read, split, write}
 unfoldable pub use Rattle.xh_serial.specs.PlaceCommands.{flight_of, ledger_of, new_machine, spawn}

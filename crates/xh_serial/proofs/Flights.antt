@@ -1,11 +1,8 @@
--- What is in flight: its lines, and the ends that it is on its way to.
-use Rattle.xh_serial.proofs.Common.{All, All-cons, All-nil, AllPairs, AllPairs-cons, AreFlightLines, Direction, FlightLine, Holder, IsUnderWay, IsWhole, Line, List, Machine, Message, None, Option}
-use Rattle.xh_serial.proofs.Common.{Process, Some, Store, [], ap, arith, carried, cases_Bool, cases_lt, cond, end_of, eqb-true, false≢true, flight_line, flight_lines, flight_of, has_twice, inl}
-use Rattle.xh_serial.proofs.Common.{inr, is_some, ledger_of, len, length, list_all, list_any, nat_lt, nat_tests, nil_from_length, no_line, none-some, owner, refl, slice_index_or, subst, suc}
-use Rattle.xh_serial.proofs.Common.{sum_by, sum_by-cons, sym, times, times-cons, total, true, waiting, zero, ℕ, ◌*◌, ◌+◌, ◌<◌, ◌==◌, ◌∙◌, ◌∷◌, ◌≡◌, ◌≤◌, ◌⊎◌}
-use Rattle.xh_serial.specs.InFlight.{HasTaker, IsBehind, IsCarried, IsInCircle, NoEndIsHeld}
-use Rattle.xh_serial.proofs.Messages.{distinct_pass}
-use Rattle.xh_serial.proofs.Room.{few}
+-- What is in flight: its lines; and that there is none where no block is an end.
+use Rattle.xh_serial.proofs.Common.{All, All-cons, All-nil, AllPairs, AllPairs-cons, AreFlightLines, Direction, FlightLine, IsWhole, Line, List, Machine, None}
+use Rattle.xh_serial.proofs.Common.{Some, Store, [], ap, arith, carried, cases_lt, cond, end_of, flight_line, flight_lines, flight_of, inl}
+use Rattle.xh_serial.proofs.Common.{inr, ledger_of, len, length, nat_tests, nil_from_length, no_line, none-some, refl, slice_index_or, subst, suc}
+use Rattle.xh_serial.proofs.Common.{sum_by, sum_by-cons, sym, times, times-cons, total, waiting, ℕ, ◌*◌, ◌+◌, ◌<◌, ◌==◌, ◌∙◌, ◌∷◌, ◌≡◌, ◌≤◌}
 
 -- ---- the lines
 
@@ -57,94 +54,17 @@ module _ (m : Machine) (w : IsWhole m) where
   end_there : (d : ℕ) → 0 < length (waiting m d) → (e : ℕ) × (end_of m e ≡ Some d)
   end_there d some = w.reached.there d (opened d some) (grind (arith, nat_tests, w.reached.drained d))
 
-  by_holder : (d e : ℕ) (o : Option Holder) → end_of m e ≡ Some d → owner m.store e ≡ o → is_some o ≡ true → HasTaker m d ⊎ ((k : ℕ) × IsCarried m d k)
-  by_holder d e None is own held = absurd (false≢true held)
-  by_holder d e (Some (Process p)) is own held = inl (p, e, is, own)
-  by_holder d e (Some (Direction k)) is own held = inr (k, (e, is, grind (arith, nat_tests, w.once (Direction k) e)))
-
-  there : (d : ℕ) → 0 < length (waiting m d) → HasTaker m d ⊎ ((k : ℕ) × IsCarried m d k)
-  there d some = let e = end_there d some in by_holder d e.0 (owner m.store e.0) e.1 refl (w.ends e.0 d e.1).held
-
-  -- ---- who goes on from end to end
-
-  abbrev Comes : ℕ → Type 0
-  Comes d = (n k : ℕ) × IsBehind n m d k × (HasTaker m k ⊎ IsInCircle m k)
-
-  later : (d j : ℕ) → IsCarried m d j → Comes j → Comes d
-  later d j c e = (suc e.0, e.1, (j, c, e.2), e.3)
-
-  abbrev IsPath : ℕ → List ℕ → Type 0
-  IsPath d [] = Unit {0}
-  IsPath d (k ∷ ks) = IsCarried m d k × IsPath k ks
-
-  some_messages : (e : ℕ) (ms : List Message) → 0 < times e (carried ms) → 0 < length ms
-  some_messages e [] h = absurd (omega (arith, h))
-  some_messages e (k ∷ ms) h = omega arith
-
-  small : (d : ℕ) → 0 < length (waiting m d) → nat_lt d 128 ≡ true
-  small d some = let a = opened d some in let b = w.channels.few in grind (arith, nat_tests)
-
-  -- so many steps, where no process comes before
-  walk : (n d : ℕ) → 0 < length (waiting m d) → Comes d ⊎ ((ks : List ℕ) × (length ks ≡ n) × IsPath d ks × (list_all (λ q. nat_lt q 128) (d ∷ ks) ≡ true))
-  walk zero d some = inr ([], refl, tt, rw (small d some) refl)
-  walk (suc n) d some = elim (there d some) [
-    | inl t ↦ inl (0, d, refl, inl t)
-    | inr c ↦ elim (walk n c.0 (some_messages c.1.0 (waiting m c.0) c.1.2)) [
-      | inl e ↦ inl (later d c.0 c.1 e)
-      | inr p ↦ inr (c.0 ∷ p.0, ap suc p.1, (c.1, p.2), rw (small d some) p.3)
-    ]
-  ]
-
-  meets : (d x : ℕ) (ks : List ℕ) → IsPath d ks → list_any (λ q. q == x) ks ≡ true → (n : ℕ) × IsBehind (suc n) m d x
-  meets d x [] p h = absurd (false≢true h)
-  meets d x (k ∷ ks) p h = elim (cases_Bool (k == x)) [
-    | inl y ↦ (0, (k, p.0, eqb-true k x y))
-    | inr n ↦ (let r = meets k x ks p.1 (grind (arith, nat_tests)) in (suc r.0, (k, p.0, r.1)))
-  ]
-
-  -- a path with a direction twice leads into a circle
-  circle : (d : ℕ) (ks : List ℕ) → IsPath d ks → has_twice (d ∷ ks) ≡ true → Comes d
-  circle d [] p h = absurd (false≢true h)
-  circle d (k ∷ ks) p h = elim (cases_Bool (list_any (λ q. q == d) (k ∷ ks))) [
-    | inl y ↦ (0, d, refl, inr (meets d d (k ∷ ks) p y))
-    | inr n ↦ later d k p.0 (circle k ks p.1 (grind (arith, nat_tests)))
-  ]
-
-  -- more steps than there are directions
-  followed : (n d : ℕ) → n ≡ 128 → 0 < length (waiting m d) → Comes d
-  followed n d all some = elim (walk n d some) [
-    | inl e ↦ e
-    | inr p ↦ elim (cases_Bool (has_twice (d ∷ p.0))) [
-      | inl y ↦ circle d p.0 p.2 y
-      | inr o ↦ (let once = distinct_pass (λ q. nat_lt q 128) (d ∷ p.0) p.3 o in
-          let most = few 128 (d ∷ p.0) (λ q. grind (arith, nat_tests, once q)) (λ q. grind (arith, nat_tests, once q)) in
-          absurd (omega (arith, most, p.1, all)))
-    ]
-  ]
-
-  -- ---- no end is held, or there is none
-
-  unheld : NoEndIsHeld m → (d : ℕ) → 0 < length (waiting m d) → (n k : ℕ) × IsBehind n m d k × IsInCircle m k
-  unheld none d some = let f = followed 128 d refl some in elim f.3 [
-    | inl t ↦ absurd (none-some _ (sym (none t.0 t.1 t.3) ∙ t.2))
-    | inr c ↦ (f.0, f.1, f.2, c)
-  ]
-
   no_lines : (s : Store) (d : ℕ) (lines : List Line) → ((k : ℕ) → (slice_index_or lines k no_line).waiting.items ≡ []) → flight_lines s d lines ≡ []
   no_lines s d [] h = refl
   no_lines s d (l ∷ lines) h = rw (h 0) (no_lines s (d + 1) lines (λ k. h (suc k)))
 
-  nothing : ((r : ℕ) → end_of m r ≡ None) → flight_of m ≡ []
+  no_line_left : ((r : ℕ) → end_of m r ≡ None) → flight_of m ≡ []
   unfolding flight_of
-  nothing none = no_lines m.store 0 m.lines (λ k. elim (cases_lt 0 (length (waiting m k))) [
+  no_line_left none = no_lines m.store 0 m.lines (λ k. elim (cases_lt 0 (length (waiting m k))) [
     | inl some ↦ absurd (let e = end_there k some in none-some _ (sym (none e.0) ∙ e.1))
     | inr g ↦ nil_from_length (waiting m k) (omega (arith, g))
   ])
 
-  pub under_way : IsUnderWay m (flight_of m)
-  under_way = record {
-    there = there;
-    followed = λ d. followed 128 d refl;
-    unheld = unheld;
-    nothing = λ none. (nothing none, (are_lines m w).sum ∙ ap (λ ls. sum_by (λ (l : FlightLine). l.bytes) ls) (nothing none));
-  }
+  -- where no block is an end, nothing is in flight
+  pub nothing : ((r : ℕ) → end_of m r ≡ None) → (flight_of m ≡ []) × ((ledger_of m).flight ≡ 0)
+  nothing none = (no_line_left none, (are_lines m w).sum ∙ ap (λ ls. sum_by (λ (l : FlightLine). l.bytes) ls) (no_line_left none))

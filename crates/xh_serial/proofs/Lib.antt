@@ -1,4 +1,5 @@
 pub mod Common
+pub mod Accepting
 pub mod Machines
 pub mod Swept
 pub mod Wired

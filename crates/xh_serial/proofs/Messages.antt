@@ -1,10 +1,11 @@
 -- A give and a take leave a whole machine.
-use Rattle.xh_serial.proofs.Common.{Accepted, Bool, Direction, Holder, InStep, IsValid, IsWhole, Line, List, Machine, MayGive, MayTake, Message, None, Option, Pass, Process, Row, Some, Store, []}
-use Rattle.xh_serial.proofs.Common.{accept_all, accepted_all, after, all_owners, allowed, ap, append-nil, arith, at_set, blocks, blocks_in, carried, change, cond, contract_of, count_append, done}
+use Rattle.xh_serial.proofs.Common.{place, Bool, Direction, Holder, InStep, IsValid, IsWhole, Line, List, Machine, MayGive, MayTake, Message, None, Option, Pass, Process, Row, Some, Store, []}
+use Rattle.xh_serial.proofs.Common.{accept_all, after, allowed, ap, append-nil, arith, at_set, blocks, carried, change, cond, contract_of, count_append, done}
 use Rattle.xh_serial.proofs.Common.{false, false≢true, flat_map-append, front, get_or-set_other, get_or-set_same, given, has_twice, holds, is_banned, is_none, is_there, len, length, length-append}
 use Rattle.xh_serial.proofs.Common.{length-set, line, list_all, list_any, listed, lt-ltb, nat_lt, nat_tests, next_state, no_line, no_message, on_way, owner, pass_all, peer, put_line, put_step}
 use Rattle.xh_serial.proofs.Common.{refl, remove, same_len, slice_index_or, slice_set, subst, sym, tags_of, take_step, taken, taken_line, times, times-cons, told_line, toward, true, unwrap_or}
 use Rattle.xh_serial.proofs.Common.{waiting, without, ℕ, ◌%◌, ◌*◌, ◌++◌, ◌+◌, ◌-◌, ◌/◌, ◌<◌, ◌==◌, ◌∙◌, ◌∷◌, ◌≡◌, ◌≢◌, ◌≤◌}
+use Rattle.xh_serial.proofs.Accepting.{Accepted, accepted_all, all_owners}
 use Rattle.xh_serial.proofs.Room.{handed_whole, has, room}
 use Rattle.xh_serial.proofs.Machines.{busy_place, current_blocks, current_generation, current_range, list_set, peer_half, peer_ne, place_there, places_set, runs_busy, way_else, way_here}
 use Rattle.xh_serial.proofs.Wired.{IsPair, half_apart, put_numbered, same_lines, set_numbered, set_reached, state_in, tags_in, taken_numbered, wired_pair}
@@ -76,10 +77,10 @@ module _ (m : Machine) (p e tag : ℕ) (bs : List ℕ) (w : IsWhole m) (g : MayG
   d = peer (toward m e)
 
   abbrev z : Line
-  z = told_line (contract_of m.contracts own) (own % 2) tag (line m own)
+  z = told_line (contract_of m.contracts own) (own % 2) tag (line m.lines own)
 
   abbrev y : Line
-  y = put_line tag bs (line m d)
+  y = put_line tag bs (line m.lines d)
 
   abbrev told : List Line
   told = slice_set m.lines own z
@@ -120,7 +121,7 @@ module _ (m : Machine) (p e tag : ℕ) (bs : List ℕ) (w : IsWhole m) (g : MayG
   lists (Process k) q = grind (arith, nat_tests, list_set m.places p (without bs (blocks m p)) (place_there m p w) (current_generation m p g.runs.0) k, left q)
   lists (Direction k) q = grind (arith, nat_tests, at_set told d k y no_line there, told_way k, ap (times q) way, count_append q (on_way m d) bs)
 
-  other_lines : (k : ℕ) → k ≢ own → k ≢ d → slice_index_or (slice_set told d y) k no_line ≡ line m k
+  other_lines : (k : ℕ) → k ≢ own → k ≢ d → slice_index_or (slice_set told d y) k no_line ≡ line m.lines k
   other_lines k a b = get_or-set_other told d k y no_line b ∙ get_or-set_other m.lines own k z no_line a
 
   pub given_whole : IsWhole n
@@ -129,12 +130,12 @@ module _ (m : Machine) (p e tag : ℕ) (bs : List ℕ) (w : IsWhole m) (g : MayG
       (places_set m.places p _ w.places (busy_place m p (without bs (blocks m p)) w (runs_busy m p g.runs))) (record {
         long = length-set told d y ∙ (length-set m.lines own z ∙ w.channels.long);
         fresh = λ k l. other_lines k (λ s. let c = g.within in omega (arith, c, l, s)) (λ s. let c = below in omega (arith, c, l, s)) ∙ w.channels.fresh k l;
-        numbered = set_numbered told d y there (set_numbered m.lines own z own_there w.channels.numbered (w.channels.numbered own)) (put_numbered tag bs (line m d) (w.channels.numbered d));
+        numbered = set_numbered told d y there (set_numbered m.lines own z own_there w.channels.numbered (w.channels.numbered own)) (put_numbered tag bs (line m.lines d) (w.channels.numbered d));
         contracts_long = w.channels.contracts_long;
         wired = wired_pair m.contracts m.lines (slice_set told d y) own w.channels.wired (λ rows is valid pair. give_pair rows m.lines (slice_set told d y) own tag bs valid
-            (subst (λ (o : Option (List Row)). is_banned o (own % 2) (line m own).state tag ≡ false) is g.allowed)
+            (subst (λ (o : Option (List Row)). is_banned o (own % 2) (line m.lines own).state tag ≡ false) is g.allowed)
             (get_or-set_other told d own y no_line (λ s. peer_ne own (sym s)) ∙ get_or-set_same m.lines own z no_line own_there
-            ∙ ap (λ (o : Option (List Row)). told_line o (own % 2) tag (line m own)) is)
+            ∙ ap (λ (o : Option (List Row)). told_line o (own % 2) tag (line m.lines own)) is)
             (get_or-set_same told d y no_line there) pair)
             (λ k h. other_lines k (half_apart own k h) (λ s. h (ap (λ (i : ℕ). i / 2) s ∙ peer_half own)));
         few = w.channels.few;
@@ -154,12 +155,12 @@ abbrev front_tag : Line → ℕ
 front_tag l = (slice_index_or l.waiting.items 0 no_message).tag
 
 -- the list of the taker has room for the records of the front message
-pub taken_room : (m : Machine) (p e : ℕ) → IsWhole m → MayTake m p e (toward m e) → length (blocks_in m.places p) + length (front m e).blocks.items ≤ 2048
+pub taken_room : (m : Machine) (p e : ℕ) → IsWhole m → MayTake m p e (toward m e) → length (place m.places p).blocks.items + length (front m e).blocks.items ≤ 2048
 taken_room m p e w t =
     let rest : List ℕ = carried (remove (waiting m (toward m e)) 0) in
     let all : length (blocks m p) + length (on_way m (toward m e)) ≤ 2048 = room m p (Some (toward m e)) w in
     let way : length (on_way m (toward m e)) ≡ length (front m e).blocks.items + length rest = grind (arith, nat_tests, front_split, length-append) in
-    let a : length (blocks_in m.places p) ≡ length (blocks m p) = ap length (sym (current_blocks m p t.runs.0)) in
+    let a : length (place m.places p).blocks.items ≡ length (blocks m p) = ap length (sym (current_blocks m p t.runs.0)) in
     omega (arith, all, way, a)
 
 -- the end that takes the front message is in step again
@@ -184,7 +185,7 @@ module _ (m : Machine) (p e : ℕ) (w : IsWhole m) (t : MayTake m p e (toward m 
   came = (front m e).blocks.items
 
   abbrev shorter : Line
-  shorter = taken_line (contract_of m.contracts way_d) (1 - way_d % 2) (front m e).tag (line m way_d)
+  shorter = taken_line (contract_of m.contracts way_d) (1 - way_d % 2) (front m e).tag (line m.lines way_d)
 
   abbrev later : Machine
   later = taken p e m
@@ -214,10 +215,10 @@ module _ (m : Machine) (p e : ℕ) (w : IsWhole m) (t : MayTake m p e (toward m 
         long = length-set m.lines way_d shorter ∙ w.channels.long;
         fresh = λ k l. get_or-set_other m.lines way_d k shorter no_line (λ s. let c = t.within in omega (arith, c, l, s)) ∙ w.channels.fresh k l;
         numbered = set_numbered m.lines way_d shorter way_there w.channels.numbered
-            (taken_numbered (contract_of m.contracts way_d) (1 - way_d % 2) (front m e).tag (line m way_d) t.some (w.channels.numbered way_d));
+            (taken_numbered (contract_of m.contracts way_d) (1 - way_d % 2) (front m e).tag (line m.lines way_d) t.some (w.channels.numbered way_d));
         contracts_long = w.channels.contracts_long;
         wired = wired_pair m.contracts m.lines (slice_set m.lines way_d shorter) way_d w.channels.wired (λ rows is valid pair. take_pair rows m.lines (slice_set m.lines way_d shorter) way_d t.some
-            (get_or-set_same m.lines way_d shorter no_line way_there ∙ ap (λ (o : Option (List Row)). taken_line o (1 - way_d % 2) (front m e).tag (line m way_d)) is)
+            (get_or-set_same m.lines way_d shorter no_line way_there ∙ ap (λ (o : Option (List Row)). taken_line o (1 - way_d % 2) (front m e).tag (line m.lines way_d)) is)
             (get_or-set_other m.lines way_d (peer way_d) shorter no_line (peer_ne way_d)) pair)
             (λ k h. get_or-set_other m.lines way_d k shorter no_line (half_apart way_d k h));
         few = w.channels.few;
@@ -225,12 +226,12 @@ module _ (m : Machine) (p e : ℕ) (w : IsWhole m) (t : MayTake m p e (toward m 
       (set_reached m.ends m.lines m.opened way_d shorter way_there refl (λ s. ap (λ (ms : List Message). remove ms 0) (w.reached.drained way_d s)) w.reached)
 
   -- the front message is one that the contract allows
-  pub front_allowed : (o : Option (List Row)) → contract_of m.contracts way_d ≡ o → is_banned o (1 - way_d % 2) (line m way_d).state (front m e).tag ≡ false
+  pub front_allowed : (o : Option (List Row)) → contract_of m.contracts way_d ≡ o → is_banned o (1 - way_d % 2) (line m.lines way_d).state (front m e).tag ≡ false
   front_allowed None is = refl
   front_allowed (Some rows) is =
       let pair : IsPair rows m.lines way_d = (w.channels.wired way_d rows is).1 in
       let rest : List ℕ = tags_of (remove (waiting m way_d) 0) in
       let split : tags_of (waiting m way_d) ≡ (front m e).tag ∷ rest = front_tags (waiting m way_d) t.some in
-      let s = take_step rows (way_d % 2) (line m way_d).state (front m e).tag (state_in m.lines (peer way_d)) rest (tags_in m.lines (peer way_d))
-      (subst (λ (xs : List ℕ). InStep rows (way_d % 2) (line m way_d).state xs (state_in m.lines (peer way_d)) (tags_in m.lines (peer way_d))) split pair) in
+      let s = take_step rows (way_d % 2) (line m.lines way_d).state (front m e).tag (state_in m.lines (peer way_d)) rest (tags_in m.lines (peer way_d))
+      (subst (λ (xs : List ℕ). InStep rows (way_d % 2) (line m.lines way_d).state xs (state_in m.lines (peer way_d)) (tags_in m.lines (peer way_d))) split pair) in
       ap (λ (o : Option ℕ). is_none o) s.1

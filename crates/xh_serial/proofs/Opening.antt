@@ -1,25 +1,25 @@
 -- A new machine is whole, and so is one where a process starts, and one where a channel is opened.
-use Rattle.xh_serial.proofs.Common.{ArePlaces, Bool, Carve, Claim, Config, Cut, Direction, Holder, IsConfig, IsLawful, IsNumbered, IsRunning, IsSound, IsWhole, Line, List, Machine, NoPlace, None}
+use Rattle.xh_serial.proofs.Common.{new_line, ArePlaces, Bool, Carve, Claim, Config, Cut, Direction, Holder, IsConfig, IsLawful, IsNumbered, IsRunning, IsSound, IsWhole, Line, List, Machine, None}
 use Rattle.xh_serial.proofs.Common.{Option, Place, Process, Row, Shared, Some, Store, [], after, ap, append_assoc, arith, at_replicate, at_set, blocks, buffer, cases_eq, cond, count_append}
 use Rattle.xh_serial.proofs.Common.{end_of, eq-eqb, false, false≢true, get_or-set_other, get_or-set_same, holds, inl, inr, is_held_by, is_over, is_ready, is_some, len, length, length-append}
-use Rattle.xh_serial.proofs.Common.{length-replicate, length-set, line, listed, moved, nat_tests, ne_eqb, new_machine, new_store, no_bytes, no_line, no_place, ok_or, on_way, one_time, owner, peer}
-use Rattle.xh_serial.proofs.Common.{place, place_in, position, position-Some, refl, set-set, slice_index_or, slice_set, spawn_at, started, started_at, subst, sym, times, true, waiting, ℕ, ◌%◌}
+use Rattle.xh_serial.proofs.Common.{length-replicate, length-set, line, listed, moved, nat_tests, ne_eqb, new_machine, new_store, no_bytes, no_line, no_place, on_way, one_time, owner, peer}
+use Rattle.xh_serial.proofs.Common.{place, position, position-Some, refl, set-set, slice_index_or, slice_set, started, started_at, subst, sym, times, true, waiting, ℕ, ◌%◌}
 use Rattle.xh_serial.proofs.Common.{◌*◌, ◌++◌, ◌+◌, ◌/◌, ◌<◌, ◌==◌, ◌∙◌, ◌∷◌, ◌≡◌, ◌≢◌}
 use Rattle.xh_serial.proofs.Machines.{IsPlace, current_generation, list_in, list_set, peer_half, place_here, place_there, places_set, places_whole, runs_busy, same_lists}
-use Rattle.xh_serial.specs.ChannelCommands.{new_line, open_channel, opened, wire_channel, wired}
+use Rattle.xh_serial.specs.ChannelCommands.{open_channel, opened, wire_channel, wired}
 use Rattle.xh_serial.proofs.Room.{room}
 use Rattle.xh_serial.proofs.Wired.{same_lines, set_numbered}
 
-module _ (m : Machine) (p : ℕ) (w : IsWhole m) (c : is_ready (place m p) ≡ true) where
+module _ (m : Machine) (p : ℕ) (w : IsWhole m) (c : is_ready (place m.places p) ≡ true) where
   abbrev next : Machine
-  next = record m { places = slice_set m.places (p % 32) (started (place m p)) }
+  next = record m { places = slice_set m.places (p % 32) (started (place m.places p)) }
 
   started_whole : IsWhole next
   started_whole =
-      let empty : (place m p).blocks.items ≡ [] = grind (arith, nat_tests, w.places.idle p) in
-      let is : IsPlace (started (place m p)) = record { generation = grind (arith, nat_tests, w.places.generations p); idle = λ h. absurd (false≢true h) } in
-      places_whole m _ w (places_set m.places p (started (place m p)) w.places is)
-      (λ k q. ap (times q) (same_lists m.places p (started (place m p)) (place_there m p w) (λ k. grind (arith, nat_tests, empty)) k))
+      let empty : (place m.places p).blocks.items ≡ [] = grind (arith, nat_tests, w.places.idle p) in
+      let is : IsPlace (started (place m.places p)) = record { generation = grind (arith, nat_tests, w.places.generations p); idle = λ h. absurd (false≢true h) } in
+      places_whole m _ w (places_set m.places p (started (place m.places p)) w.places is)
+      (λ k q. ap (times q) (same_lists m.places p (started (place m.places p)) (place_there m p w) (λ k. grind (arith, nat_tests, empty)) k))
 
 -- the same at the first place where one can
 pub spawn_whole : (m : Machine) (o : Option ℕ) → IsWhole m → position is_ready m.places ≡ o → IsWhole (record m { places = (started_at o m.places).1 })
@@ -30,10 +30,6 @@ spawn_whole m (Some k) w e =
     subst (λ (i : ℕ). IsWhole (record m { places = slice_set m.places i (started (slice_index_or m.places i no_place)) })) small
     (started_whole m k w (ap (λ (i : ℕ). is_ready (slice_index_or m.places i no_place)) small ∙ at.1))
 
--- what a spawn answers and leaves, by what the places do
-pub spawn_gives : (m : Machine) (o : Option ℕ) → spawn_at o m ≡ (ok_or (started_at o m.places).0 NoPlace, record m { places = (started_at o m.places).1 })
-spawn_gives m o = grind (arith, nat_tests)
-
 -- ---- a new machine
 
 module _ (c : Config) (is : IsConfig c) (lawful : IsLawful (new_store c)) where
@@ -41,7 +37,7 @@ module _ (c : Config) (is : IsConfig c) (lawful : IsLawful (new_store c)) where
   m = new_machine c
 
   -- what is read of it at any number
-  bare : (r : ℕ) → (owner m.store r ≡ None) × (end_of m r ≡ None) × (buffer m r ≡ []) × (place m r ≡ no_place) × (line m r ≡ no_line)
+  bare : (r : ℕ) → (owner m.store r ≡ None) × (end_of m r ≡ None) × (buffer m r ≡ []) × (place m.places r ≡ no_place) × (line m.lines r ≡ no_line)
   unfolding new_machine new_store
   bare r = (at_replicate (256 * c.arenas) r None, at_replicate (256 * c.arenas) r None, at_replicate (256 * c.arenas) r [], at_replicate 32 (r % 32) no_place, at_replicate 128 r no_line)
 
@@ -97,8 +93,8 @@ pub record Connects (s : Store) (p q r t : ℕ) (contract : Option (List Row)) (
 
 -- p is the latest process of its place, and may list something
 pub record IsBusy (ps : List Place) (p : ℕ) : Type 0 where
-  pub current : (place_in ps p).generation ≡ p / 32
-  pub busy : is_over (place_in ps p).status ≡ false
+  pub current : (place ps p).generation ≡ p / 32
+  pub busy : is_over (place ps p).status ≡ false
 
 running_place : (m : Machine) (p : ℕ) → IsRunning m p → IsBusy m.places p
 running_place m p r = record { current = current_generation m p r.0; busy = runs_busy m p r }
@@ -108,39 +104,39 @@ abbrev longer : ℕ → Place → Place
 longer r x = record x { blocks = record { items = x.blocks.items ++ r ∷ [] } }
 
 abbrev pub appended : ℕ → ℕ → List Place → List Place
-appended p r ps = slice_set ps (p % 32) (longer r (place_in ps p))
+appended p r ps = slice_set ps (p % 32) (longer r (place ps p))
 
-pub own_list : (ps : List Place) (p : ℕ) → IsBusy ps p → list_in ps p ≡ (place_in ps p).blocks.items
-own_list ps p b = let e : ((place_in ps p).generation == (p / 32)) ≡ true = eq-eqb _ _ b.current in rw e refl
+pub own_list : (ps : List Place) (p : ℕ) → IsBusy ps p → list_in ps p ≡ (place ps p).blocks.items
+own_list ps p b = let e : ((place ps p).generation == (p / 32)) ≡ true = eq-eqb _ _ b.current in rw e refl
 
 module _ (ps : List Place) (p r : ℕ) (a : ArePlaces ps) (b : IsBusy ps p) where
   within : p % 32 < length ps
   within = let e = a.long in omega (arith, e)
 
-  at : (k : ℕ) → place_in (appended p r ps) k ≡ cond ((k % 32) == (p % 32)) (longer r (place_in ps p)) (place_in ps k)
-  at k = at_set ps (p % 32) (k % 32) (longer r (place_in ps p)) no_place within
+  at : (k : ℕ) → place (appended p r ps) k ≡ cond ((k % 32) == (p % 32)) (longer r (place ps p)) (place ps k)
+  at k = at_set ps (p % 32) (k % 32) (longer r (place ps p)) no_place within
 
   pub appended_places : ArePlaces (appended p r ps)
-  appended_places = places_set ps p (longer r (place_in ps p)) a (record { generation = a.generations p; idle = λ h. absurd (false≢true (sym b.busy ∙ h)) })
+  appended_places = places_set ps p (longer r (place ps p)) a (record { generation = a.generations p; idle = λ h. absurd (false≢true (sym b.busy ∙ h)) })
 
   pub appended_busy : (k : ℕ) → IsBusy ps k → IsBusy (appended p r ps) k
   appended_busy k h = record { current = grind (arith, nat_tests, at k, h.current); busy = grind (arith, nat_tests, at k, h.busy) }
 
   pub appended_list : (k : ℕ) → list_in (appended p r ps) k ≡ cond (p == k) (list_in ps k ++ r ∷ []) (list_in ps k)
-  appended_list k = grind (arith, nat_tests, list_set ps p ((place_in ps p).blocks.items ++ r ∷ []) within b.current k, b.current)
+  appended_list k = grind (arith, nat_tests, list_set ps p ((place ps p).blocks.items ++ r ∷ []) within b.current k, b.current)
 
   -- two records for one process
-  pub appended_twice : (t : ℕ) → appended p t (appended p r ps) ≡ slice_set ps (p % 32) (record (place_in ps p) { blocks = record { items = list_in ps p ++ r ∷ t ∷ [] } })
+  pub appended_twice : (t : ℕ) → appended p t (appended p r ps) ≡ slice_set ps (p % 32) (record (place ps p) { blocks = record { items = list_in ps p ++ r ∷ t ∷ [] } })
   appended_twice t = grind (arith, nat_tests, place_here, within, list_in, append_assoc, own_list, set-set)
 
   -- one each for two
   pub appended_both : (q t : ℕ) → IsBusy ps q → p ≢ q →
-      appended q t (appended p r ps) ≡ slice_set (slice_set ps (p % 32) (record (place_in ps p) { blocks = record { items = list_in ps p ++ r ∷ [] } })) (q % 32)
-      (record (place_in (slice_set ps (p % 32) (record (place_in ps p) { blocks = record { items = list_in ps p ++ r ∷ [] } })) q) { blocks = record { items = list_in ps q ++ t ∷ [] } })
+      appended q t (appended p r ps) ≡ slice_set (slice_set ps (p % 32) (record (place ps p) { blocks = record { items = list_in ps p ++ r ∷ [] } })) (q % 32)
+      (record (place (slice_set ps (p % 32) (record (place ps p) { blocks = record { items = list_in ps p ++ r ∷ [] } })) q) { blocks = record { items = list_in ps q ++ t ∷ [] } })
   appended_both q t h n =
-      let first : appended p r ps ≡ slice_set ps (p % 32) (record (place_in ps p) { blocks = record { items = list_in ps p ++ r ∷ [] } }) = grind (arith, nat_tests, own_list) in
+      let first : appended p r ps ≡ slice_set ps (p % 32) (record (place ps p) { blocks = record { items = list_in ps p ++ r ∷ [] } }) = grind (arith, nat_tests, own_list) in
       let same : list_in (appended p r ps) q ≡ list_in ps q = appended_list q ∙ rw (ne_eqb p q n) refl in
-      let items : (place_in (appended p r ps) q).blocks.items ≡ list_in ps q = sym (own_list (appended p r ps) q (appended_busy q h)) ∙ same in
+      let items : (place (appended p r ps) q).blocks.items ≡ list_in ps q = sym (own_list (appended p r ps) q (appended_busy q h)) ∙ same in
       grind (arith, nat_tests, list_in)
 
 -- ---- the machine after it
@@ -186,13 +182,13 @@ module _ (s : Store) (p q r t : ℕ) (contract : Option (List Row)) (m : Machine
   long_lines : 2 * m.opened + 1 < length m.lines
   long_lines = let e = v.whole.channels.long in omega (arith, e, v.more)
 
-  line_is : (d : ℕ) → line n d ≡ cond ((d / 2) == m.opened) (new_line contract) (line m d)
+  line_is : (d : ℕ) → line n.lines d ≡ cond ((d / 2) == m.opened) (new_line contract) (line m.lines d)
   line_is d = grind (arith, nat_tests, length-set, long_lines, at_set)
 
-  line_new : (d : ℕ) → d / 2 ≡ m.opened → line n d ≡ new_line contract
+  line_new : (d : ℕ) → d / 2 ≡ m.opened → line n.lines d ≡ new_line contract
   line_new d e = line_is d ∙ rw (eq-eqb (d / 2) m.opened e) refl
 
-  line_old : (d : ℕ) → d / 2 ≢ m.opened → line n d ≡ line m d
+  line_old : (d : ℕ) → d / 2 ≢ m.opened → line n.lines d ≡ line m.lines d
   line_old d a = line_is d ∙ rw (ne_eqb (d / 2) m.opened a) refl
 
   ways : (d : ℕ) → on_way n d ≡ on_way m d
@@ -207,10 +203,10 @@ module _ (s : Store) (p q r t : ℕ) (contract : Option (List Row)) (m : Machine
   end_is : (k : ℕ) → end_of n k ≡ cond (k == t) (Some (2 * m.opened + 1)) (cond (k == r) (Some (2 * m.opened)) (end_of m k))
   end_is k = grind (arith, nat_tests, length-set, at_set)
 
-  drained : (d : ℕ) → (line n d).shut ≡ true → waiting n d ≡ []
+  drained : (d : ℕ) → (line n.lines d).shut ≡ true → waiting n d ≡ []
   drained d = grind (arith, nat_tests, line_is d, v.whole.reached.drained d)
 
-  reached : (d : ℕ) → d < 2 * (m.opened + 1) → (line n d).shut ≡ false → (e : ℕ) × (end_of n e ≡ Some d)
+  reached : (d : ℕ) → d < 2 * (m.opened + 1) → (line n.lines d).shut ≡ false → (e : ℕ) × (end_of n e ≡ Some d)
   reached d below not_shut = elim (cases_eq (d / 2) m.opened) [
     | inl e ↦ (cond ((d % 2) == 0) r t, grind (arith, nat_tests, end_is r, end_is t, v.shared.apart))
     | inr a ↦ (
@@ -249,11 +245,14 @@ module _ (s : Store) (p q r t : ℕ) (contract : Option (List Row)) (m : Machine
         | inl e ↦ (
             let known : m.opened < length m.contracts = subst (λ (x : ℕ). m.opened < x) (sym v.whole.channels.contracts_long) v.more in
             let there : contract ≡ Some rows = sym (get_or-set_same m.contracts m.opened contract None known) ∙ (ap (λ (i : ℕ). slice_index_or n.contracts i None) (sym e) ∙ is) in
-            let high : new_line contract ≡ line n (peer d) = sym (line_new (peer d) (peer_half d ∙ e)) in
-            (v.sound rows there, same_lines rows (d % 2) (new_line contract) (line n d) (new_line contract) (line n (peer d)) (sym (line_new d e)) high (refl, inl refl)))
+            let high : new_line contract ≡ line n.lines (peer d) = sym (line_new (peer d) (peer_half d ∙ e)) in
+            (v.sound rows there, same_lines rows (d % 2) (new_line contract) (line n.lines d) (new_line contract) (line n.lines (peer d)) (sym (line_new d e)) high (refl, inl refl)))
         | inr a ↦ (
-            let was = v.whole.channels.wired d rows (sym (get_or-set_other m.contracts m.opened (d / 2) contract None a) ∙ is) in
-            (was.0, same_lines rows (d % 2) (line m d) (line n d) (line m (peer d)) (line n (peer d)) (sym (line_old d a)) (sym (line_old (peer d) (λ s. a (sym (peer_half d) ∙ s)))) was.1))
+            let was = v.whole.channels.wired d rows (sym (get_or-set_other m.contracts m.opened (d / 2) contract None a) ∙ is) in (
+              was.0,
+              same_lines rows (d % 2) (line m.lines d) (line n.lines d) (line m.lines (peer d)) (line n.lines (peer d))
+                  (sym (line_old d a)) (sym (line_old (peer d) (λ s. a (sym (peer_half d) ∙ s)))) was.1,
+            ))
       ];
       few = omega (arith, v.more);
     };
@@ -263,10 +262,10 @@ module _ (s : Store) (p q r t : ℕ) (contract : Option (List Row)) (m : Machine
 
   -- ---- the lists have room
 
-  pub room_q : length (place_in (appended p r m.places) q).blocks.items < 2048
+  pub room_q : length (place (appended p r m.places) q).blocks.items < 2048
   room_q = grind (arith, nat_tests, room n q None connected_whole, lists q, length-append (list_in (appended p r m.places) q) (t ∷ []), own_list (appended p r m.places) q busy_q)
 
-  pub room_p : length (place_in m.places p).blocks.items < 2048
+  pub room_p : length (place m.places p).blocks.items < 2048
   room_p =
       let all = room n p None connected_whole in let one = length-append (list_in m.places p) (r ∷ []) in let more = length-append (list_in (appended p r m.places) p) (t ∷ []) in
       grind (arith, nat_tests, lists p, between p, own_list m.places p (running_place m p v.runs_p))

@@ -1,6 +1,6 @@
 -- Records that go from one holder, or from none, to another, or to none; how many there are at most, and how many bytes they have.
 use Rattle.xh_serial.proofs.Common.{AreChannels, ArePlaces, Direction, HaveEnds, Holder, IsEnd, IsLawful, IsWhole, Line, List, Machine, None, Option, Place, Process, Some, Store, [], all_holders}
-use Rattle.xh_serial.proofs.Common.{all_out, ap, arith, blocks, buffer, bytes_of, carried, cond, count_append, end_of, eq-eqb, get_or, holders, holds, is_held_by, is_some, is_there, len, length}
+use Rattle.xh_serial.proofs.Common.{all_out, ap, arith, blocks, buffer, bytes_of, carried, cond, count_append, end_of, get_or, holders, holds, is_held_by, is_some, is_there, len, length}
 use Rattle.xh_serial.proofs.Common.{length-append, length-range_with_len, listed, map, nat_lt, nat_tests, no_line, no_place, numbers, on_way, owner, range_with_len, refl, same_direction}
 use Rattle.xh_serial.proofs.Common.{same_known, same_len, same_process, slice_index_or, sum_add, sum_by, sum_by-append, sum_by-cons, sum_by-le, sum_same, sum_zero, sym, times, times-cons, total}
 use Rattle.xh_serial.proofs.Common.{total_bytes, true, way_in, ℕ, ◌%◌, ◌*◌, ◌++◌, ◌+◌, ◌<◌, ◌==◌, ◌∙◌, ◌∷◌, ◌≡◌, ◌≤◌}
@@ -159,12 +159,6 @@ place_bytes m k = total m.store (slice_index_or m.places k no_place).blocks.item
 at_place : (m : Machine) (p k : ℕ) → k < 32 → cond (latest m k == p) (place_bytes m k) 0 ≡ cond ((p % 32) == k) (total m.store (blocks m p)) 0
 unfolding latest
 at_place m p k l = grind (arith, nat_tests)
-
--- what the latest process of a place holds is what its place lists
-pub place_total : (m : Machine) (k : ℕ) → IsWhole m → k < 32 →
-    bytes_of m.store (Process (k + 32 * (slice_index_or m.places k no_place).generation)) ≡ total m.store (slice_index_or m.places k no_place).blocks.items
-unfolding latest
-place_total m k w l = grind (arith, nat_tests, latest, at_place, listed_bytes, eq-eqb)
 
 latest_below : (m : Machine) (k : ℕ) → IsWhole m → k < 32 → latest m k < 4096
 unfolding latest

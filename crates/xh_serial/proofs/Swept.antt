@@ -1,9 +1,10 @@
 -- What sweeping one entry leaves: a whole machine.
-use Rattle.xh_serial.proofs.Common.{Accepted, Bool, Direction, GiveBack, Holder, IsEnd, IsLawful, IsWhole, Line, List, Machine, None, Option, Place, Process, Row, Some, Store, Vacate, []}
-use Rattle.xh_serial.proofs.Common.{accept_from, accepted_all, after, all_out, ap, arena_there, arith, arriving, at_set, blocks, blocks_in, buffer, cases_Bool, change, cond, count_append, done}
+use Rattle.xh_serial.proofs.Common.{place, Bool, Direction, GiveBack, Holder, IsEnd, IsLawful, IsWhole, Line, List, Machine, None, Option, Place, Process, Row, Some, Store, Vacate, []}
+use Rattle.xh_serial.proofs.Common.{accept_from, after, all_out, ap, arena_there, arith, arriving, at_set, blocks, buffer, cases_Bool, change, cond, count_append, done}
 use Rattle.xh_serial.proofs.Common.{end_of, eq-eqb, false, false≢true, get_or-le-sum_by, get_or-set_other, holds, inl, inr, is_some, is_there, len, len_back, len_back_else, length, length-append}
 use Rattle.xh_serial.proofs.Common.{length-set, line, listed, lt-ltb, nat_lt, nat_tests, ne_eqb, no_line, on_way, owner, refl, relisted, remove, same_direction, same_known, same_len, same_process}
 use Rattle.xh_serial.proofs.Common.{shut_in, slice_index_or, sum_by-remove, sweep, sweep_one, sym, times, true, way_in, ℕ, ◌*◌, ◌++◌, ◌+◌, ◌-◌, ◌/◌, ◌<◌, ◌==◌, ◌∙◌, ◌≡◌, ◌≢◌, ◌≤◌, ◌⊎◌}
+use Rattle.xh_serial.proofs.Accepting.{Accepted, accepted_all}
 use Rattle.xh_model.specs.Arena.{ArenaState}
 use Rattle.std.proofs.lemmas.List.{get_or_append_left}
 use Rattle.xh_serial.proofs.Machines.{busy_place, current_blocks, current_generation, current_range, list_set, lists_current, place_there, places_set, relisted_again, relisted_list, way_else}
@@ -38,12 +39,12 @@ entry_there m p from w l = is_there m.store (Process p) (entry m p from) (entry_
 
 -- the list with what came to the entry, and without the entry
 pub entry_left : (m : Machine) (p from : ℕ) (came : List ℕ) (ps qs : List Place) → IsWhole m → from < length (blocks m p) → came ≡ arriving m (entry m p from) →
-    ps ≡ relisted p (blocks_in m.places p ++ came) m.places → qs ≡ relisted p (remove (blocks_in ps p) from) ps →
+    ps ≡ relisted p ((place m.places p).blocks.items ++ came) m.places → qs ≡ relisted p (remove (place ps p).blocks.items from) ps →
     qs ≡ relisted p (remove (blocks m p ++ arriving m (entry m p from)) from) m.places
 entry_left m p from came ps qs w l e add cut = grind (arith, nat_tests, place_there, current_blocks, lists_current, relisted_again, relisted_list)
 
 -- the list has room for what came
-pub entry_room : (m : Machine) (p from : ℕ) (o : Option ℕ) → IsWhole m → from < length (blocks m p) → length (blocks_in m.places p) + length (way_in m.lines o) ≤ 2048
+pub entry_room : (m : Machine) (p from : ℕ) (o : Option ℕ) → IsWhole m → from < length (blocks m p) → length (place m.places p).blocks.items + length (way_in m.lines o) ≤ 2048
 entry_room m p from o w l = grind (arith, nat_tests, current_blocks, lists_current, room)
 
 abbrev accepted_store : ℕ → ℕ → Machine → Store
@@ -77,6 +78,10 @@ module _ (m : Machine) (p from : ℕ) (w : IsWhole m) (l : from < length (blocks
 
   accepted : Accepted p (arriving m r) m.store t
   accepted = came_from m p (end_of m r) w (current_range m p w (lists_current m p from l))
+
+  -- what it accepts changes no length
+  pub entry_len : len t r ≡ len m.store r
+  entry_len = same_len m.store t r accepted.arenas
 
   own : owner t r ≡ Some (Process p)
   own = accepted.owners r ∙ rw (none_of_own m p r (end_of m r) w held) (same_process _ _ held)
@@ -205,7 +210,7 @@ fresh_shut : (contracts : List (Option (List Row))) (lines : List Line) (o : Opt
     slice_index_or (shut_in contracts lines o) k no_line ≡ slice_index_or lines k no_line
 fresh_shut contracts lines o k n = grind (arith, nat_tests, get_or-set_other)
 
-fresh_now : (m : Machine) (p from k : ℕ) → IsWhole m → 2 * m.opened ≤ k → line (sweep_one p from m) k ≡ no_line
+fresh_now : (m : Machine) (p from k : ℕ) → IsWhole m → 2 * m.opened ≤ k → line (sweep_one p from m).lines k ≡ no_line
 unfolding sweep_one
 fresh_now m p from k w h = grind (arith, nat_tests, fresh_shut)
 

@@ -80,14 +80,14 @@ shut_wired contracts lines (Some d) l w =
 
 pub wired_orderly : (m : Machine) → AreWired m.contracts m.lines → AreOrderly m
 wired_orderly m wired c rows is =
-    let low : Line = line m (2 * c) in
-    let high : Line = line m (2 * c + 1) in
+    let low : Line = line m.lines (2 * c) in
+    let high : Line = line m.lines (2 * c + 1) in
     let half : 2 * c / 2 ≡ c = omega arith in
     let side : 2 * c % 2 ≡ 0 = omega arith in
     let next : peer (2 * c) ≡ 2 * c + 1 = rw (eq-eqb (2 * c % 2) 0 side) refl in
     let there : contract_of m.contracts (2 * c) ≡ Some rows = ap (λ (k : ℕ). slice_index_or m.contracts k None) half ∙ is in
-    let here : ArePaired rows 0 low (line m (peer (2 * c))) = subst (λ (s : ℕ). ArePaired rows s low (line m (peer (2 * c)))) side (wired (2 * c) rows there).1 in
-    let step : ArePaired rows 0 low high = subst (λ (k : ℕ). ArePaired rows 0 low (line m k)) next here in (
+    let here : ArePaired rows 0 low (line m.lines (peer (2 * c))) = subst (λ (s : ℕ). ArePaired rows s low (line m.lines (peer (2 * c)))) side (wired (2 * c) rows there).1 in
+    let step : ArePaired rows 0 low high = subst (λ (k : ℕ). ArePaired rows 0 low (line m.lines k)) next here in (
       front_step rows 0 low.state high.state (tags_of low.waiting.items) (tags_of high.waiting.items) step,
       front_step rows 1 high.state low.state (tags_of high.waiting.items) (tags_of low.waiting.items) (swapped rows 0 1 low high refl refl step),
       step.1,
@@ -96,7 +96,7 @@ wired_orderly m wired c rows is =
 pub whole_orderly : (m n : Machine) → IsWhole m → m ≡ n → AreOrderly n
 whole_orderly m n w e = subst AreOrderly e (wired_orderly m w.channels.wired)
 
-pub whole_numbered : (m n : Machine) → IsWhole m → m ≡ n → (d : ℕ) → IsNumbered (line n d)
+pub whole_numbered : (m n : Machine) → IsWhole m → m ≡ n → (d : ℕ) → IsNumbered (line n.lines d)
 whole_numbered m n w e d = rw (← e) (w.channels.numbered d)
 
 -- so it is of each of the lines

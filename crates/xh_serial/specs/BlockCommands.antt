@@ -9,7 +9,7 @@ use Rattle.xh_core.specs.declared.refused.Refused.TheVariants.{OutOfMemory, NoRe
 use Rattle.xh_core.specs.Calls.{start, alloc_tests, data_tests, split_tests, range_tests}
 use Rattle.xh_core.specs.Refusing.{Tests, first_refusal}
 use Rattle.xh_core.specs.Space.{free_record, lowest, rounded, space_tests}
-use Rattle.xh_serial.specs.Machine.{Machine, buffer, blocks, status_at, with_list}
+use Rattle.xh_serial.specs.Machine.{Machine, buffer, blocks, relisted, status_at}
 use Rattle.xh_serial.specs.Commands.{Answer, answered, found}
 
 -- ---- alloc
@@ -24,10 +24,11 @@ alloc_refusals is_refused m p n a = alloc_heads m p n a ++ (is_refused, OutOfMem
 
 -- a free record is claimed and carved; its bytes are zeros, and it goes to the end of the list
 unfoldable pub allocated : ℕ → ℕ → ℕ → Machine → Machine
-allocated p r n m = with_list p (blocks m p ++ r ∷ []) (record m {
+allocated p r n m = record m {
   store = after (Carve p r n) (after (Claim p r) m.store);
   buffers = slice_set m.buffers r (replicate n 0);
-})
+  places = relisted p (blocks m p ++ r ∷ []) m.places;
+}
 
 unfoldable pub alloc : Bool → ℕ → ℕ → ℕ → Machine → Answer Block
 alloc is_refused p n a m = answered (first_refusal (alloc_refusals is_refused m p n a)) m
@@ -43,10 +44,11 @@ split_refusals is_refused m p r k = split_heads m p r k ++ (is_refused, OutOfMem
 
 -- a free record t is claimed and gets what is past the first k bytes of r; the buffer is cut in two
 unfoldable pub parted : ℕ → ℕ → ℕ → ℕ → Machine → Machine
-parted p r t k m = with_list p (blocks m p ++ t ∷ []) (record m {
+parted p r t k m = record m {
   store = after (Cut p r t k) (after (Claim p t) m.store);
   buffers = slice_set (slice_set m.buffers t (drop k (buffer m r))) r (take k (buffer m r));
-})
+  places = relisted p (blocks m p ++ t ∷ []) m.places;
+}
 
 unfoldable pub split : Bool → ℕ → ℕ → ℕ → Machine → Answer (Block × Block)
 split is_refused p r k m =
@@ -77,10 +79,11 @@ free_refusals m p r = start (status_at m p) ++ data_tests (found m p r)
 
 -- the bytes of a block are given back, its record is vacated, and it leaves the list
 unfoldable pub freed_block : ℕ → ℕ → Machine → Machine
-freed_block p r m = with_list p (remove (blocks m p) (position_or_len (λ q. q == r) (blocks m p))) (record m {
+freed_block p r m = record m {
   store = after (Vacate p r) (after (GiveBack p r) m.store);
   buffers = slice_set m.buffers r [];
-})
+  places = relisted p (remove (blocks m p) (position_or_len (λ q. q == r) (blocks m p))) m.places;
+}
 
 -- the length of the block
 unfoldable pub free : ℕ → ℕ → Machine → Answer ℕ

@@ -1,13 +1,12 @@
 -- The commands open and wire, with a contract or without.
-use Rattle.std.specs.Prelude.{ℕ, ◌+◌, ◌*◌, ◌==◌, false, cond, List, [], ◌∷◌, ◌++◌, Option, Some, None, length, slice_set, Ok}
+use Rattle.std.specs.Prelude.{ℕ, ◌+◌, ◌*◌, ◌==◌, cond, List, [], ◌∷◌, ◌++◌, Option, Some, length, slice_set, Ok}
 use Rattle.xh_model.specs.declared.limits.TheConstants.{END_BYTES}
 use Rattle.xh_model.specs.declared.event.Event.TheVariants.{Claim, Carve, Cut}
 use Rattle.xh_model.specs.declared.row.Row.{Row}
-use Rattle.xh_model.specs.Rows.{row_at}
 use Rattle.xh_model.specs.Store.{after}
 use Rattle.xh_core.specs.declared.block.Block.{Block}
-use Rattle.xh_serial.specs.declared.line.Line.{Line}
-use Rattle.xh_serial.specs.Machine.{Machine, blocks, status_at, with_list}
+use Rattle.xh_serial.specs.Lines.{new_line}
+use Rattle.xh_serial.specs.Machine.{Machine, blocks, relisted, status_at}
 use Rattle.xh_serial.specs.Commands.{Answer, answered}
 use Rattle.xh_core.specs.Calls.{start, channel_tests}
 use Rattle.xh_core.specs.Refusing.{Tests, first_refusal}
@@ -25,15 +24,6 @@ wire_heads m p q a = start (status_at m p) ++ start (status_at m q) ++ channel_h
 
 abbrev pub wire_refusals : Machine → ℕ → ℕ → ℕ → Tests
 wire_refusals m p q a = wire_heads m p q a ++ pair_tests p m.store a
-
--- the state in which both ends begin
-abbrev pub first_state : Option (List Row) → ℕ
-first_state None = 0
-first_state (Some rows) = (row_at rows 0).state
-
--- a new direction
-abbrev pub new_line : Option (List Row) → Line
-new_line contract = record { shut = false; state = first_state contract; put = 0; waiting = record { items = [] } }
 
 -- the two ends as blocks
 abbrev pub ends_at : ℕ → ℕ → Block × Block
@@ -55,14 +45,14 @@ open_channel p a contract m =
     let r : ℕ = low_end m.store a in
     let t : ℕ = high_end p m.store a in
     answered (first_refusal (open_refusals m p a)) m
-    (Ok (ends_at r t), with_list p (blocks m p ++ r ∷ t ∷ []) (opened p r t contract m))
+    (Ok (ends_at r t), record (opened p r t contract m) { places = relisted p (blocks m p ++ r ∷ t ∷ []) m.places })
 
 -- a channel is opened, and its side 1 is handed to q; where p and q are one process it stays
 abbrev pub wired : ℕ → ℕ → ℕ → ℕ → Option (List Row) → Machine → Machine
 wired p q r t contract m =
     let n : Machine = opened p r t contract m in
-    cond (p == q) (with_list p (blocks m p ++ r ∷ t ∷ []) n)
-    (with_list q (blocks m q ++ t ∷ []) (with_list p (blocks m p ++ r ∷ []) (record n { store = handed p q t (2 * m.opened + 1) n.store })))
+    cond (p == q) (record n { places = relisted p (blocks m p ++ r ∷ t ∷ []) m.places })
+    (record n { store = handed p q t (2 * m.opened + 1) n.store; places = relisted q (blocks m q ++ t ∷ []) (relisted p (blocks m p ++ r ∷ []) m.places) })
 
 unfoldable pub wire_channel : ℕ → ℕ → ℕ → Option (List Row) → Machine → Answer (Block × Block)
 wire_channel p q a contract m =

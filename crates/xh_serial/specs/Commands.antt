@@ -1,8 +1,10 @@
 -- What the commands share: what each answers, and what the tables of refusals are over.
-use Rattle.std.specs.Prelude.{◌≡◌, ℕ, true, cond, Option, Some, None, Result, Err, unwrap_or}
+use Rattle.std.specs.Prelude.{◌≡◌, ℕ, true, cond, List, [], ◌∷◌, Option, Some, None, Result, Err, map, unwrap_or}
 use Rattle.xh_model.specs.declared.limits.TheConstants.{DIRECTIONS}
 use Rattle.xh_model.specs.declared.event.Holder.TheVariants.{Process}
-use Rattle.xh_model.specs.Store.{holds, len}
+use Rattle.xh_model.specs.declared.event.Event.TheVariants.{Pass, Accept}
+use Rattle.xh_model.specs.Store.{Store, after, holds, len}
+use Rattle.xh_core.specs.declared.block.Block.{Block}
 use Rattle.xh_core.specs.declared.header.Header.{Header}
 use Rattle.xh_core.specs.declared.header.Kind.{Kind}
 use Rattle.xh_core.specs.declared.header.Kind.TheVariants.{Data, End}
@@ -21,7 +23,7 @@ answered (Some refused) m done = (Err refused, m)
 
 -- the process is the latest of its place, and runs
 abbrev pub IsRunning : Machine → ℕ → Type 0
-IsRunning m p = (is_current m p ≡ true) × (is_running (place m p).status ≡ true)
+IsRunning m p = (is_current m p ≡ true) × (is_running (place m.places p).status ≡ true)
 
 -- a record with a direction toward it is an endpoint
 abbrev pub kind_of : Option ℕ → Kind
@@ -35,3 +37,23 @@ found m p r = cond (holds m.store (Process p) r) (Some (record { len = len m.sto
 -- the direction toward the endpoint e
 abbrev pub toward : Machine → ℕ → ℕ
 toward m e = unwrap_or (end_of m e) DIRECTIONS
+
+-- ---- several records
+
+-- records as blocks, each with its length
+abbrev pub described : Store → List ℕ → List Block
+described s rs = map (λ r. record { rec = r; len = len s r }) rs
+
+-- p passes each of the records to a direction
+abbrev pub pass_all : ℕ → ℕ → List ℕ → Store → Store
+pass_all p d [] s = s
+pass_all p d (r ∷ rs) s = pass_all p d rs (after (Pass p r d) s)
+
+-- p accepts each of the records, which are in flight on d
+abbrev pub accept_all : ℕ → ℕ → List ℕ → Store → Store
+accept_all p d [] s = s
+accept_all p d (r ∷ rs) s = accept_all p d rs (after (Accept p r d) s)
+
+abbrev pub accept_from : ℕ → Option ℕ → List ℕ → Store → Store
+accept_from p None rs s = s
+accept_from p (Some d) rs s = accept_all p d rs s

@@ -6,7 +6,7 @@ use Rattle.xh_model.specs.declared.limits.TheConstants.{MAX_BUDGET}
 use Rattle.xh_core.specs.declared.status.Status.TheVariants.{Ending, Ended}
 use Rattle.xh_core.specs.Calls.{start, stop, reclaimed, end_tests}
 use Rattle.xh_core.specs.Refusing.{Tests, first_refusal}
-use Rattle.xh_serial.specs.Machine.{Machine, blocks, status_at, with_list, with_status}
+use Rattle.xh_serial.specs.Machine.{Machine, blocks, relisted, restated, status_at}
 use Rattle.xh_serial.specs.Commands.{Answer, answered, found}
 use Rattle.xh_serial.specs.Sweeping.{sweep}
 
@@ -17,8 +17,8 @@ stop_answer p m n = (reclaimed (all_out m.store - all_out n.store) (length (bloc
 -- the process is Ending and its list is swept; where nothing is left it is Ended
 unfoldable pub stopped : ℕ → ℕ → Machine → Machine
 stopped p budget m =
-    let n : Machine = sweep p 0 budget (with_status p Ending m) in
-    cond (length (blocks n p) == 0) (with_status p Ended n) n
+    let n : Machine = sweep p 0 budget (record m { places = restated p Ending m.places }) in
+    cond (length (blocks n p) == 0) (record n { places = restated p Ended n.places }) n
 
 -- p ends itself: the bytes that this call reclaimed
 unfoldable pub exit : ℕ → ℕ → Machine → Answer ℕ
@@ -36,7 +36,7 @@ abbrev pub last : ℕ → List ℕ → List ℕ
 last e rs = remove rs (position_or_len (λ q. q == e) rs) ++ e ∷ []
 
 abbrev pub moved_last : ℕ → ℕ → Machine → Machine
-moved_last p e m = with_list p (last e (blocks m p)) m
+moved_last p e m = record m { places = relisted p (last e (blocks m p)) m.places }
 
 -- the endpoint goes to the end of the list, and the list is swept from there
 unfoldable pub closed : ℕ → ℕ → Machine → Machine

@@ -1,3 +1,4 @@
+pub mod Lines
 pub mod Machine
 pub mod View
 pub mod Commands
@@ -7,5 +8,4 @@ pub mod MessageCommands
 pub mod BlockCommands
 pub mod ChannelCommands
 pub mod PlaceCommands
-pub mod InFlight
 pub mod inner

@@ -1,16 +1,15 @@
 -- The serial machine as a value, and what always holds of it.
-use Rattle.std.specs.Prelude.{◌≡◌, ℕ, ◌+◌, ◌*◌, ◌/◌, ◌%◌, ◌-◌, ◌<◌, ◌≤◌, ◌==◌, Bool, true, false}
-use Rattle.std.specs.Prelude.{cond, List, [], ◌∷◌, Option, Some, None, is_some, length, map, slice_set, slice_index_or, unwrap_or}
-use Rattle.std.specs.List.{flat_map}
+use Rattle.std.specs.Prelude.{◌≡◌, ℕ, ◌*◌, ◌/◌, ◌%◌, ◌<◌, ◌≤◌, ◌==◌, Bool, true, false, cond, List, [], Option, Some, None, is_some, length, slice_set, slice_index_or}
 use Rattle.xh_model.specs.declared.limits.TheConstants.{CHANNELS, DIRECTIONS, GENERATIONS, MAX_DEPTH, PLACES}
 use Rattle.xh_model.specs.declared.event.Holder.{Holder}
 use Rattle.xh_model.specs.declared.event.Holder.TheVariants.{Process, Direction}
 use Rattle.xh_model.specs.declared.row.Row.{Row}
-use Rattle.xh_model.specs.Rows.{allowed, IsValid, InStep}
+use Rattle.xh_model.specs.Rows.{IsValid, InStep}
 use Rattle.xh_model.specs.Store.{Store, owner, len, holds, IsLawful, IsQuiet}
 use Rattle.xh_serial.specs.declared.message.Message.{Message}
 use Rattle.xh_serial.specs.declared.place.Place.{Place}
 use Rattle.xh_serial.specs.declared.line.Line.{Line}
+use Rattle.xh_serial.specs.Lines.{IsNumbered, contract_of, line, no_line, peer, tags_of, way_in}
 use Rattle.xh_core.specs.declared.status.Status.{Status}
 use Rattle.xh_core.specs.declared.status.Status.TheVariants.{Vacant}
 use Rattle.xh_core.specs.Several.{times}
@@ -44,58 +43,33 @@ abbrev pub no_place : Place
 no_place = record { blocks = record { items = [] }; status = Vacant; generation = 0 }
 
 -- the place of a process, by the process's number
-abbrev pub place_in : List Place → ℕ → Place
-place_in places p = slice_index_or places (p % PLACES) no_place
-
-abbrev pub place : Machine → ℕ → Place
-place m p = place_in m.places p
+abbrev pub place : List Place → ℕ → Place
+place places p = slice_index_or places (p % PLACES) no_place
 
 -- whether the process is the latest of its place
 abbrev pub is_current : Machine → ℕ → Bool
-is_current m p = (place m p).generation == (p / PLACES)
+is_current m p = (place m.places p).generation == (p / PLACES)
 
 -- the records that a process holds, in the order gained
 abbrev pub blocks : Machine → ℕ → List ℕ
-blocks m p = cond (is_current m p) (place m p).blocks.items []
+blocks m p = cond (is_current m p) (place m.places p).blocks.items []
 
 -- how far a process has come; Vacant where there is no such process
 abbrev pub status_at : Machine → ℕ → Status
-status_at m p = status_of p (place m p).generation (place m p).status
+status_at m p = status_of p (place m.places p).generation (place m.places p).status
 
--- the latest process of p's place has another list, or another status
-abbrev pub with_list : ℕ → List ℕ → Machine → Machine
-with_list p rs m = record m { places = slice_set m.places (p % PLACES) (record (place m p) { blocks = record { items = rs } }) }
+-- the place of a process has another list, or another status
+abbrev pub relisted : ℕ → List ℕ → List Place → List Place
+relisted p rs places = slice_set places (p % PLACES) (record (place places p) { blocks = record { items = rs } })
 
-abbrev pub with_status : ℕ → Status → Machine → Machine
-with_status p s m = record m { places = slice_set m.places (p % PLACES) (record (place m p) { status = s }) }
+abbrev pub restated : ℕ → Status → List Place → List Place
+restated p s places = slice_set places (p % PLACES) (record (place places p) { status = s })
 
 -- ---- directions
 
-abbrev pub no_line : Line
-no_line = record { shut = false; state = 0; put = 0; waiting = record { items = [] } }
-
-abbrev pub line : Machine → ℕ → Line
-line m d = slice_index_or m.lines d no_line
-
 -- the messages that wait in a direction, front first
 abbrev pub waiting : Machine → ℕ → List Message
-waiting m d = (line m d).waiting.items
-
--- the other direction of a channel
-abbrev pub peer : ℕ → ℕ
-peer d = cond ((d % 2) == 0) (d + 1) (d - 1)
-
--- the records in messages, front first
-abbrev pub carried : List Message → List ℕ
-carried messages = flat_map (λ message. message.blocks.items) messages
-
-abbrev pub tags_of : List Message → List ℕ
-tags_of messages = map (λ message. message.tag) messages
-
--- the records that wait in a direction, if there is one
-abbrev pub way_in : List Line → Option ℕ → List ℕ
-way_in lines None = []
-way_in lines (Some d) = carried (slice_index_or lines d no_line).waiting.items
+waiting m d = (line m.lines d).waiting.items
 
 abbrev pub on_way : Machine → ℕ → List ℕ
 on_way m d = way_in m.lines (Some d)
@@ -109,38 +83,12 @@ abbrev pub listed : Machine → Holder → List ℕ
 listed m (Process p) = blocks m p
 listed m (Direction d) = on_way m d
 
--- messages have numbers one after another: the front one has `first`, and the back one `last`
-abbrev pub AreNumbered : ℕ → List Message → ℕ → Type 0
-AreNumbered first [] last = first ≡ last + 1
-AreNumbered first (message ∷ messages) last = (message.no ≡ first) × AreNumbered (first + 1) messages last
-
--- the messages that wait in a direction have consecutive numbers, up to as many as were ever put
-abbrev pub IsNumbered : Line → Type 0
-IsNumbered l = (first : ℕ) × AreNumbered first l.waiting.items l.put
-
--- ---- contracts
-
--- the contract of a direction's channel
-abbrev pub contract_of : List (Option (List Row)) → ℕ → Option (List Row)
-contract_of contracts d = slice_index_or contracts (d / 2) None
-
--- the state of an end after a message with this tag from this side; without a contract, and where no row allows it, the same
-abbrev pub next_state : Option (List Row) → ℕ → ℕ → ℕ → ℕ
-next_state None side state tag = state
-next_state (Some rows) side state tag = unwrap_or (allowed rows state tag side) state
-
--- the same after messages with these tags
-abbrev pub drained_state : Option (List Row) → ℕ → ℕ → List ℕ → ℕ
-drained_state contract side state [] = state
-drained_state contract side state (tag ∷ tags) = drained_state contract side (next_state contract side state tag) tags
+-- ---- what always holds
 
 -- the end that a direction leads to goes by the contract of its channel, if it has one, together with its peer
 abbrev pub AreWired : List (Option (List Row)) → List Line → Type 0
 AreWired contracts lines = (d : ℕ) (rows : List Row) → contract_of contracts d ≡ Some rows →
-    IsValid rows × InStep rows (d % 2) (slice_index_or lines d no_line).state (tags_of (slice_index_or lines d no_line).waiting.items)
-    (slice_index_or lines (peer d) no_line).state (tags_of (slice_index_or lines (peer d) no_line).waiting.items)
-
--- ---- what always holds
+    IsValid rows × InStep rows (d % 2) (line lines d).state (tags_of (line lines d).waiting.items) (line lines (peer d)).state (tags_of (line lines (peer d)).waiting.items)
 
 -- an endpoint has a holder, its channel was opened, and no other endpoint is at its direction
 pub record IsEnd (m : Machine) (r d : ℕ) : Type 0 where
@@ -151,22 +99,22 @@ pub record IsEnd (m : Machine) (r d : ℕ) : Type 0 where
 -- a place is used no more often than it can be, and one that is vacant or whose process has ended lists nothing
 pub record ArePlaces (places : List Place) : Type 0 where
   pub long : length places ≡ PLACES
-  pub generations : (p : ℕ) → (place_in places p).generation < GENERATIONS
-  pub idle : (p : ℕ) → is_over (place_in places p).status ≡ true → (place_in places p).blocks.items ≡ []
+  pub generations : (p : ℕ) → (place places p).generation < GENERATIONS
+  pub idle : (p : ℕ) → is_over (place places p).status ≡ true → (place places p).blocks.items ≡ []
 
 -- a channel that was not opened is as new; waiting messages have consecutive numbers; under a contract both ends are in step
 pub record AreChannels (lines : List Line) (contracts : List (Option (List Row))) (opened : ℕ) : Type 0 where
   pub long : length lines ≡ DIRECTIONS
-  pub fresh : (d : ℕ) → 2 * opened ≤ d → slice_index_or lines d no_line ≡ no_line
-  pub numbered : (d : ℕ) → IsNumbered (slice_index_or lines d no_line)
+  pub fresh : (d : ℕ) → 2 * opened ≤ d → line lines d ≡ no_line
+  pub numbered : (d : ℕ) → IsNumbered (line lines d)
   pub contracts_long : length contracts ≡ CHANNELS
   pub wired : AreWired contracts lines
   pub few : opened ≤ CHANNELS
 
 -- a direction that is shut holds no message, and one that was opened and isn't shut has its end
 pub record HaveEnds (ends : List (Option ℕ)) (lines : List Line) (opened : ℕ) : Type 0 where
-  pub drained : (d : ℕ) → (slice_index_or lines d no_line).shut ≡ true → (slice_index_or lines d no_line).waiting.items ≡ []
-  pub there : (d : ℕ) → d < 2 * opened → (slice_index_or lines d no_line).shut ≡ false → (e : ℕ) × (slice_index_or ends e None ≡ Some d)
+  pub drained : (d : ℕ) → (line lines d).shut ≡ true → (line lines d).waiting.items ≡ []
+  pub there : (d : ℕ) → d < 2 * opened → (line lines d).shut ≡ false → (e : ℕ) × (slice_index_or ends e None ≡ Some d)
 
 -- each record stands once in its holder's list and in no other; each held record has bytes; a data block's buffer has its length
 pub record IsWhole (m : Machine) : Type 0 where

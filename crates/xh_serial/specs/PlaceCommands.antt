@@ -1,5 +1,5 @@
 -- A new machine, the commands spawn, glance and ledger, and what is in flight.
-use Rattle.std.specs.Prelude.{ℕ, ◌+◌, ◌*◌, ◌==◌, Bool, cond, List, [], ◌∷◌, Option, Some, None, length, map, replicate, nat_le, slice_set, slice_index_or, Result, Ok, Err}
+use Rattle.std.specs.Prelude.{ℕ, ◌+◌, ◌*◌, ◌==◌, Bool, cond, List, [], ◌∷◌, Option, Some, None, length, map, ok_or, replicate, nat_le, slice_set, slice_index_or, Result, Ok, Err}
 use Rattle.std.specs.List.{position, sum_by}
 use Rattle.xh_model.specs.declared.limits.TheConstants.{CHANNELS, DIRECTIONS, MAX_RECORDS, PLACES}
 use Rattle.xh_model.specs.declared.config.Config.{Config}
@@ -13,7 +13,8 @@ use Rattle.xh_serial.specs.declared.place.Place.{Place}
 use Rattle.xh_core.specs.declared.refused.Refused.{Refused}
 use Rattle.xh_core.specs.declared.refused.Refused.TheVariants.{NoProcess, NoPlace}
 use Rattle.xh_core.specs.declared.status.Status.TheVariants.{Running}
-use Rattle.xh_serial.specs.Machine.{Machine, no_place, no_line, carried}
+use Rattle.xh_serial.specs.Lines.{carried, no_line}
+use Rattle.xh_serial.specs.Machine.{Machine, no_place}
 use Rattle.xh_core.specs.Glances.{line_of}
 use Rattle.xh_core.specs.Statuses.{can_start, is_vacant}
 use Rattle.xh_serial.specs.Commands.{Answer}
@@ -41,15 +42,18 @@ is_ready place = can_start place.status place.generation
 abbrev pub started : Place → Place
 started place = record place { status = Running; generation = cond (is_vacant place.status) place.generation (place.generation + 1) }
 
-abbrev pub spawn_at : Option ℕ → Machine → Answer ℕ
-spawn_at None m = (Err NoPlace, m)
-spawn_at (Some k) m =
-    let place : Place = started (slice_index_or m.places k no_place) in
-    (Ok (k + PLACES * place.generation), record m { places = slice_set m.places k place })
+-- a process starts at the place k, if there is one: its number, and the places then
+abbrev pub started_at : Option ℕ → List Place → Option ℕ × List Place
+started_at None places = (None, places)
+started_at (Some k) places =
+    let place : Place = started (slice_index_or places k no_place) in
+    (Some (k + PLACES * place.generation), slice_set places k place)
 
 -- a process starts at the lowest place where one can: its number
 unfoldable pub spawn : Machine → Answer ℕ
-spawn m = spawn_at (position is_ready m.places) m
+spawn m =
+    let next : Option ℕ × List Place = started_at (position is_ready m.places) m.places in
+    (ok_or next.0 NoPlace, record m { places = next.1 })
 
 -- ---- glance
 

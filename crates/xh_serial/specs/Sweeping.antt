@@ -1,33 +1,26 @@
 -- The sweep: what reclaiming one entry of a list does, and as many as a budget allows.
-use Rattle.std.specs.Prelude.{◌≡◌, ℕ, zero, suc, ◌-◌, ◌<◌, ◌≤◌, ◌%◌, true, cond, List, [], ◌++◌, Option, Some, None, length, take, drop, nat_lt, slice_set, slice_index_or}
+use Rattle.std.specs.Prelude.{◌≡◌, ℕ, zero, suc, ◌<◌, ◌≤◌, cond, List, [], ◌++◌, Some, None, length, take, drop, nat_lt, slice_set, slice_index_or}
 use Rattle.std.specs.List.{flat_map, remove}
 use Rattle.xh_model.specs.declared.event.Holder.TheVariants.{Direction}
 use Rattle.xh_model.specs.declared.event.Event.TheVariants.{GiveBack, Vacate}
-use Rattle.xh_model.specs.declared.row.Row.{Row}
 use Rattle.xh_model.specs.Store.{owner, after}
-use Rattle.xh_serial.specs.declared.line.Line.{Line}
-use Rattle.xh_serial.specs.Machine.{Machine, end_of, blocks, with_list, no_line, tags_of, arriving, contract_of, drained_state}
-use Rattle.xh_core.specs.Several.{times, accept_from}
-
--- the end that a line leads to is closed, and what waited for it is taken
-abbrev pub shut_line : Option (List Row) → ℕ → Line → Line
-shut_line contract side l = record l { shut = true; state = drained_state contract side l.state (tags_of l.waiting.items); waiting = record { items = [] } }
-
-abbrev pub shut_in : List (Option (List Row)) → List Line → Option ℕ → List Line
-shut_in contracts lines None = lines
-shut_in contracts lines (Some d) = slice_set lines d (shut_line (contract_of contracts d) (1 - d % 2) (slice_index_or lines d no_line))
+use Rattle.xh_serial.specs.Commands.{accept_from}
+use Rattle.xh_serial.specs.Lines.{shut_in}
+use Rattle.xh_serial.specs.Machine.{Machine, end_of, blocks, relisted, arriving}
+use Rattle.xh_core.specs.Several.{times}
 
 -- The entry at `from` of a list is swept: where it is an endpoint its side is shut, and what is on its way to it is accepted and put at the end of the list;
 -- then its bytes are given back, its record is vacated, and it leaves the list.
 unfoldable pub sweep_one : ℕ → ℕ → Machine → Machine
 sweep_one p from m =
     let r : ℕ = slice_index_or (blocks m p) from 0 in
-    with_list p (remove (blocks m p ++ arriving m r) from) (record m {
+    record m {
       store = after (Vacate p r) (after (GiveBack p r) (accept_from p (end_of m r) (arriving m r) m.store));
       ends = slice_set m.ends r None;
       buffers = slice_set m.buffers r [];
+      places = relisted p (remove (blocks m p ++ arriving m r) from) m.places;
       lines = shut_in m.contracts m.lines (end_of m r);
-    })
+    }
 
 -- entry by entry, while the list is longer than `from` and the budget is not used up
 abbrev pub sweep : ℕ → ℕ → ℕ → Machine → Machine

@@ -2,4 +2,3 @@
 pub mod Channeling
 pub mod Checks
 pub mod Holding
-pub mod Placing

@@ -1,7 +1,6 @@
 //! What the blocks of all records hold.
-ghost use Rattle.std.specs.Prelude.{◌≡◌, ◌≢◌, ◌+◌, ◌≤◌, ◌<◌, [], IfOk, None, OnErr, OnOk, drop, length, replicate, take};
+ghost use Rattle.std.specs.Prelude.{◌≡◌, ◌≢◌, ◌+◌, ◌≤◌, ◌<◌, [], IfOk, None, OnErr, OnOk, drop, length, replicate, slice_index_or, slice_set, take};
 ghost use Rattle.xh_serial.specs.BlockCommands.{overwritten};
-ghost use Rattle.xh_serial.specs.inner.Holding.{bytes_at, end_at, with_bytes, with_end};
 
 use std::alloc::{AllocError, Global};
 use std::marker::Model;
@@ -118,7 +117,7 @@ impl Blocks {
 
     /// The direction toward a record, where it is an endpoint.
     pub(crate) fn end(&self, r: u16) -> Option<u8>
-        ensures { result ≡ end_at self.now r }
+        ensures { result ≡ slice_index_or self.now.ends r None }
     {
         self.ends.get(usize::from(r)).copied().flatten()
     }
@@ -126,7 +125,7 @@ impl Blocks {
     /// A record is an endpoint from now on, and this the direction toward it; or it is none.
     pub(crate) fn bind(&mut self, r: u16, end: Option<u8>)
         requires { r < length self.old.buffers }
-        ensures { self.new ≡ with_end r end self.old }
+        ensures { self.new ≡ record self.old { ends = slice_set self.old.ends r end } }
     {
         self.ends[usize::from(r)] = end;
     }
@@ -134,7 +133,7 @@ impl Blocks {
     /// A record has these bytes from now on.
     pub(crate) fn fill(&mut self, r: u16, bytes: Buffer)
         requires { r < length self.old.buffers }
-        ensures { self.new ≡ with_bytes r bytes self.old }
+        ensures { self.new ≡ record self.old { buffers = slice_set self.old.buffers r bytes } }
     {
         self.buffers[usize::from(r)] = bytes;
     }
@@ -142,7 +141,7 @@ impl Blocks {
     /// A record has no bytes from now on.
     pub(crate) fn clear(&mut self, r: u16)
         requires { r < length self.old.buffers }
-        ensures { self.new ≡ with_bytes r [] self.old }
+        ensures { self.new ≡ record self.old { buffers = slice_set self.old.buffers r [] } }
     {
         self.buffers[usize::from(r)] = Buffer::none(*self.buffers.allocator());
     }
@@ -150,8 +149,8 @@ impl Blocks {
     /// Writes the bytes of a record from `at` on into `out`, as many as it has room for.
     pub(crate) fn copy(&self, r: u16, at: usize, out: &mut [u8])
         requires there { r < length self.now.buffers }
-        requires within { at + length out.old ≤ length (bytes_at self.now r) }
-        ensures { out.new ≡ take (length out.old) (drop at (bytes_at self.now r)) }
+        requires within { at + length out.old ≤ length (slice_index_or self.now.buffers r []) }
+        ensures { out.new ≡ take (length out.old) (drop at (slice_index_or self.now.buffers r [])) }
     {
         self.buffers[usize::from(r)].copy(at, out);
     }
@@ -159,8 +158,8 @@ impl Blocks {
     /// These bytes come in the place of as many of a record from `at` on.
     pub(crate) fn overwrite(&mut self, r: u16, at: usize, bytes: &[u8])
         requires there { r < length self.old.buffers }
-        requires within { at + length bytes.now ≤ length (bytes_at self.old r) }
-        ensures { self.new ≡ with_bytes r (overwritten at bytes.now (bytes_at self.old r)) self.old }
+        requires within { at + length bytes.now ≤ length (slice_index_or self.old.buffers r []) }
+        ensures { self.new ≡ record self.old { buffers = slice_set self.old.buffers r (overwritten at bytes.now (slice_index_or self.old.buffers r [])) } }
     {
         self.buffers[usize::from(r)].overwrite(at, bytes);
     }
@@ -175,10 +174,10 @@ impl Blocks {
         at: usize,
     ) -> Result<(), AllocError>
         requires there { r < length self.old.buffers }
-        requires within { at ≤ length (bytes_at self.old r) }
+        requires within { at ≤ length (slice_index_or self.old.buffers r []) }
         requires other { t < length self.old.buffers }
         requires apart { r ≢ t }
-        ensures done { OnOk result (let old = bytes_at self.old r in self.new ≡ with_bytes r (take at old) (with_bytes t (drop at old) self.old)) }
+        ensures done { OnOk result (let old = slice_index_or self.old.buffers r [] in self.new ≡ record self.old { buffers = slice_set (slice_set self.old.buffers t (drop at old)) r (take at old) }) }
         ensures kept { OnErr result (self.new ≡ self.old) }
     {
         let tail = self.buffers[usize::from(r)].split_off(alloc, at)?;

@@ -1,11 +1,9 @@
 //! The channels: the two directions of each, and its contract.
 ghost use Rattle.std.specs.Prelude.{◌≡◌, ℕ, ◌+◌, ◌-◌, ◌*◌, ◌/◌, ◌%◌, ◌<◌, ◌≤◌, ◌==◌, [], IfOk, None, Some, false, length, replicate, slice_set, slice_index_or};
 ghost use Rattle.xh_model.specs.declared.limits.TheConstants.{CHANNELS, DIRECTIONS, MAX_BLOCKS, MAX_DEPTH, MAX_MESSAGES};
-ghost use Rattle.xh_serial.specs.ChannelCommands.{first_state, new_line};
-ghost use Rattle.xh_serial.specs.Machine.{carried, contract_of, drained_state, next_state, no_line, peer, tags_of, way_in};
-ghost use Rattle.xh_serial.specs.MessageCommands.{is_banned, is_full, no_message, put_line, taken_line, told_line};
-ghost use Rattle.xh_serial.specs.Sweeping.{shut_in};
-ghost use Rattle.xh_serial.specs.inner.Channeling.{line_at, with_line, IsSound};
+ghost use Rattle.xh_serial.specs.Lines.{carried, contract_of, drained_state, first_state, is_banned, is_full, line, new_line, next_state, no_line, no_message, peer, put_line};
+ghost use Rattle.xh_serial.specs.Lines.{shut_in, tags_of, taken_line, told_line, way_in};
+ghost use Rattle.xh_serial.specs.inner.Channeling.{IsSound};
 ghost use Rattle.std.specs.List.{remove};
 
 use crate::line::{Line, ROOM};
@@ -170,7 +168,7 @@ impl Channels {
     /// The messages that wait in a direction, front first.
     pub(crate) fn waiting(&self, d: u8) -> &[Message]
         requires { d < DIRECTIONS }
-        ensures { result.now ≡ (line_at self.now d).waiting.items }
+        ensures { result.now ≡ (line self.now.lines d).waiting.items }
     {
         self.lines[usize::from(d)].waiting.as_slice()
     }
@@ -178,7 +176,7 @@ impl Channels {
     /// The records on their way in a direction, front first.
     pub(crate) fn on_way(&self, d: u8) -> ArrayVec<u16, WAITING>
         requires { d < DIRECTIONS }
-        ensures { result.items ≡ carried (line_at self.now d).waiting.items }
+        ensures { result.items ≡ carried (line self.now.lines d).waiting.items }
     {
         carried(&self.lines[usize::from(d)].waiting)
     }
@@ -186,7 +184,7 @@ impl Channels {
     /// Whether the end that a direction leads to is closed.
     pub(crate) fn is_shut(&self, d: u8) -> bool
         requires { d < DIRECTIONS }
-        ensures { result ≡ (line_at self.now d).shut }
+        ensures { result ≡ (line self.now.lines d).shut }
     {
         self.lines[usize::from(d)].shut
     }
@@ -194,7 +192,7 @@ impl Channels {
     /// Whether the end at `d` goes by a contract that allows it no such message now.
     pub(crate) fn is_against(&self, d: u8, tag: u16) -> bool
         requires { d < DIRECTIONS }
-        ensures { result ≡ is_banned (contract_of self.now.contracts d) (d % 2) (line_at self.now d).state tag }
+        ensures { result ≡ is_banned (contract_of self.now.contracts d) (d % 2) (line self.now.lines d).state tag }
     {
         let state = self.lines[usize::from(d)].state;
         is_against(&self.contracts[usize::from(d / 2)], d % 2, state, tag)
@@ -203,7 +201,7 @@ impl Channels {
     /// Whether a direction takes no further message.
     pub(crate) fn is_full(&self, d: u8, depth: u8) -> bool
         requires { d < DIRECTIONS }
-        ensures { result ≡ is_full depth (line_at self.now d) }
+        ensures { result ≡ is_full depth (line self.now.lines d) }
     {
         let line = &self.lines[usize::from(d)];
         line.waiting.len() >= usize::from(depth) || line.put >= MAX_MESSAGES
@@ -231,7 +229,7 @@ impl Channels {
     /// The end that puts a message is in its contract's next state.
     pub(crate) fn tell(&mut self, own: u8, tag: u16)
         requires { own < DIRECTIONS }
-        ensures { self.new ≡ with_line own (told_line (contract_of self.old.contracts own) (own % 2) tag (line_at self.old own)) self.old }
+        ensures { self.new ≡ record self.old { lines = slice_set self.old.lines own (told_line (contract_of self.old.contracts own) (own % 2) tag (line self.old.lines own)) } }
     {
         let line = &mut self.lines[usize::from(own)];
         line.state = state_after(
@@ -246,10 +244,10 @@ impl Channels {
     pub(crate) fn put(&mut self, to: u8, tag: u16, blocks: &[u16]) -> u64
         requires there { to < DIRECTIONS }
         requires few { length blocks.now ≤ MAX_BLOCKS }
-        requires room { length (line_at self.old to).waiting.items < MAX_DEPTH }
-        requires more { (line_at self.old to).put < MAX_MESSAGES }
-        ensures line { self.new ≡ with_line to (put_line tag blocks.now (line_at self.old to)) self.old }
-        ensures number { result ≡ (line_at self.old to).put + 1 }
+        requires room { length (line self.old.lines to).waiting.items < MAX_DEPTH }
+        requires more { (line self.old.lines to).put < MAX_MESSAGES }
+        ensures is { self.new ≡ record self.old { lines = slice_set self.old.lines to (put_line tag blocks.now (line self.old.lines to)) } }
+        ensures number { result ≡ (line self.old.lines to).put + 1 }
     {
         let line = &mut self.lines[usize::from(to)];
         let no = line.put + 1;
@@ -265,9 +263,9 @@ impl Channels {
     /// The front message of a direction, which moves its contract's state.
     pub(crate) fn take_front(&mut self, d: u8) -> Message
         requires there { d < DIRECTIONS }
-        requires some { 0 < length (line_at self.old d).waiting.items }
-        ensures front { result ≡ slice_index_or (line_at self.old d).waiting.items 0 no_message }
-        ensures line { self.new ≡ with_line d (taken_line (contract_of self.old.contracts d) (1 - d % 2) result.tag (line_at self.old d)) self.old }
+        requires some { 0 < length (line self.old.lines d).waiting.items }
+        ensures front { result ≡ slice_index_or (line self.old.lines d).waiting.items 0 no_message }
+        ensures is { self.new ≡ record self.old { lines = slice_set self.old.lines d (taken_line (contract_of self.old.contracts d) (1 - d % 2) result.tag (line self.old.lines d)) } }
     {
         let line = &mut self.lines[usize::from(d)];
         let message = take_first(line);

@@ -13,6 +13,7 @@ mod message;
 mod place;
 mod places;
 mod serial;
+mod several;
 
 pub use message::Taken;
 pub use serial::Serial;

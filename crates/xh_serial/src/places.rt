@@ -2,10 +2,10 @@
 ghost use Rattle.std.specs.Prelude.{◌≡◌, ◌+◌, ◌%◌, ◌<◌, ◌≤◌, ◌==◌, ◌++◌, ◌∷◌, [], IfOk, length, replicate, slice_index_or};
 ghost use Rattle.std.specs.List.{position, position_or_len, remove};
 ghost use Rattle.xh_serial.specs.EndingCommands.{last};
-ghost use Rattle.xh_serial.specs.Machine.{no_place};
+ghost use Rattle.xh_serial.specs.Machine.{no_place, place, relisted, restated};
 ghost use Rattle.xh_serial.specs.MessageCommands.{without};
-ghost use Rattle.xh_serial.specs.PlaceCommands.{is_ready};
-ghost use Rattle.xh_serial.specs.inner.Placing.{blocks_in, place_in, relisted, restated, started_at, status_in};
+ghost use Rattle.xh_serial.specs.PlaceCommands.{is_ready, started_at};
+ghost use Rattle.xh_core.specs.Statuses.{status_of};
 ghost use Rattle.xh_model.specs.declared.limits.TheConstants.{MAX_HELD, PLACES};
 
 use crate::list::{drop_all, extend, index_of};
@@ -75,14 +75,14 @@ impl Places {
 
     /// The place of a process.
     fn of(&self, p: u16) -> &Place
-        ensures { result.now ≡ place_in self.now p }
+        ensures { result.now ≡ place self.now p }
     {
         self.at(usize::from(p % STRIDE))
     }
 
     /// The records that the place of a process lists, in the order gained.
     pub(crate) fn blocks(&self, p: u16) -> &[u16]
-        ensures list { result.now ≡ blocks_in self.now p }
+        ensures list { result.now ≡ (place self.now p).blocks.items }
         ensures fits { length result.now ≤ MAX_HELD }
     {
         self.of(p).blocks.as_slice()
@@ -90,7 +90,7 @@ impl Places {
 
     /// How far a process has come; Vacant where there is no such process.
     pub(crate) fn status(&self, p: u16) -> Status
-        ensures { result ≡ status_in self.now p }
+        ensures { result ≡ status_of p (place self.now p).generation (place self.now p).status }
     {
         let place = self.of(p);
         place.status.of(p, u16::from(place.generation))
@@ -116,32 +116,32 @@ impl Places {
 
     /// A record goes to the end of a list.
     pub(crate) fn add(&mut self, p: u16, r: u16)
-        requires { length (blocks_in self.old p) < MAX_HELD }
-        ensures { self.new ≡ relisted p (blocks_in self.old p ++ r ∷ []) self.old }
+        requires { length (place self.old p).blocks.items < MAX_HELD }
+        ensures { self.new ≡ relisted p ((place self.old p).blocks.items ++ r ∷ []) self.old }
     {
         self.places[usize::from(p % STRIDE)].blocks.push(r);
     }
 
     /// So do these, in their order.
     pub(crate) fn add_all(&mut self, p: u16, blocks: &[u16])
-        requires { length (blocks_in self.old p) + length blocks.now ≤ MAX_HELD }
-        ensures { self.new ≡ relisted p (blocks_in self.old p ++ blocks.now) self.old }
+        requires { length (place self.old p).blocks.items + length blocks.now ≤ MAX_HELD }
+        ensures { self.new ≡ relisted p ((place self.old p).blocks.items ++ blocks.now) self.old }
     {
         extend(&mut self.places[usize::from(p % STRIDE)].blocks, blocks);
     }
 
     /// The entry at `at` leaves a list.
     pub(crate) fn remove_at(&mut self, p: u16, at: usize)
-        requires { at < length (blocks_in self.old p) }
-        ensures { self.new ≡ relisted p (remove (blocks_in self.old p) at) self.old }
+        requires { at < length (place self.old p).blocks.items }
+        ensures { self.new ≡ relisted p (remove (place self.old p).blocks.items at) self.old }
     {
         self.places[usize::from(p % STRIDE)].blocks.remove(at);
     }
 
     /// A record leaves the list that it stands in.
     pub(crate) fn remove(&mut self, p: u16, r: u16)
-        requires { position_or_len (λ q. q == r) (blocks_in self.old p) < length (blocks_in self.old p) }
-        ensures { self.new ≡ relisted p (remove (blocks_in self.old p) (position_or_len (λ q. q == r) (blocks_in self.old p))) self.old }
+        requires { position_or_len (λ q. q == r) (place self.old p).blocks.items < length (place self.old p).blocks.items }
+        ensures { self.new ≡ relisted p (remove (place self.old p).blocks.items (position_or_len (λ q. q == r) (place self.old p).blocks.items)) self.old }
     {
         let at = index_of(self.blocks(p), r);
         self.remove_at(p, at);
@@ -149,16 +149,16 @@ impl Places {
 
     /// These leave the list, wherever they stand in it.
     pub(crate) fn remove_all(&mut self, p: u16, blocks: &[u16])
-        ensures { self.new ≡ relisted p (without blocks.now (blocks_in self.old p)) self.old }
+        ensures { self.new ≡ relisted p (without blocks.now (place self.old p).blocks.items) self.old }
     {
         drop_all(&mut self.places[usize::from(p % STRIDE)].blocks, blocks);
     }
 
     /// A record goes to the end of the list that it stands in. Where it stands then.
     pub(crate) fn move_last(&mut self, p: u16, r: u16) -> usize
-        requires { position_or_len (λ q. q == r) (blocks_in self.old p) < length (blocks_in self.old p) }
-        ensures list { self.new ≡ relisted p (last r (blocks_in self.old p)) self.old }
-        ensures at { result + 1 ≡ length (blocks_in self.old p) }
+        requires { position_or_len (λ q. q == r) (place self.old p).blocks.items < length (place self.old p).blocks.items }
+        ensures list { self.new ≡ relisted p (last r (place self.old p).blocks.items) self.old }
+        ensures at { result + 1 ≡ length (place self.old p).blocks.items }
     {
         let at = index_of(self.blocks(p), r);
         let blocks = &mut self.places[usize::from(p % STRIDE)].blocks;

@@ -2,10 +2,10 @@
 ghost use Rattle.std.specs.Prelude.{◌≡◌, ◌*◌, ◌≢◌, ℕ, ◌+◌, ◌<◌, ◌≤◌, ◌/◌, ◌%◌, ◌∷◌, [], Some, None, OnOk, OnErr, MatchResult, length, true};
 ghost use Rattle.std.specs.List.{position};
 ghost use Rattle.std.specs.Prelude.{is_none};
-ghost use Rattle.xh_model.specs.declared.limits.TheConstants.{MAX_BYTES, MAX_HELD, MAX_RECORDS, PROCESSES, UNIT};
+ghost use Rattle.xh_model.specs.declared.limits.TheConstants.{MAX_BYTES, MAX_RECORDS, PROCESSES, UNIT};
 ghost use Rattle.xh_model.specs.declared.event.Event.TheVariants.{Claim, Carve, Cut, GiveBack, Vacate};
 ghost use Rattle.xh_model.specs.declared.event.Holder.TheVariants.{Process};
-ghost use Rattle.xh_model.specs.Store.{after, arena_at, bytes_of, holds, is_known, len, owner};
+ghost use Rattle.xh_model.specs.Store.{after, arena_at, holds, is_known, len, owner};
 ghost use Rattle.xh_core.specs.Space.{free_record, space_tests};
 ghost use Rattle.xh_core.specs.Gaining.{Gained};
 ghost use Rattle.xh_core.specs.Refusing.{first_refusal};
@@ -47,14 +47,6 @@ impl Plain {
             Some((_, bytes)) => bytes,
             None => 0,
         }
-    }
-
-    /// The bytes of all records that a process holds.
-    pub fn owned(&self, p: u16) -> u64
-        ensures is { result ≡ bytes_of self.now (Process p) }
-        ensures most { result ≤ MAX_HELD * MAX_BYTES }
-    {
-        self.totals.of(p)
     }
 
     /// The lowest record of an arena that nobody holds.

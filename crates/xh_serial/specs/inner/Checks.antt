@@ -4,10 +4,10 @@ use Rattle.std.specs.List.{list_all}
 use Rattle.xh_model.specs.declared.limits.TheConstants.{MAX_BLOCKS, MAX_MESSAGES, MAX_RECORDS, UNIT}
 use Rattle.xh_model.specs.Store.{holds, len}
 use Rattle.xh_model.specs.declared.event.Holder.TheVariants.{Process}
-use Rattle.xh_serial.specs.Machine.{Machine, contract_of, end_of, line, peer, waiting}
+use Rattle.xh_serial.specs.Machine.{Machine, end_of, waiting}
 use Rattle.xh_serial.specs.Commands.{IsRunning}
 use Rattle.xh_core.specs.Space.{free_record}
-use Rattle.xh_serial.specs.MessageCommands.{is_banned}
+use Rattle.xh_serial.specs.Lines.{contract_of, is_banned, line, peer}
 use Rattle.xh_core.specs.Several.{has_twice}
 
 -- no test of a split that comes before its memory is true: t is the record for the tail
@@ -28,10 +28,10 @@ pub record MayGive (m : Machine) (p e tag : ℕ) (bs : List ℕ) (d : ℕ) : Typ
   pub few : length bs ≤ MAX_BLOCKS
   pub held : list_all (λ r. holds m.store (Process p) r) bs ≡ true
   pub once : has_twice bs ≡ false
-  pub allowed : is_banned (contract_of m.contracts d) (d % 2) (line m d).state tag ≡ false
-  pub not_shut : (line m (peer d)).shut ≡ false
+  pub allowed : is_banned (contract_of m.contracts d) (d % 2) (line m.lines d).state tag ≡ false
+  pub not_shut : (line m.lines (peer d)).shut ≡ false
   pub room : length (waiting m (peer d)) < m.depth
-  pub more : (line m (peer d)).put < MAX_MESSAGES
+  pub more : (line m.lines (peer d)).put < MAX_MESSAGES
 
 -- no test of a take is true: d leads to e
 pub record MayTake (m : Machine) (p e d : ℕ) : Type 0 where

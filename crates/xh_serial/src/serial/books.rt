@@ -1,15 +1,15 @@
 //! What the ledger tells: the arenas, the places, and the sums of their bytes.
-ghost use Rattle.std.specs.Prelude.{◌≡◌, ◌+◌, ◌<◌, ◌≤◌, ◌*◌, All, slice_index_or};
+ghost use Rattle.std.specs.Prelude.{◌≡◌, ◌+◌, ◌<◌, ◌≤◌, ◌*◌, All, length, slice_index_or};
 ghost use Rattle.std.specs.List.{sum_by};
 ghost use Rattle.xh_core.specs.Statuses.{is_vacant};
 ghost use Rattle.xh_serial.specs.Machine.{no_place};
 ghost use Rattle.xh_serial.specs.PlaceCommands.{glance_of, ledger_of, place_lines, total};
-ghost use Rattle.xh_model.specs.declared.limits.TheConstants.{MAX_BYTES, MAX_HELD, PLACES};
+ghost use Rattle.xh_model.specs.declared.limits.TheConstants.{MAX_HELD, PLACES};
 
 use crate::place::number;
 use crate::serial::Serial;
 use arrayvec::ArrayVec;
-use xh_core::{Glance, Ledger, PLACE_LINES, PlaceLine, Status};
+use xh_core::{Glance, Ledger, PLACE_LINES, PlaceLine, Plain, Status};
 
 fn is_unused(glance: &Glance) -> bool
     ensures { result ≡ is_vacant glance.now.state }
@@ -20,16 +20,20 @@ fn is_unused(glance: &Glance) -> bool
     }
 }
 
-impl Serial {
-    /// The bytes that the latest process of a place owns.
-    pub(super) fn bytes_at(&self, at: usize) -> u64
-        requires { at < PLACES }
-        ensures sum { result ≡ total self.now.store (slice_index_or self.now.places at no_place).blocks.items }
-        ensures most { result ≤ MAX_HELD * MAX_BYTES }
-    {
-        self.plain.owned(number(at, self.places.at(at).generation))
+/// The bytes of records.
+pub(super) fn total(plain: &Plain, records: &[u16]) -> u64
+    requires { length records.now ≤ MAX_HELD }
+    ensures is { result ≡ total plain.now records.now }
+    ensures most { result ≤ MAX_HELD * u32.MAX }
+{
+    let mut sum = 0u64;
+    for record in records {
+        sum += u64::from(plain.len(*record));
     }
+    sum
+}
 
+impl Serial {
     /// A look at a place.
     pub(super) fn glance_at(&self, at: usize) -> Glance
         requires { at < PLACES }
@@ -40,7 +44,7 @@ impl Serial {
             process: number(at, place.generation),
             state: place.status,
             blocks: place.blocks.len() as u32,
-            bytes: self.bytes_at(at),
+            bytes: total(&self.plain, place.blocks.as_slice()),
         }
     }
 
@@ -50,7 +54,7 @@ impl Serial {
     {
         let mut sum = 0u64;
         for at in 0..self.places.len() {
-            sum += self.bytes_at(at);
+            sum += total(&self.plain, self.places.at(at).blocks.as_slice());
         }
         sum
     }

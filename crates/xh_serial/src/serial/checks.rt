@@ -60,11 +60,13 @@ impl Serial {
     pub(super) fn check_data(&self, p: u16, r: u16) -> Result<(), Refused>
         ensures { Tested (data_tests (found self.now p r)) result (λ _. (holds self.now.store (Process p) r ≡ true) × (end_of self.now r ≡ None)) }
     {
-        match self.check_end(p, r) {
-            Ok(_) => Err(Refused::NotData),
-            Err(Refused::NotEndpoint) => Ok(()),
-            Err(refused) => Err(refused),
+        if !self.plain.holds(Holder::Process(p), r) {
+            return Err(Refused::NotOwned);
         }
+        if self.blocks.end(r).is_some() {
+            return Err(Refused::NotData);
+        }
+        Ok(())
     }
 
     /// What a close tests.

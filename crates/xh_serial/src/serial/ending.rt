@@ -5,7 +5,7 @@ ghost use Rattle.xh_model.specs.Store.{holds};
 ghost use Rattle.xh_model.specs.declared.event.Holder.TheVariants.{Process};
 ghost use Rattle.xh_model.specs.declared.limits.TheConstants.{MAX_BUDGET};
 ghost use Rattle.xh_core.specs.Statuses.{is_over};
-ghost use Rattle.xh_serial.specs.Machine.{arriving, blocks, is_current, place, status_at, with_status};
+ghost use Rattle.xh_serial.specs.Machine.{arriving, blocks, is_current, place, restated, status_at};
 ghost use Rattle.xh_core.specs.Calls.{stop};
 ghost use Rattle.xh_core.specs.Refusing.{first_refusal};
 ghost use Rattle.xh_serial.specs.Commands.{IsRunning};
@@ -19,8 +19,8 @@ use xh_model::limits::MAX_BUDGET;
 impl Serial {
     /// How far a process has come: one that has ended lists nothing.
     fn set_status(&mut self, p: u16, status: Status)
-        requires { is_over status ≡ true → length (place self.old p).blocks.items ≡ 0 }
-        ensures { self.new ≡ with_status p status self.old }
+        requires { is_over status ≡ true → length (place self.old.places p).blocks.items ≡ 0 }
+        ensures { self.new ≡ record self.old { places = restated p status self.old.places } }
     {
         self.places.set_status(p, status);
     }

@@ -1,12 +1,13 @@
 //! Messages: give and take.
 ghost use Rattle.std.specs.Prelude.{◌≡◌, ℕ, ◌-◌, ◌/◌, ◌%◌, ◌<◌, IfOk, false};
-ghost use Rattle.xh_serial.specs.Machine.{contract_of, line, IsNumbered};
+ghost use Rattle.xh_serial.specs.Lines.{IsNumbered, contract_of, is_banned, line};
 ghost use Rattle.xh_serial.specs.Commands.{toward};
-ghost use Rattle.xh_serial.specs.MessageCommands.{AreOrderly, give, is_banned, take};
+ghost use Rattle.xh_serial.specs.MessageCommands.{AreOrderly, give, take};
 
 use crate::channels::peer;
 use crate::message::Taken;
 use crate::serial::Serial;
+use crate::several::{accept_all, describe, pass_all};
 use xh_core::Refused;
 
 impl Serial {
@@ -16,14 +17,11 @@ impl Serial {
     /// block, Twice, Protocol, PeerClosed, Full. The last three hand all the blocks back.
     #[tactic(auto, unfolding(crate::specs::MessageCommands::give))]
     pub fn give(&mut self, p: u16, e: u16, tag: u16, blocks: &[u16]) -> Result<u64, Refused>
-        ensures is { give p e tag blocks.now self.old ≡ (result, self.new) }
-        ensures orderly { AreOrderly self.new }
-        ensures numbered { (d : ℕ) → IsNumbered (line self.new d) }
+        ensures { give p e tag blocks.now self.old ≡ (result, self.new) }
     {
-        let _start = &self.plain;
         let own = self.check_give(p, e, tag, blocks)?;
         let to = peer(own);
-        self.plain.pass_all(p, to, blocks);
+        pass_all(&mut self.plain, p, to, blocks);
         self.places.remove_all(p, blocks);
         self.channels.tell(own, tag);
         Ok(self.channels.put(to, tag, blocks))
@@ -36,15 +34,15 @@ impl Serial {
     pub fn take(&mut self, p: u16, e: u16) -> Result<Taken, Refused>
         ensures is { take p e self.old ≡ (result, self.new) }
         ensures allowed { IfOk result (λ taken.
-            is_banned (contract_of self.old.contracts (toward self.old e)) (1 - toward self.old e % 2) (line self.old (toward self.old e)).state taken.tag ≡ false) }
+            is_banned (contract_of self.old.contracts (toward self.old e)) (1 - toward self.old e % 2) (line self.old.lines (toward self.old e)).state taken.tag ≡ false) }
         ensures orderly { AreOrderly self.new }
-        ensures numbered { (d : ℕ) → IsNumbered (line self.new d) }
+        ensures numbered { (d : ℕ) → IsNumbered (line self.new.lines d) }
     {
         let _start = &self.plain;
         let d = self.check_take(p, e)?;
         let message = self.channels.take_front(d);
-        let blocks = self.plain.describe(&message.blocks);
-        self.plain.accept_all(p, d, message.blocks.as_slice());
+        let blocks = describe(&self.plain, &message.blocks);
+        accept_all(&mut self.plain, p, d, message.blocks.as_slice());
         self.places.add_all(p, message.blocks.as_slice());
         Ok(Taken {
             no: message.no,
@@ -57,9 +55,9 @@ impl Serial {
     pub fn take_wait(&mut self, p: u16, e: u16) -> Result<Taken, Refused>
         ensures is { take p e self.old ≡ (result, self.new) }
         ensures allowed { IfOk result (λ taken.
-            is_banned (contract_of self.old.contracts (toward self.old e)) (1 - toward self.old e % 2) (line self.old (toward self.old e)).state taken.tag ≡ false) }
+            is_banned (contract_of self.old.contracts (toward self.old e)) (1 - toward self.old e % 2) (line self.old.lines (toward self.old e)).state taken.tag ≡ false) }
         ensures orderly { AreOrderly self.new }
-        ensures numbered { (d : ℕ) → IsNumbered (line self.new d) }
+        ensures numbered { (d : ℕ) → IsNumbered (line self.new.lines d) }
     {
         self.take(p, e)
     }

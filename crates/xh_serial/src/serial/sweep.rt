@@ -6,6 +6,7 @@ ghost use Rattle.xh_serial.specs.Machine.{blocks, is_current};
 ghost use Rattle.xh_serial.specs.Sweeping.{sweep, sweep_one};
 
 use crate::serial::Serial;
+use crate::several::accept_from;
 
 impl Serial {
     /// How many records `p` holds.
@@ -17,48 +18,38 @@ impl Serial {
         self.places.blocks(p).len()
     }
 
-    /// The entry at `from` of the list of `p` is swept.
-    pub(super) fn sweep_one(&mut self, p: u16, from: usize)
+    /// The entry at `from` of the list of `p` is swept. The bytes given back.
+    pub(super) fn sweep_one(&mut self, p: u16, from: usize) -> u32
         requires { from < length (blocks self.old p) }
         ensures is { self.new ≡ sweep_one p from self.old }
-        ensures bytes { all_out self.new.store ≤ all_out self.old.store }
+        ensures bytes { result + all_out self.new.store ≡ all_out self.old.store }
         ensures current { is_current self.new p ≡ true }
     {
         let r = self.places.blocks(p)[from];
         let end = self.blocks.end(r);
         let came = self.channels.shut(end);
-        self.plain.accept_from(p, end, came.as_slice());
+        accept_from(&mut self.plain, p, end, came.as_slice());
         self.places.add_all(p, came.as_slice());
-        self.plain.discard(p, r);
+        let bytes = self.plain.discard(p, r);
         self.blocks.bind(r, None);
         self.blocks.clear(r);
         self.places.remove_at(p, from);
+        bytes
     }
 
-    /// The list of `p` is swept from `from` on, as far as the budget goes.
-    fn sweep_list(&mut self, p: u16, from: usize, budget: u32)
-        requires { is_current self.old p ≡ true }
-        ensures is { self.new ≡ sweep p from budget self.old }
-        ensures bytes { all_out self.new.store ≤ all_out self.old.store }
-        ensures current { is_current self.new p ≡ true }
-    {
-        let _start = &self.plain;
-        let mut left = budget;
-        while left > 0 && from < self.count(p) {
-            self.sweep_one(p, from);
-            left -= 1;
-        }
-    }
-
-    /// The same. The bytes given back.
+    /// The list of `p` is swept from `from` on, as far as the budget goes. The bytes given back.
     pub(super) fn sweep(&mut self, p: u16, from: usize, budget: u32) -> u64
         requires { is_current self.old p ≡ true }
         ensures is { self.new ≡ sweep p from budget self.old }
         ensures bytes { result + all_out self.new.store ≡ all_out self.old.store }
         ensures current { is_current self.new p ≡ true }
     {
-        let before = self.plain.handed_out();
-        self.sweep_list(p, from, budget);
-        before - self.plain.handed_out()
+        let mut bytes = 0u64;
+        let mut left = budget;
+        while left > 0 && from < self.count(p) {
+            bytes += u64::from(self.sweep_one(p, from));
+            left -= 1;
+        }
+        bytes
     }
 }

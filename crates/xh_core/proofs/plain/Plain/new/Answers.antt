@@ -1,6 +1,6 @@
-use Rattle.xh_core.proofs.Common.{AreCarved, AreTotals, IsConfig, IsLawful, None, Store, ap, arena_at, length, replicate, rules, subst, sym, ℕ, ◌*◌, ◌<◌, ◌∙◌, ◌≡◌}
+use Rattle.xh_core.proofs.Common.{AreCarved, IsConfig, IsLawful, None, Store, ap, arena_at, length, replicate, rules, subst, sym, ℕ, ◌*◌, ◌<◌, ◌∙◌, ◌≡◌}
 use Rattle.xh_model.specs.Store.{new_store}
-use Rattle.xh_core.proofs.FreshPlain.{new_lawful, new_records, new_carved, new_totals}
+use Rattle.xh_core.proofs.FreshPlain.{new_lawful, new_records, new_carved}
 use Rattle.xh_core.proofs.plain.Plain.new.Goals as goal
 
 pub invariant_of-result : goal.invariant_of-result
@@ -13,6 +13,5 @@ invariant_of-result c =
     let same : s ≡ new_store c.args.config = λ i. record { owners = owners i; arenas = arenas i } in (
       subst IsLawful (sym same) (new_lawful c.args.config is),
       subst (λ (t : Store). (k : ℕ) → k < length t.arenas → (arena_at t k).records ≡ c.args.config.records) (sym same) (new_records c.args.config is),
-      rw c.in_ok-totals.ensures (subst (λ (t : Store). AreTotals t (replicate 4096 0)) (sym same) (new_totals c.args.config is)),
       subst AreCarved (sym same) (new_carved c.args.config is),
     )

@@ -1,5 +1,5 @@
-use Rattle.xh_serial.proofs.Common.{AreFlightLines, IsUnderWay, IsWhole, Machine, ap, append-nil, arith, at_drop_all, flight_lines, flight_of, ledger_of, length, subst, sym, ◌++◌, ◌∙◌, ◌≡◌, ◌≤◌}
-use Rattle.xh_serial.proofs.Flights.{are_lines, under_way}
+use Rattle.xh_serial.proofs.Common.{AreFlightLines, IsWhole, Machine, ap, append-nil, arith, at_drop_all, flight_lines, flight_of, ledger_of, length, subst, sym, ◌++◌, ◌∙◌, ◌≡◌, ◌≤◌}
+use Rattle.xh_serial.proofs.Flights.{are_lines, nothing}
 use Rattle.xh_serial.proofs.serial.Serial.flight.Goals.{After-loop-direction}
 use Rattle.xh_serial.proofs.serial.Serial.flight.Goals as goal
 
@@ -18,5 +18,5 @@ returns c =
     let lines = complete c c.loop-direction-test.false in record {
       lines = lines;
       sums = subst (AreFlightLines (ledger_of m).flight) (sym lines) (are_lines m whole);
-      under_way = subst (IsUnderWay m) (sym lines) (under_way m whole);
+      nothing = λ none. let n = nothing m whole none in (lines ∙ n.0, n.1);
     }

@@ -1,4 +1,4 @@
-use Rattle.xh_serial.proofs.Common.{IsRunning, IsWhole, Machine, Process, ap, arith, blocks, blocks_in, holds, length, machine_of, moved_last, refl, subst, sym, true, ◌∙◌, ◌≡◌}
+use Rattle.xh_serial.proofs.Common.{place, IsRunning, IsWhole, Machine, Process, ap, arith, blocks, holds, length, machine_of, moved_last, refl, subst, sym, true, ◌∙◌, ◌≡◌}
 use Rattle.xh_serial.proofs.Machines.{current_blocks}
 use Rattle.xh_serial.proofs.Closing.{last_whole, listed_place}
 use Rattle.xh_serial.proofs.serial.Serial.move_last.Goals.{After-self}
@@ -23,7 +23,7 @@ move_last-requires c =
 abbrev begun : goal.After-move_last → After-self
 begun c = (goal.at.returns-clause-is c).After-self
 
-list_is : (c : goal.After-move_last) → blocks (was (begun c)) c.args.p ≡ blocks_in (was (begun c)).places c.args.p
+list_is : (c : goal.After-move_last) → blocks (was (begun c)) c.args.p ≡ (place (was (begun c)).places c.args.p).blocks.items
 list_is c = current_blocks (was (begun c)) c.args.p (runs (begun c)).0
 
 made : (c : goal.After-move_last) → record (was (begun c)) { places = c.move_last.new.self } ≡ moved_last c.args.p c.args.e (was (begun c))
@@ -38,6 +38,6 @@ returns-clause-is c = made c ∙ ap (moved_last c.args.p c.args.e) c.self.view_i
 pub returns-clause-at : goal.returns-clause-at
 returns-clause-at c =
     let here = c.move_last.ensures.at in
-    let long : length (blocks (was (begun c)) c.args.p) ≡ length (blocks_in (was (begun c)).places c.args.p) = ap length (list_is c) in
+    let long : length (blocks (was (begun c)) c.args.p) ≡ length (place (was (begun c)).places c.args.p).blocks.items = ap length (list_is c) in
     let same = ap (λ (x : Machine). length (blocks x c.args.p)) c.self.view_is in
     omega (arith, here, long, same)

@@ -1,5 +1,5 @@
-use Rattle.xh_serial.proofs.Common.{IsWhole, List, Machine, NoPlace, Place, ap, is_ready, machine_of, ok_or, position, refl, spawn, subst, ◌∙◌}
-use Rattle.xh_serial.proofs.Opening.{spawn_gives, spawn_whole}
+use Rattle.xh_serial.proofs.Common.{IsWhole, List, Machine, NoPlace, Place, ap, is_ready, machine_of, ok_or, position, refl, spawn, subst}
+use Rattle.xh_serial.proofs.Opening.{spawn_whole}
 use Rattle.xh_serial.proofs.serial.Serial.spawn.Goals as goal
 
 pub invariant_of-self : goal.invariant_of-self
@@ -12,4 +12,4 @@ unfolding spawn
 returns c =
     let m : Machine = machine_of c.self.inside in
     rw (← c.self.view_is, c.ok_or.ensures.value)
-    (spawn_gives m (position is_ready m.places) ∙ (λ i. (ok_or (c.start.ensures i).0 NoPlace, record m { places = (c.start.ensures i).1 })))
+    (λ i. (ok_or (c.start.ensures i).0 NoPlace, record m { places = (c.start.ensures i).1 }))

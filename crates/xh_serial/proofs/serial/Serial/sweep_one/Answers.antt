@@ -1,7 +1,7 @@
-use Rattle.xh_serial.proofs.Common.{IsWhole, List, Machine, all_out, ap, arith, blocks, blocks_in, end_of, len, length, machine_of, refl, slice_index_or, subst, sweep_one, sym, way_in, ℕ, ◌+◌}
+use Rattle.xh_serial.proofs.Common.{place, IsWhole, List, Machine, all_out, ap, arith, blocks, end_of, len, length, machine_of, refl, slice_index_or, subst, sweep_one, sym, way_in, ℕ, ◌+◌}
 use Rattle.xh_serial.proofs.Common.{◌<◌, ◌∙◌, ◌≡◌, ◌≤◌}
 use Rattle.xh_serial.proofs.Machines.{current_blocks, lists_current}
-use Rattle.xh_serial.proofs.Swept.{bytes_one, end_range, entry, entry_left, entry_room, entry_there, whole_one}
+use Rattle.xh_serial.proofs.Swept.{bytes_one, end_range, entry, entry_left, entry_len, entry_room, entry_there, whole_one}
 use Rattle.xh_serial.proofs.serial.Serial.sweep_one.Goals.{After-end-end}
 use Rattle.xh_serial.proofs.serial.Serial.sweep_one.Goals as goal
 
@@ -34,7 +34,7 @@ shut-came-requires c = λ k e.
 pub add_all-requires : goal.add_all-requires
 add_all-requires c =
     let d = (goal.at.add_all-requires c).After-end-end in
-    subst (λ (xs : List ℕ). length (blocks_in c.self.inside.places c.args.p) + length xs ≤ 2048) (sym (c.as_slice-2.ensures.value ∙ c.shut-came.ensures.records))
+    subst (λ (xs : List ℕ). length (place c.self.inside.places c.args.p).blocks.items + length xs ≤ 2048) (sym (c.as_slice-2.ensures.value ∙ c.shut-came.ensures.records))
     (entry_room (was d) c.args.p c.args.from c.end-end.result c.self.invariant (has d))
 
 pub bind-requires : goal.bind-requires
@@ -47,7 +47,7 @@ clear-requires c = let d = (goal.at.clear-requires c).After-end-end in rw (read 
 
 abbrev is : goal.After-remove_at → Machine
 is c = record (machine_of c.self.inside) {
-  store = c.discard.new.self;
+  store = c.discard-bytes.new.self;
   ends = c.clear.new.self.ends;
   buffers = c.clear.new.self.buffers;
   places = c.remove_at.new.self;
@@ -66,7 +66,7 @@ made c =
     let d = begun c in
     let came = c.as_slice-2.ensures.value ∙ (c.shut-came.ensures.records ∙ ap (way_in (was d).lines) (end_is d)) in
     let listed = entry_left (was d) c.args.p c.args.from c.as_slice-2.result.now c.add_all.new.self c.remove_at.new.self c.self.invariant (has d) came c.add_all.ensures c.remove_at.ensures in
-    rw (listed, c.discard.ensures.store, c.accept_from.ensures, c.as_slice.ensures.value, c.clear.ensures, c.bind.ensures)
+    rw (listed, c.discard-bytes.ensures.store, c.accept_from.ensures, c.as_slice.ensures.value, c.clear.ensures, c.bind.ensures)
     (rw (c.shut-came.ensures.records, c.shut-came.ensures.lines, end_is d, read d) refl)
 
 pub invariant_of-self : goal.invariant_of-self
@@ -77,8 +77,11 @@ returns-clause-is c = made c ∙ ap (sweep_one c.args.p c.args.from) c.self.view
 
 pub returns-clause-bytes : goal.returns-clause-bytes
 returns-clause-bytes c =
-    let m : Machine = was (begun c) in
-    let b : len m.store (record_of (begun c)) + all_out (sweep_one c.args.p c.args.from m).store ≡ all_out m.store = bytes_one m c.args.p c.args.from c.self.invariant (has (begun c)) in
-    let out : all_out c.discard.new.self ≡ all_out (sweep_one c.args.p c.args.from m).store = ap (λ (x : Machine). all_out x.store) (made c) in
+    let d = begun c in
+    let m : Machine = was d in
+    let b : len m.store (record_of d) + all_out (sweep_one c.args.p c.args.from m).store ≡ all_out m.store = bytes_one m c.args.p c.args.from c.self.invariant (has d) in
+    let out : all_out c.discard-bytes.new.self ≡ all_out (sweep_one c.args.p c.args.from m).store = ap (λ (x : Machine). all_out x.store) (made c) in
     let same : all_out m.store ≡ all_out c.args.self.now.store = ap (λ (x : Machine). all_out x.store) c.self.view_is in
-    omega (arith, b, out, same)
+    let own : c.discard-bytes.result ≡ len m.store (record_of d) = (rw (c.discard-bytes.ensures.length, c.accept_from.ensures, c.as_slice.ensures.value)
+    (rw (c.shut-came.ensures.records, end_is d, read d) (entry_len m c.args.p c.args.from c.self.invariant (has d)))) in
+    omega (arith, b, out, same, own)

@@ -1,4 +1,4 @@
-use Rattle.xh_serial.proofs.Common.{IsWhole, List, Machine, MayTake, Message, Ok, ap, blocks_in, described, front, length, machine_of, refl, subst, sym, taken, toward, ℕ, ◌+◌, ◌∙◌, ◌≡◌, ◌≤◌}
+use Rattle.xh_serial.proofs.Common.{IsWhole, Machine, MayTake, Message, Ok, ap, described, front, machine_of, refl, subst, sym, taken, toward, ◌∙◌, ◌≡◌}
 use Rattle.xh_serial.specs.MessageCommands.{take}
 use Rattle.xh_serial.proofs.Messages.{front_allowed, taken_room, taken_whole}
 use Rattle.xh_serial.proofs.Wired.{whole_numbered, whole_orderly}
@@ -22,8 +22,7 @@ first c = rw ((may_there c).toward) c.take_front-message.ensures.front
 pub add_all-requires : goal.add_all-requires
 add_all-requires c =
     let d = (goal.at.add_all-requires c).After-take_front-message in
-    subst (λ (xs : List ℕ). length (blocks_in c.self.inside.places c.args.p) + length xs ≤ 2048) (sym (c.as_slice-2.ensures.value ∙ ap (λ (x : Message). x.blocks.items) (first d)))
-    (taken_room (was d) c.args.p c.args.e c.self.invariant (may d))
+    rw (c.as_slice-2.ensures.value, first d) (taken_room (was d) c.args.p c.args.e c.self.invariant (may d))
 
 -- ---- the machine after
 
@@ -32,7 +31,7 @@ begun c = (goal.at.returns c).After-take_front-message
 
 abbrev is : goal.After-add_all → Machine
 is c = record (machine_of c.self.inside) {
-  store = c.accept_all.new.self;
+  store = c.accept_all.new.plain;
   places = c.add_all.new.self;
   lines = c.take_front-message.new.self.lines;
   contracts = c.take_front-message.new.self.contracts;
@@ -42,7 +41,7 @@ is c = record (machine_of c.self.inside) {
 -- it is the one after the command
 made : (c : goal.After-add_all) → is c ≡ taken c.args.p c.args.e (was (begun c))
 unfolding taken
-made c = rw (c.accept_all.ensures, c.add_all.ensures, c.as_slice.ensures.value, c.as_slice-2.ensures.value, c.take_front-message.ensures.line)
+made c = rw (c.accept_all.ensures, c.add_all.ensures, c.as_slice.ensures.value, c.as_slice-2.ensures.value, c.take_front-message.ensures.is)
     (rw (c.take_front-message.ensures.front, (may_there (begun c)).toward, (may_there (begun c)).runs.0) refl)
 
 pub invariant_of-self : goal.invariant_of-self

@@ -1,5 +1,5 @@
 use Rattle.xh_serial.proofs.Common.{drop, total, ◌*◌, ◌+◌, ◌≡◌, ◌≤◌}
-use Rattle.xh_serial.proofs.serial.flight.total.Given as goal
+use Rattle.xh_serial.proofs.serial.books.total.Given as goal
 
 abbrev pub invariant-loop-record : goal.invariant-loop-record
 invariant-loop-record l = record {

@@ -1,5 +1,0 @@
-use Rattle.xh_core.proofs.Common.{accept_all, drop, ◌≡◌}
-use Rattle.xh_core.proofs.plain.Plain.accept_all.Given as goal
-
-abbrev pub invariant-loop-r : goal.invariant-loop-r
-invariant-loop-r l = accept_all l.p l.d (drop l.r-index l.blocks) l.self ≡ accept_all l.p l.d l.blocks l.fn.self

@@ -1,5 +1,0 @@
-use Rattle.xh_core.proofs.Common.{drop, pass_all, ◌≡◌}
-use Rattle.xh_core.proofs.plain.Plain.pass_all.Given as goal
-
-abbrev pub invariant-loop-r : goal.invariant-loop-r
-invariant-loop-r l = pass_all l.p l.d (drop l.r-index l.blocks) l.self ≡ pass_all l.p l.d l.blocks l.fn.self
