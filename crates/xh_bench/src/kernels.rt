@@ -160,7 +160,7 @@ impl Timing {
             Err(_refused) => return Err(Failure::Memory),
         };
         let pace = self.on(rt, &kernel, accounts, looks);
-        drop(kernel);
+        kernel.discard();
         pace
     }
 

@@ -270,6 +270,9 @@ impl<N: Names> Kernel<N> {
         Ok(self.shared.glances.look(look, place))
     }
 
+    /// Lets the kernel go where a run fails, with all that its locks keep. Its books stay unclosed.
+    pub fn discard(self) {}
+
     /// Takes the kernel apart and changes nothing. What a look has seen of a place is a beginning of the
     /// glances of the place's pen, as `Glances::compare` shows, and what a worker has seen of it a beginning of
     /// its history, as `Histories::compare` shows. OutOfMemory where a growth was refused.

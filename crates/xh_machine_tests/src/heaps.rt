@@ -119,7 +119,10 @@ fn on_parts<N: Names, R: Wait + Abort>(
             let books = close_kernel(alloc, kernel, accounts, looks)?;
             Ok(books.ledger)
         }
-        Err(_refused) => Err(Refused::OutOfMemory),
+        Err(_refused) => {
+            kernel.discard();
+            Err(Refused::OutOfMemory)
+        }
     }
 }
 

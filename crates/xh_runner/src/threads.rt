@@ -125,7 +125,10 @@ fn run_named<N: Names + Send + Sync, R: Threads + Wait + Sync, G: Gate + Sync>(
     };
     match run_script(rt, alloc, &kernel, accounts, looks, script, gate) {
         Ok(ended) => report_of(alloc, kernel, ended),
-        Err(fault) => Err(fault),
+        Err(fault) => {
+            kernel.discard();
+            Err(fault)
+        }
     }
 }
 

@@ -242,7 +242,10 @@ fn run_named<N: Names + Send + Sync, R: Threads + Wait + Sync>(
             close(alloc, plan, kernel, accounts, looks)?;
             Ok(done)
         }
-        Err(wrong) => Err(wrong),
+        Err(wrong) => {
+            kernel.discard();
+            Err(wrong)
+        }
     }
 }
 
