@@ -2,4 +2,4 @@
 pub mod ClosedWords
 pub mod FreeNumbers
 pub mod LineRule
-pub mod Turns
+pub mod Waiting

@@ -10,7 +10,6 @@ ghost use Rattle.xh_channel.specs.QueueEnds.{IsNewDirection};
 ghost use Rattle.xh_channel.specs.Queues.{IsSameEnd, KeepsItsMessages, PutsAs, ShutsAs, TakesAs, Unpushed};
 ghost use Rattle.xh_channel.specs.declared.refused.Refused.TheVariants.{OutOfMemory, BadSize, NoChannel};
 
-use crate::bells::{Bells, OwnBells};
 use crate::channel_end::{self, ChannelEnd};
 use crate::closed_word::ClosedWords;
 use crate::endpoint::Endpoint;
@@ -20,9 +19,9 @@ use crate::line_seat::LineSeat;
 use crate::message::Message;
 use crate::queue_end::{QueueEnd, direction};
 use crate::refused::Refused;
-use crate::signal::{OwnSignal, Signal};
 use crate::spot::Spot;
 use crate::unsent::Unsent;
+use crate::waiting::{Bells, OwnBells, OwnSignal, Signal};
 use arrayvec::ArrayVec;
 use crossbeam_utils::CachePadded;
 use std::alloc::{AllocError, Global};

@@ -1,7 +1,6 @@
 //! The channels: their directions, their endpoints, and shutting.
 #![tactic(auto)]
 
-mod bells;
 mod channel_end;
 mod channels;
 mod closed_rule;
@@ -19,10 +18,9 @@ mod line_steps;
 mod message;
 mod queue_end;
 mod refused;
-mod signal;
 mod spot;
-mod turn;
 mod unsent;
+mod waiting;
 
 pub use channels::Channels;
 pub use endpoint::{Endpoint, compare};

@@ -1,12 +1,16 @@
-//! What is waited for, and what its waiters sleep on. No step takes a lock.
-ghost use Rattle.std.specs.Prelude.{◌≡◌};
-ghost use Rattle.xh_channel.specs.inner.Turns.{is_waited_for};
+//! What is waited for, whom a channel wakes, and what its waiters sleep on. No step takes a lock.
+ghost use Rattle.std.specs.Prelude.{◌≡◌, ◌<◌, length, IfOk};
+ghost use Rattle.xh_model.specs.declared.limits.TheConstants.{PLACES};
+ghost use Rattle.xh_channel.specs.inner.Waiting.{is_waited_for};
 
+use crossbeam_utils::CachePadded;
+use std::alloc::{AllocError, Global};
 use std::hint;
-use std::sync::Wait;
 use std::sync::atomic::AtomicU64;
 use std::sync::atomic::Ordering::SeqCst;
+use std::sync::{Arc, Wait};
 use std::time::{Clock, Duration, Instant};
+use xh_model::limits::PLACES;
 
 /// How often a waiter looks at the turn before it sleeps.
 const LOOKS: u16 = 400;
@@ -115,6 +119,91 @@ impl Turn {
             if left.is_zero() || !self.sleep(rt, seen, Some(left)) {
                 break;
             }
+        }
+    }
+}
+
+/// A bell for each place: who waits at several channels sleeps at its own. A bell is a turn that rises where it rings.
+#[derive(Drop)]
+pub struct Bells {
+    all: Vec<CachePadded<Turn>>,
+    ghost each: { length all.items ≡ PLACES },
+}
+
+/// The bells of a heap's places, which each channel knows.
+pub type OwnBells = Arc<Bells, Global>;
+
+// The bell of each place.
+fn hang(alloc: Global) -> Result<Vec<CachePadded<Turn>>, AllocError>
+    ensures { IfOk result (λ v. length v.items ≡ PLACES) }
+{
+    let mut all = Vec::with_capacity(alloc, PLACES as usize)?;
+    for _ in 0..PLACES {
+        all.push(CachePadded::new(Turn::new()))?;
+    }
+    Ok(all)
+}
+
+impl Bells {
+    pub fn new(alloc: Global) -> Result<OwnBells, AllocError> {
+        let all = hang(alloc)?;
+        Ok(Arc::new(alloc, Bells { all })?)
+    }
+
+    pub fn of(&self, place: u8) -> &Turn
+        requires { place < PLACES }
+    {
+        &self.all[place as usize]
+    }
+}
+
+/// Where no place listens.
+const NOBODY: u64 = PLACES as u64;
+
+/// A channel's turn, and at each side the place that listens there.
+///
+/// Whoever waits at several channels listens at each, then reads its place's bell, then looks at all, and
+/// sleeps only while the bell is what it read. A put raises the turn, and then rings the bells of who
+/// listens: it saw the waiter listen, and the bell moves on after it was read or the look comes after the
+/// put; or it didn't, and the look comes after the put too.
+#[derive(Drop)]
+pub struct Signal {
+    pub turn: Turn,
+    listeners: [AtomicU64; 2],
+    bells: OwnBells,
+}
+
+/// A channel's signal, which its ends know. It lies on cache lines of its own, for threads on channels side by side.
+pub type OwnSignal = Arc<CachePadded<Signal>, Global>;
+
+impl Signal {
+    pub fn new(bells: OwnBells) -> Signal {
+        Signal {
+            turn: Turn::new(),
+            listeners: [AtomicU64::new(NOBODY), AtomicU64::new(NOBODY)],
+            bells,
+        }
+    }
+
+    /// The turn rises by one, and who waits at it or listens looks again. Where nobody does, that is one step and three loads.
+    pub fn raise(&self) {
+        self.turn.raise();
+        for listener in &self.listeners {
+            let place = listener.load(SeqCst);
+            if place < NOBODY {
+                self.bells.of(place as u8).raise();
+            }
+        }
+    }
+
+    /// The place listens at the side now, and no other.
+    pub fn listen(&self, side: u8, place: u8)
+        requires { (side < 2) × (place < PLACES) }
+    {
+        let listener = &self.listeners[side as usize];
+        let place = u64::from(place);
+        if listener.load(SeqCst) != place {
+            listener.store(place, SeqCst);
         }
     }
 }

@@ -1,5 +1,5 @@
 use Rattle.xh_channel.proofs.Common.{length, ◌≡◌}
-use Rattle.xh_channel.proofs.bells.hang.Given as goal
+use Rattle.xh_channel.proofs.waiting.hang.Given as goal
 
 abbrev pub invariant-loop : goal.invariant-loop
 invariant-loop l = length l.all.items ≡ l.counter
