@@ -1,8 +1,6 @@
 """What a script answers, by docs/SCRIPT.md and by nothing of the program: a heap that does commands one by one (`serial`);
 what is so of a run on threads whatever its schedule was (`follow`); and the search for an order in which a run on threads
 answers as the heap does (`has_order`)."""
-import pickle
-
 import soak_reader
 
 REFUSALS = """OutOfMemory BadSize NoArena NoSpace NoRecord NotOwned NotData NotEndpoint BadCut BadRange NoProcess Ended
@@ -31,26 +29,13 @@ def claim(is_so, text):
 
 
 class Arena:
+    """`units`: for each 16 bytes a `.` where they are free."""
+
     def __init__(self, size):
-        self.size, self.holes, self.records, self.taken, self.back = size, [(0, size)], 0, 0, 0
+        self.size, self.units, self.records, self.taken, self.back = size, bytearray(b"." * (size // 16)), 0, 0, 0
 
-    def fits(self, length):
-        return any(room >= length for _, room in self.holes)
-
-    def carve(self, length):
-        at = next(at for at, (_, room) in enumerate(self.holes) if room >= length)
-        start, room = self.holes[at]
-        self.holes[at : at + 1] = [(start + length, room - length)] if room > length else []
-        return start
-
-    def mend(self, start, length):
-        """The bytes are a hole again, together with those beside it."""
-        holes = []
-        for begin, room in sorted([*self.holes, (start, length)]):
-            if holes and sum(holes[-1]) == begin:
-                begin, room = holes[-1][0], holes.pop()[1] + room
-            holes.append((begin, room))
-        self.holes = holes
+    def fill(self, start, length, byte):
+        self.units[start // 16 : (start + length) // 16] = byte * (length // 16)
 
 
 class Block:
@@ -77,8 +62,8 @@ class Process:
         self.name, self.number, self.state, self.held, self.names = name, number, "running", [], {}
 
     def unbind(self, gone):
-        self.held = [it for it in self.held if not any(it is one for one in gone)]
-        self.names = {name: it for name, it in self.names.items() if not any(it is one for one in gone)}
+        self.held = [it for it in self.held if it not in gone]
+        self.names = {name: it for name, it in self.names.items() if it not in gone}
 
     def bind(self, name, block):
         self.held.append(block)
@@ -94,8 +79,8 @@ class Heap:
     `mortal` are the names of processes that ended at some time, and `victims` of those that were killed; `reclaimed` counts
     the bytes that endings and closings gave back, all of them unless the run `is_partial`."""
 
-    def __init__(self, options, may_starve=False):
-        self.options, self.may_starve, self.said, self.reclaimed, self.is_partial = options, may_starve, None, 0, False
+    def __init__(self, options):
+        self.options, self.said, self.reclaimed, self.is_partial = options, None, 0, False
         self.arenas = [Arena(options["--bytes"]) for _ in range(options["--arenas"])]
         self.channels, self.contracts, self.places, self.processes = [], {}, [], {}
         self.mortal, self.victims, self.drained = set(), set(), []
@@ -113,18 +98,16 @@ class Heap:
         if self.said[2:3] == [words[0]] if self.said else is_so:
             raise Refused(*words)
 
-    def numbers(self, count):
-        """What a command on threads was answered: so many numbers."""
-        claim(self.said[0] == "ok" and len(self.said) == count + 1 and all(map(str.isdigit, self.said[1:])), f"no numbers: {self.said}")
-        return [int(it) for it in self.said[1:]]
-
     def process(self, name):
         if name not in self.processes:
             raise Refused("NoProcess")
         return self.processes[name]
 
+    def is_replaced(self, process):
+        return not self.said and self.places[process.number % 32] is not process
+
     def is_gone(self, process):
-        return process.state == "ended" or self.places[process.number % 32] is not process
+        return process.state == "ended" or self.is_replaced(process)
 
     def lives(self, process, is_so):
         """Whether the process still may do this. On threads one that has ended says so until it starts again."""
@@ -155,29 +138,23 @@ class Heap:
             raise Refused("NoArena")
         return self.arenas[number]
 
-    def starve(self):
-        if self.said and self.may_starve and "OutOfMemory" in self.said:
-            self.may_starve = False
-            raise Refused("OutOfMemory")
-
-    def claim_records(self, arena, count):
-        self.refuse_if(arena.records + count > self.options["--records"], "NoRecord")
-        arena.records += count
-
     def carve(self, arena, length, records):
         self.refuse_if(arena.records + records > self.options["--records"], "NoRecord")
-        self.refuse_if(not arena.fits(length), "NoSpace")
+        start = 16 * arena.units.find(b"." * (length // 16))
+        self.refuse_if(start < 0, "NoSpace")
         self.refuse_if(arena.taken + length > self.options["--wear"], "Worn")
         arena.records += records
         arena.taken += length
-        return None if self.said else arena.carve(length)
+        if not self.said:
+            arena.fill(start, length, b"#")
+        return start
 
     def give_back(self, block):
         arena = self.arenas[block.arena]
         arena.back += len(block)
         arena.records -= 1
         if not self.said:
-            arena.mend(block.start, len(block))
+            arena.fill(block.start, len(block), b".")
         return len(block)
 
     def channel(self, number, contract):
@@ -187,15 +164,14 @@ class Heap:
         start = self.carve(arena, 64, 2)
         channel = Channel(self.contracts.get(contract))
         self.channels.append(channel)
-        return [Block(number, None if self.said else start + 32 * side, bytearray(32), channel, side) for side in (0, 1)]
+        return [Block(number, start + 32 * side, bytearray(32), channel, side) for side in (0, 1)]
 
     def new_process(self, name):
         at = next((at for at, it in enumerate(self.places) if it.state == "ended" and it.number < 4064), len(self.places))
         self.refuse_if(at == 32, "NoPlace")
         if self.said:
-            number = self.numbers(1)[0]
-            claim(number < 4096, f"no process: {number}")
-            self.processes[name] = Process(name, number)
+            self.processes[name] = Process(name, int(self.said[1]))
+            claim(self.processes[name].number < 4096, f"no process: {self.said}")
         else:
             number = self.places[at].number + 32 if at < len(self.places) else at
             self.processes[name] = Process(name, number)
@@ -217,16 +193,13 @@ class Heap:
         q.bind(f, high)
 
     def do_open(self, by, e, f, arena, contract=None):
-        process = self.running(by)
-        low, high = self.channel(arena, contract)
-        process.bind(e, low)
-        process.bind(f, high)
+        self.do_wire(by, by, e, by, f, arena, contract)
 
     def do_alloc(self, by, x, count, number):
         process, arena = self.running(by), self.arena(number)
         if not 0 < count <= arena.size:
             raise Refused("BadSize")
-        self.starve()
+        self.refuse_if(False, "OutOfMemory")
         data = bytearray(-(-count // 16) * 16)
         process.bind(x, Block(number, self.carve(arena, len(data), 1), data))
         return [len(data)]
@@ -236,9 +209,11 @@ class Heap:
         block = self.block(process, x, False)
         if at % 16 or not 0 < at < len(block):
             raise Refused("BadCut")
-        self.starve()
-        self.claim_records(self.arenas[block.arena], 1)
-        tail = Block(block.arena, None if self.said else block.start + at, block.data[at:])
+        self.refuse_if(False, "OutOfMemory")
+        arena = self.arenas[block.arena]
+        self.refuse_if(arena.records == self.options["--records"], "NoRecord")
+        arena.records += 1
+        tail = Block(block.arena, block.start + at, block.data[at:])
         del block.data[at:]
         process.bind(t, tail)
         return [len(block), len(tail)]
@@ -273,13 +248,17 @@ class Heap:
         if len(names) > 8:
             raise Refused("TooMany")
         blocks = [self.any_block(process, name) for name in names]
-        if len({*map(id, blocks), id(end)}) <= len(blocks):
+        if len({*blocks, end}) <= len(blocks):
             raise Refused("Twice")
         state = self.move(end, end.side, tag) if channel.rows else None
         if channel.rows and state is None:
             raise Refused("Protocol")
-        if self.said and "PeerClosed" in self.said:
-            self.give_in_vain(process, blocks)
+        if self.said and "PeerClosed" in self.said:  # in the midst of it, perhaps: what was sent is reclaimed at the peer
+            back = int(self.said[3])
+            if 0 < back < len(blocks):
+                raise Unsure
+            process.unbind(blocks[back:])
+            raise Refused("PeerClosed", back)
         self.refuse_if(not channel.is_open[to], "PeerClosed", len(blocks))
         self.refuse_if(len(channel.waiting[to]) == self.options["--depth"], "Full", len(blocks))
         process.unbind(blocks)
@@ -287,16 +266,6 @@ class Heap:
         channel.sent[to] += 1
         channel.waiting[to][channel.sent[to]] = tag, blocks
         return [channel.sent[to]]
-
-    def give_in_vain(self, process, blocks):
-        """On threads the peer may be closed in the midst of it, and what was sent is reclaimed there."""
-        back = self.said[3:]
-        claim(len(back) == 1 and back[0].isdigit() and int(back[0]) <= len(blocks), f"no count of what is back: {self.said}")
-        if 0 < int(back[0]) < len(blocks):
-            raise Unsure
-        if int(back[0]) < len(blocks):
-            process.unbind(blocks)
-        raise Refused("PeerClosed", back[0])
 
     def do_take(self, by, e, *names, waits=False):
         process = self.running(by)
@@ -348,24 +317,24 @@ class Heap:
 
     def give_back_some(self, least):
         """On threads: as many bytes as it says."""
-        count = self.numbers(1)[0]
+        count = int(self.said[1])
         claim(count >= least and count % 16 == 0, f"so many bytes come back: {count}")
         self.reclaimed += count
         return [count]
 
     def end(self, process, budget, is_own):
-        if self.said and is_own:
+        if not self.said:
+            count, left = self.sweep(process, 0, budget), len(process.held)
+            process.state = "ending" if left else "ended"
+        elif is_own:
             process.state = "ended" if self.said[0] == "ok" else "ending"
         if self.said and "Unfinished" in self.said:
-            claim(len(self.said) == 4 and self.said[3].isdigit() and 1 <= int(self.said[3]) <= 2048, f"so many are left: {self.said}")
-            self.is_partial = True
-            raise Refused(*self.said[2:])
-        if self.said:
+            self.is_partial, left = True, int(self.said[3])
+            claim(1 <= left <= 2048, f"so many are left: {left}")
+        elif self.said:
             return self.give_back_some(0)
-        count = self.sweep(process, 0, budget)
-        process.state = "ending" if process.held else "ended"
-        if process.held:
-            raise Refused("Unfinished", len(process.held))
+        if left:
+            raise Refused("Unfinished", left)
         return [count]
 
     def do_exit(self, by, budget=4096):
@@ -392,10 +361,10 @@ class Heap:
     def do_glance(self, by, other):
         self.process(by)
         process = self.process(other)
-        self.refuse_if(self.places[process.number % 32] is not process, "Ended")
+        self.refuse_if(self.is_replaced(process), "Ended")
         if not self.said or by == other and self.is_certain(process):
             return [len(process.held), size_of(process.held)]
-        blocks, count = self.numbers(2)
+        blocks, count = map(int, self.said[1:])
         claim(16 * blocks <= count and count % 16 == 0, f"so many blocks and bytes: {self.said}")
         return [blocks, count]
 
@@ -410,7 +379,7 @@ class Heap:
                 blocks = [it for _, blocks in channel.waiting[side].values() for it in blocks]
                 flight += [(2 * at + side, len(blocks), size_of(blocks))] if blocks else []
         for at, it in enumerate(self.arenas):
-            yield f"arena {at} {it.size} {it.taken - it.back} {len(it.holes)} {it.taken} {it.back}"
+            yield f"arena {at} {it.size} {it.taken - it.back} {sum(map(bool, it.units.split(b'#')))} {it.taken} {it.back}"
         for it in self.places:
             yield f"process {it.name.decode()} {it.state} {len(it.held)} {size_of(it.held)}"
         yield f"owned {owned}"
@@ -430,10 +399,11 @@ def serial(script, options):
 def follow(script, options, lines, may_starve):
     """Claims what is so of a run on threads: each process's commands in their order, a take behind its give. Numbers of
     messages, lengths and bytes are certain, since who holds an endpoint is; what is left to the schedule is as was said."""
-    heap, waiting, count = Heap(options, may_starve), {}, len(script.commands)
+    heap, waiting, count = Heap(options), {}, len(script.commands)
+    claim(sum("OutOfMemory" in line for line in lines) <= may_starve, "OutOfMemory")
     for (number, by, verb, values), line in zip(script.commands, lines):
         words = line.split(" ")
-        claim(words[0] == str(number) and words[1:2] in (["ok"], ["no"]), f"no reply of line {number}: {line}")
+        claim(words[:1] == [str(number)] and words[1:2] in (["ok"], ["no"]) and all(map(str.isalnum, words)), f"no reply of line {number}: {line}")
         if by is None:
             said = heap.step(by, verb, values)
             claim(said == " ".join(words[1:]), f"wanted {said}: {line}")
@@ -521,7 +491,7 @@ def judge(text, options, is_serial, may_starve, status, out, err):
         return None if wanted == lines else f"wanted and printed: {differ[:3]}"
     try:
         follow(script, options, lines, may_starve)
-    except Wrong as wrong:
+    except (Wrong, ValueError, IndexError) as wrong:
         return str(wrong)
     except Unsure:
         pass
