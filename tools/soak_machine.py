@@ -485,7 +485,8 @@ def judge(text, options, is_serial, may_starve, status, out, err):
     if status != 0 or err or not out.endswith(b"\n"):
         return f"status {status}, {err!r}, {out!r}"
     lines = out.decode("ascii", "replace")[:-1].split("\n")
-    if is_serial:
+    is_alone = [it[2] for it in script.commands].count(b"process") == 1
+    if is_serial or is_alone and not may_starve:
         wanted = serial(script, options)
         differ = [it for it in zip(wanted, lines) if it[0] != it[1]]
         return None if wanted == lines else f"wanted and printed: {differ[:3]}"
