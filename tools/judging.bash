@@ -1,5 +1,5 @@
-# How the gate judges a run. It sets top, a folder of its own, and reads this file; tools/test_gate tries it on wrong
-# programs.
+# How a run is judged. The gate sets top, a folder of its own, and reads this file; so do tools/test_gate, which tries it on
+# wrong programs, and tools/test_answers.
 # shellcheck shell=bash disable=SC2154
 
 room="$top"
@@ -47,68 +47,50 @@ tell_all() {
 
 # options_of SCRIPT: the file of its ways, each a line of words, or that of the default
 options_of() {
-    local options="${1%.script}.options"
-    [ -e "$options" ] || options="$(dirname "$1")/default.options"
-    echo "$options"
+    [ -e "${1%.script}.options" ] && echo "${1%.script}.options" || echo "$(dirname "$1")/default.options"
 }
 
-# run_on SCRIPT COMMAND ..: its output, its errors and its status stand in the room
+# run_on INPUT COMMAND ..: its output, its errors and its status stand in the room
 run_on() {
-    local script="$1"
+    local input="$1"
     shift
     status=0
-    "$@" <"$script" >"$room/out" 2>"$room/errors" || status=$?
+    timeout 60 "$@" <"$input" >"$room/out" 2>"$room/errors" || status=$?
 }
 
-# is_ended [-s]: the run's status and its errors are those of the file "$room/wanted"; with -s it doesn't say where they differ
+# is_ended FILE: the run's status and its errors are those of the file, or 0 and none where there is none
 is_ended() {
-    { echo "$status"; cat "$room/errors"; } | cmp "$@" - "$room/wanted"
+    { cat "$1" 2>/dev/null || echo 0; } | cmp - <(echo "$status" && cat "$room/errors")
 }
 
-# is_whole SCRIPT: what the run printed is the script's .out, or nothing where there is none, and its status and its errors
-# are those of its .status, or 0 and none.
+# is_whole SCRIPT: what the run printed is the script's .out, or nothing where there is none, and it ended as its .status says
 is_whole() {
-    local name="${1%.script}" out=/dev/null
-    [ -e "$name.out" ] && out="$name.out"
-    { cat "$name.status" 2>/dev/null || echo 0; } >"$room/wanted"
-    is_ended -s && cmp -s "$room/out" "$out"
-}
+    local out="${1%.script}.out"
+    [ -e "$out" ] || out=/dev/null
+    is_ended "${1%.script}.status" && cmp "$room/out" "$out"
+} >"$room/differs" 2>&1
 
 # ends_as_written PROGRAM SCRIPT WORD ..: run with these words it does as is written beside the script
 ends_as_written() {
-    local program="$1" script="$2"
-    shift 2
-    [ -e "${script%.script}.out" ] || [ -e "${script%.script}.status" ] || return 1
-    run_on "$script" timeout 60 "$program" "$@"
-    is_whole "$script" || { cat "$room/errors" && diff "$room/out" "${script%.script}.out" | head -n 20 && return 1; }
+    local name="${2%.script}"
+    [ -e "$name.out" ] || [ -e "$name.status" ] || return 1
+    run_on "$2" "$1" "${@:3}"
+    is_whole "$2" || { cat "$room/errors" && diff "$room/out" "$name.out" | head -n 20 && return 1; }
 }
 
 # is_drawn PROGRAM SCRIPT WORD ..: the script is drawn, as XML, and as the picture beside it or in docs/pictures/ where there is
 # one; a script with a fault is not, and the fault is told as in its .status by this program's name.
 is_drawn() {
-    local program="$1" script="$2" name="${2%.script}" picture
-    shift 2
-    run_on "$script" timeout 60 "$program" "$@"
+    local name="${2%.script}" picture
+    run_on "$2" "$1" "${@:3}"
     if [ -e "$name.status" ]; then
-        sed "s/^xheap: /$(basename "$program"): /" "$name.status" >"$room/wanted"
-        is_ended && [ ! -s "$room/out" ]
+        is_ended <(sed "s/^xheap: /$(basename "$1"): /" "$name.status") && [ ! -s "$room/out" ]
         return
     fi
     picture="$name.svg"
     [ -e "$picture" ] || picture="docs/pictures/$(basename "$name").svg"
-    [ "$status" -eq 0 ] && [ ! -s "$room/errors" ] && is_xml "$room/out" &&
+    is_ended /none && python3 -c 'import sys, xml.dom.minidom; xml.dom.minidom.parse(sys.argv[1])' "$room/out" &&
         { [ ! -e "$picture" ] || cmp "$room/out" "$picture"; }
-}
-
-is_xml() {
-    python3 -c 'import sys, xml.dom.minidom; xml.dom.minidom.parse(sys.argv[1])' "$1"
-}
-
-# into FILE COMMAND ..: runs it with its output going there
-into() {
-    local file="$1"
-    shift
-    "$@" >"$file"
 }
 
 # is_text FILE LINES: the file has these lines, in which a * is any text, or nothing where there are none
@@ -121,32 +103,29 @@ is_text() {
 # ends PROGRAM INPUT OUTPUT STATUS PRINTED REPORTED WORD ..: run with these words on these two it ends so, and has printed and
 # reported these lines
 ends() {
-    local program="$1" input="$2" output="$3" wanted="$4" printed="$5" reported="$6"
-    shift 6
-    run_on "$input" into "$output" timeout 60 "$program" "$@"
-    [ "$status" -eq "$wanted" ] && is_text "$room/out" "$printed" && is_text "$room/errors" "$reported" && return
+    # shellcheck disable=SC2016
+    run_on "$2" bash -c 'to="$1" && shift && exec "$@" >"$to"' - "$3" "$1" "${@:7}"
+    [ "$status" -eq "$4" ] && is_text "$room/out" "$5" && is_text "$room/errors" "$6" && return
     echo "gate: status $status"
     cat "$room/errors"
     return 1
 }
 
-# with_growth_refused N PROGRAM ..: runs it with its N-th growth refused; the file "$room/told" is there if one was
-with_growth_refused() {
-    local number="$1"
-    shift
-    rm -f "$room/told"
-    timeout 60 env REFUSE_GROWTH="$number" REFUSE_TOLD="$room/told" LD_PRELOAD="$refuse_growth" "$@"
+# run_refused N INPUT COMMAND ..: runs it with its N-th growth refused; the file "$room/told" is there if one was
+run_refused() {
+    rm -f "$room/told" "$room/begun"
+    run_on "$2" env REFUSE_GROWTH="$1" REFUSE_TOLD="$room/told" REFUSE_BEGUN="$room/begun" LD_PRELOAD="$refuse_growth" "${@:3}"
 }
 
-# A test on refused growths passes whichever growth is refused; with REFUSE_REST, whichever is the first from which
-# on all are.
+# test_stands PROGRAM TEST: it passes whichever growth is refused; with REFUSE_REST, whichever is the first from which on all are
 test_stands() {
-    local program="$1" name="$2" number=0
+    local number=0
     while :; do
         number=$((number + 1))
-        if ! with_growth_refused "$number" "$program" "$name" >"$room/out" 2>&1; then
-            echo "gate: growth $number of $name:"
-            cat "$room/out"
+        run_refused "$number" /dev/null "$1" "$2"
+        if [ "$status" -ne 0 ]; then
+            echo "gate: growth $number of $2:"
+            cat "$room/out" "$room/errors"
             return 1
         fi
         [ -e "$room/told" ] || break
@@ -154,64 +133,45 @@ test_stands() {
     [ "$number" -gt 1 ]
 }
 
-# The run wrote nothing, and said that memory was refused.
-is_out_of_memory() {
-    [ ! -s "$room/out" ] && echo 'xheap: out of memory' | cmp -s - "$room/errors"
-}
-
 # is_without_one PROGRAM SCRIPT WORD ..: one command said that it was refused memory, and all else is as if the script
 # did not have it: the output without its line is that of the script with a comment in its place. Its line goes to lines.
 is_without_one() {
-    local program="$1" script="$2" line
-    shift 2
-    [ ! -s "$room/errors" ] || return 1
+    local line
     line="$(sed -n 's/^\([0-9]*\) no 1 OutOfMemory$/\1/p' "$room/out")"
-    [[ "$line" =~ ^[0-9]+$ ]] || return 1
-    sed "${line}s/.*/#/" "$script" >"$room/without.script"
-    timeout 60 "$program" "$@" <"$room/without.script" >"$room/without.out" 2>/dev/null || return 1
+    [[ "$line" =~ ^[0-9]+$ ]] && [ "$status" -eq 0 ] && [ ! -s "$room/errors" ] || return 1
+    sed "${line}s/.*/#/" "$2" >"$room/without.script"
+    timeout 60 "$1" "${@:3}" <"$room/without.script" >"$room/without.out" 2>/dev/null || return 1
     sed "/^$line no 1 OutOfMemory\$/d" "$room/out" | cmp -s - "$room/without.out" && echo "$line" >>"$room/lines"
 }
 
-# growth_stands PROGRAM SCRIPT WORD ..: what a run to which a growth was refused may answer. Of those that ended and of
-# those that were whole it keeps count.
+# growth_stands PROGRAM SCRIPT WORD ..: what a run to which a growth was refused may answer. Of those that ended, and wrote
+# nothing but that memory was refused, and of those that were whole it keeps count.
 growth_stands() {
-    local program="$1" script="$2"
-    shift 2
     if [ "$status" -eq 3 ]; then
         ended=$((ended + 1))
-        is_out_of_memory
-    elif is_whole "$script"; then
+        [ ! -s "$room/out" ] && echo 'xheap: out of memory' | cmp -s - "$room/errors"
+    elif is_whole "$2"; then
         whole=$((whole + 1))
     else
-        [ "$status" -eq 0 ] && [[ " $* " != *" --serial "* ]] && is_without_one "$program" "$script" "$@"
+        [[ " $* " != *" --serial "* ]] && is_without_one "$@"
     fi
-}
-
-# run_refused THREAD N PROGRAM SCRIPT WORD ..: runs it with the N-th growth of this thread refused; the file "$room/begun" is
-# there if the thread began, and "$room/told" if it asked for so many.
-run_refused() {
-    local thread="$1" number="$2" program="$3" script="$4"
-    shift 4
-    rm -f "$room/begun"
-    REFUSE_THREAD="$thread" REFUSE_BEGUN="$room/begun" run_on "$script" with_growth_refused "$number" "$program" "$@"
 }
 
 # thread_stands THREAD PROGRAM SCRIPT WORD ..: with each growth of this thread refused in turn, until a run asks for no more,
 # which has to be whole. Its status is 2 where no such thread begins.
 thread_stands() {
-    local thread="$1" program="$2" script="$3" number=1
-    shift 3
-    run_refused "$thread" "$number" "$program" "$script" "$@"
-    [ -e "$room/begun" ] || return 2
-    while [ -e "$room/told" ]; do
-        if ! growth_stands "$program" "$script" "$@"; then
-            echo "gate: growth $number of thread $thread of $script: status $status"
+    local number=0
+    while :; do
+        number=$((number + 1))
+        REFUSE_THREAD="$1" run_refused "$number" "$3" "$2" "${@:4}"
+        [ -e "$room/begun" ] || return 2
+        [ -e "$room/told" ] || break
+        if ! growth_stands "${@:2}"; then
+            echo "gate: growth $number of thread $1 of $3: status $status"
             return 1
         fi
-        number=$((number + 1))
-        run_refused "$thread" "$number" "$program" "$script" "$@"
     done
-    is_whole "$script"
+    is_whole "$3"
 }
 
 # program_stands PROGRAM SCRIPT WORD ..: with each growth of each thread refused in turn. A run to which one was refused ends with
@@ -220,38 +180,26 @@ thread_stands() {
 # .growths: the lines of the commands that take memory of their own, one growth each. On threads each of these says once
 # that it was refused memory, and no other does. On one thread each ends the run, and so does what is read.
 program_stands() {
-    local program="$1" script="$2" growths="${2%.script}.growths" thread=0 ended=0 whole=0 status stands
-    shift 2
+    local growths="${2%.script}.growths" thread=0 ended=0 whole=0 status stands=0
     : >"$room/lines"
-    while :; do
-        thread_stands "$thread" "$program" "$script" "$@"
-        stands=$?
-        [ "$stands" -eq 0 ] || break
+    while thread_stands "$thread" "$@" || { stands=$? && false; }; do
         thread=$((thread + 1))
     done
-    [ "$stands" -eq 2 ] && [ "$thread" -gt 0 ] && [ "$ended" -gt "$whole" ] || return 1
+    [ "$stands" -eq 2 ] && [ "$thread" -gt 0 ] && [ "$ended" -gt "$whole" ] && [ -e "$growths" ] || return 1
     if [[ " $* " == *" --serial "* ]]; then
-        [ -e "$growths" ] && [ "$ended" -gt "$(grep -c '' "$growths")" ]
+        [ "$ended" -gt "$(grep -c '' "$growths")" ]
     else
         sort -n "$room/lines" | diff - "$growths"
     fi
 }
 
-# The tests on refused growths of the programs, a line each: the program and the test.
-growth_tests_of() {
-    local program
-    for program in "$@"; do
-        [ -x "$program" ] || continue
-        "$program" --list | sed -n 's/: test$//p' | grep -E 'growth|without_memory' | sed "s/^/$(basename "$program") /" || true
-    done
-}
-
-# are_the_growth_tests LIST PROGRAM ..: these, and no others, stand in the list
+# are_the_growth_tests LIST PROGRAM ..: the tests on refused growths of these programs, by their names, stand in the list, a line
+# each: the program and the test; and no others
 are_the_growth_tests() {
-    local list="$1"
-    shift
-    grep -v '^#' "$list" | sort >"$room/listed"
-    growth_tests_of "$@" | sort | diff "$room/listed" - >"$room/differ" && [ -s "$room/listed" ] && return
+    local program
+    for program in "${@:2}"; do
+        [ ! -x "$program" ] || "$program" --list | sed -n "/growth\|without_memory/s/\(.*\): test$/$(basename "$program") \1/p"
+    done | sort | diff <(grep -v '^#' "$1" | sort) - >"$room/differ" && grep -qv '^#' "$1" && return
     sed -n 's/^< /gate: listed and not there: /p; s/^> /gate: there and not listed: /p' "$room/differ"
     return 1
 }

@@ -30,3 +30,26 @@ is_since() {
 is_proved() {
     [ -x "$top/crates/$1/out/$1" ] && is_since "$top/crates/$1/out/$1" "$1"
 }
+
+# run_program NAME WORD ..: the proved program, or its checked build; help and version want neither
+run_program() {
+    local name="$1" room status=0
+    shift
+    ! is_proved "$name" || exec "$top/crates/$name/out/$name" "$@"
+    case " $* " in
+    *" --help "* | *" -h "*) echo "$name reads a script from standard input. Its options:" && sed -n '/^## The program/,/^With/{/^|\|^With/p}' "$top/docs/SCRIPT.md" && exit ;;
+    *" --version "* | *" -V "*) sed -n "s/^const VERSION.*\"\(.*\)\";/$name \1/p" "$top/crates/xh_command_line/src/options.rt" && exit ;;
+    esac
+    echo "$name: this build is checked and not proved (./prove $name proves it)" >&2
+    room="$(mktemp -d)" || exit 70
+    trap 'rm -rf "$room"' EXIT
+    (cd "$top/crates/$name" && exec rt try --seconds 60 -- "$@") >"$room/out" 2>"$room/err" || status=$?
+    if ! tail -n 1 "$room/err" | grep -q "^run=ended status=$status .*proved=no$"; then
+        cat "$room/err" >&2
+        echo "$name: no answer: the checked build cannot be made, or did not end; above is what rt try said" >&2
+        exit 70
+    fi
+    sed '/^rt: /d; /^interpreter: /d; /^checked: /,$d' "$room/err" >&2
+    cat "$room/out" 2>/dev/null || { echo "$name: write failed" >&2 && exit 4; }
+    exit "$status"
+}

@@ -6,30 +6,25 @@ NUMBER = re.compile(rb"0|[1-9][0-9]{0,9}")
 HEX = re.compile(rb"(?:[0-9a-f]{2}){1,32}")
 HEADS = {b"process", b"wire", b"contract"}
 TOP = 4_294_967_295
-
-# For each verb the sorts of its words; a last sort with '*' may be repeated, so often at least and at most; one with '?'
-# may be left out.
-HEAD_SHAPES = {
-    b"process": ["process"],
-    b"wire": ["process", "name", "process", "name", "number", "known?"],
-    b"contract": ["contract", "row*1,16"],
-}
-SHAPES = {
-    b"alloc": ["name", "number", "number"],
-    b"split": ["name", "number", "name"],
-    b"read": ["name", "number", "length"],
-    b"write": ["name", "number", "hex"],
-    b"free": ["name"],
-    b"open": ["name", "name", "number", "known?"],
-    b"give": ["name", "tag", "name*0,16"],
-    b"take": ["name", "name*0,8"],
-    b"await": ["name", "name*0,8"],
-    b"close": ["name"],
-    b"exit": ["budget?"],
-    b"kill": ["process", "budget?"],
-    b"again": [],
-    b"glance": ["process"],
-}
+# For each verb the sorts of its words; the last may be repeated, so often at least and at most.
+SHAPES = """process process
+wire process name process name number known*0,1
+contract contract row*1,16
+alloc name number number
+split name number name
+read name number length
+write name number hex
+free name
+open name name number known*0,1
+give name tag name*0,16
+take name name*0,8
+await name name*0,8
+close name
+exit budget*0,1
+kill process budget*0,1
+again budget*0,0
+glance process"""
+SHAPES = {verb.encode(): sorts for verb, *sorts in map(str.split, SHAPES.splitlines())}
 RANGES = {"number": (0, TOP), "length": (1, 32), "tag": (0, 65_535), "budget": (1, 4096)}
 
 
@@ -68,20 +63,11 @@ def value_of(sort, word):
 
 def sorts_of(shape, count):
     """The sort of each of so many words."""
-    sorts = list(shape)
-    if sorts and sorts[-1].endswith("?"):
-        last = sorts.pop()[:-1]
-        sorts += [last] if count > len(sorts) else []
-    elif sorts and "*" in sorts[-1]:
-        last, bounds = sorts.pop().split("*")
-        low, high = map(int, bounds.split(","))
-        more = count - len(sorts)
-        if not low <= more <= high:
-            raise Fault("BadCount")
-        sorts += [last] * more
-    if count != len(sorts):
+    last, _, bounds = shape[-1].partition("*")
+    low, high = map(int, (bounds or "1,1").split(","))
+    if not low <= count - len(shape) + 1 <= high:
         raise Fault("BadCount")
-    return sorts
+    return shape[:-1] + [last] * (count - len(shape) + 1)
 
 
 def split_line(line):
@@ -92,11 +78,11 @@ def split_line(line):
     if b"" in words:
         raise Fault("BadWord")
     if words[0] in HEADS:
-        return words[0], None, words[1:], sorts_of(HEAD_SHAPES[words[0]], len(words) - 1)
+        return words[0], None, words[1:], sorts_of(SHAPES[words[0]], len(words) - 1)
     by = name_of(words[0])
     if len(words) == 1:
         raise Fault("BadCount")
-    if words[1] not in SHAPES:
+    if words[1] not in SHAPES.keys() - HEADS:
         raise Fault("BadWord")
     return words[1], by, words[2:], sorts_of(SHAPES[words[1]], len(words) - 2)
 

@@ -1,0 +1,499 @@
+"""What a script answers, by docs/SCRIPT.md and by nothing of the program: a heap that does commands one by one (`serial`);
+what is so of a run on threads whatever its schedule was (`follow`); and the search for an order in which a run on threads
+answers as the heap does (`has_order`)."""
+import soak_reader
+
+REFUSALS = """OutOfMemory BadSize NoArena NoSpace NoRecord NotOwned NotData NotEndpoint BadCut BadRange NoProcess Ended
+NoChannel Full PeerClosed Empty TooMany Twice Worn Unfinished NoPlace Protocol""".split()
+
+
+class Refused(Exception):
+    """Its words are those of the reply: a name, and what is counted."""
+
+
+class Wrong(Exception):
+    pass
+
+
+class Later(Exception):
+    """What the command needs was given by a command of another process that isn't followed yet."""
+
+
+class Unsure(Exception):
+    """It isn't said which of a message's blocks came back."""
+
+
+def claim(is_so, text):
+    if not is_so:
+        raise Wrong(text)
+
+
+class Arena:
+    """`units`: for each 16 bytes a `.` where they are free."""
+
+    def __init__(self, size):
+        self.size, self.units, self.records, self.taken, self.back = size, bytearray(b"." * (size // 16)), 0, 0, 0
+
+    def fill(self, start, length, byte):
+        self.units[start // 16 : (start + length) // 16] = byte * (length // 16)
+
+
+class Block:
+    """An endpoint has a channel, its side and the state of its contract."""
+
+    def __init__(self, arena, start, data, channel=None, side=None):
+        self.arena, self.start, self.data, self.channel, self.side = arena, start, data, channel, side
+        self.state = channel.rows[0][0] if channel and channel.rows else None
+
+    def __len__(self):
+        return len(self.data)
+
+
+class Channel:
+    """For each side: whether it is open, the messages on their way to it by their numbers, and the latest that was sent to it
+    and taken there."""
+
+    def __init__(self, rows):
+        self.rows, self.is_open, self.waiting, self.sent, self.taken = rows, [True, True], ({}, {}), [0, 0], [0, 0]
+
+
+class Process:
+    def __init__(self, name, number):
+        self.name, self.number, self.state, self.held, self.names = name, number, "running", [], {}
+
+    def unbind(self, gone):
+        self.held = [it for it in self.held if it not in gone]
+        self.names = {name: it for name, it in self.names.items() if it not in gone}
+
+    def bind(self, name, block):
+        self.held.append(block)
+        self.names[name] = block
+
+
+def size_of(blocks):
+    return sum(map(len, blocks))
+
+
+class Heap:
+    """`said`: in a run on threads the words that a command was answered with; they decide what others have a part in. Then
+    `mortal` are the names of processes that ended at some time, and `victims` of those that were killed; `reclaimed` counts
+    the bytes that endings and closings gave back, all of them unless the run `is_partial`."""
+
+    def __init__(self, options):
+        self.options, self.said, self.reclaimed, self.is_partial = options, None, 0, False
+        self.arenas = [Arena(options["--bytes"]) for _ in range(options["--arenas"])]
+        self.channels, self.contracts, self.places, self.processes = [], {}, [], {}
+        self.mortal, self.victims, self.drained = set(), set(), []
+
+    def step(self, by, verb, values, said=None):
+        """The reply, without the line's number."""
+        self.said = said
+        try:
+            words = ["ok", *(getattr(self, f"do_{verb.decode()}")(by, *values) or [])]
+        except Refused as refused:
+            words = ["no", REFUSALS.index(refused.args[0]) + 1, *refused.args]
+        return " ".join(map(str, words))
+
+    def refuse_if(self, is_so, *words):
+        if self.said[2:3] == [words[0]] if self.said else is_so:
+            raise Refused(*words)
+
+    def process(self, name):
+        if name not in self.processes:
+            raise Refused("NoProcess")
+        return self.processes[name]
+
+    def is_replaced(self, process):
+        return not self.said and self.places[process.number % 32] is not process
+
+    def is_gone(self, process):
+        return process.state == "ended" or self.is_replaced(process)
+
+    def lives(self, process, is_so):
+        """Whether the process still may do this. On threads one that has ended says so until it starts again."""
+        if self.said and "Ended" in self.said:
+            claim(process.name in self.mortal, f"{process.name} has ended, and nobody ended it")
+            process.state = "ending" if process.state == "running" else process.state
+        self.refuse_if(not is_so, "Ended")
+        claim(is_so, f"{process.name} goes on after its end: {self.said}")
+
+    def running(self, name):
+        process = self.process(name)
+        self.lives(process, process.state == "running")
+        return process
+
+    def block(self, process, name, is_end):
+        block = self.any_block(process, name)
+        if is_end != bool(block.channel):
+            raise Refused("NotEndpoint" if is_end else "NotData")
+        return block
+
+    def any_block(self, process, name):
+        if name not in process.names:
+            raise Refused("NotOwned")
+        return process.names[name]
+
+    def arena(self, number):
+        if number >= len(self.arenas):
+            raise Refused("NoArena")
+        return self.arenas[number]
+
+    def carve(self, arena, length, records):
+        self.refuse_if(arena.records + records > self.options["--records"], "NoRecord")
+        start = 16 * arena.units.find(b"." * (length // 16))
+        self.refuse_if(start < 0, "NoSpace")
+        self.refuse_if(arena.taken + length > self.options["--wear"], "Worn")
+        arena.records += records
+        arena.taken += length
+        if not self.said:
+            arena.fill(start, length, b"#")
+        return start
+
+    def give_back(self, block):
+        arena = self.arenas[block.arena]
+        arena.back += len(block)
+        arena.records -= 1
+        if not self.said:
+            arena.fill(block.start, len(block), b".")
+        return len(block)
+
+    def channel(self, number, contract):
+        """Both endpoints of a new channel."""
+        arena = self.arena(number)
+        self.refuse_if(len(self.channels) == 64, "NoChannel")
+        start = self.carve(arena, 64, 2)
+        channel = Channel(self.contracts.get(contract))
+        self.channels.append(channel)
+        return [Block(number, start + 32 * side, bytearray(32), channel, side) for side in (0, 1)]
+
+    def new_process(self, name):
+        at = next((at for at, it in enumerate(self.places) if it.state == "ended" and it.number < 4064), len(self.places))
+        self.refuse_if(at == 32, "NoPlace")
+        if self.said:
+            self.processes[name] = Process(name, int(self.said[1]))
+            claim(self.processes[name].number < 4096, f"no process: {self.said}")
+        else:
+            number = self.places[at].number + 32 if at < len(self.places) else at
+            self.processes[name] = Process(name, number)
+            self.places[at : at + 1] = [self.processes[name]]
+        return [self.processes[name].number]
+
+    def do_process(self, _, name):
+        if name in self.processes:
+            raise Refused("Twice")
+        return self.new_process(name)
+
+    def do_contract(self, _, name, *rows):
+        self.contracts[name] = rows
+
+    def do_wire(self, _, p, e, q, f, arena, contract=None):
+        p, q = self.running(p), self.running(q)
+        low, high = self.channel(arena, contract)
+        p.bind(e, low)
+        q.bind(f, high)
+
+    def do_open(self, by, e, f, arena, contract=None):
+        self.do_wire(by, by, e, by, f, arena, contract)
+
+    def do_alloc(self, by, x, count, number):
+        process, arena = self.running(by), self.arena(number)
+        if not 0 < count <= arena.size:
+            raise Refused("BadSize")
+        self.refuse_if(False, "OutOfMemory")
+        data = bytearray(-(-count // 16) * 16)
+        process.bind(x, Block(number, self.carve(arena, len(data), 1), data))
+        return [len(data)]
+
+    def do_split(self, by, x, at, t):
+        process = self.running(by)
+        block = self.block(process, x, False)
+        if at % 16 or not 0 < at < len(block):
+            raise Refused("BadCut")
+        self.refuse_if(False, "OutOfMemory")
+        arena = self.arenas[block.arena]
+        self.refuse_if(arena.records == self.options["--records"], "NoRecord")
+        arena.records += 1
+        tail = Block(block.arena, block.start + at, block.data[at:])
+        del block.data[at:]
+        process.bind(t, tail)
+        return [len(block), len(tail)]
+
+    def bytes_of(self, by, x, at, count):
+        block = self.block(self.running(by), x, False)
+        if at + count > len(block):
+            raise Refused("BadRange")
+        return block
+
+    def do_read(self, by, x, at, count):
+        return [self.bytes_of(by, x, at, count).data[at : at + count].hex()]
+
+    def do_write(self, by, x, at, text):
+        data = bytes.fromhex(text.decode())
+        self.bytes_of(by, x, at, len(data)).data[at : at + len(data)] = data
+
+    def do_free(self, by, x):
+        process = self.running(by)
+        block = self.block(process, x, False)
+        process.unbind([block])
+        return [self.give_back(block)]
+
+    def move(self, end, side, tag):
+        """The end's state after a message of this tag by this side; None where its contract allows none."""
+        return next((to for state, word, by, to in end.channel.rows if (state, word, by) == (end.state, tag, side)), None)
+
+    def do_give(self, by, e, tag, *names):
+        process = self.running(by)
+        end = self.block(process, e, True)
+        channel, to = end.channel, 1 - end.side
+        if len(names) > 8:
+            raise Refused("TooMany")
+        blocks = [self.any_block(process, name) for name in names]
+        if len({*blocks, end}) <= len(blocks):
+            raise Refused("Twice")
+        state = self.move(end, end.side, tag) if channel.rows else None
+        if channel.rows and state is None:
+            raise Refused("Protocol")
+        if self.said and "PeerClosed" in self.said:  # in the midst of it, perhaps: what was sent is reclaimed at the peer
+            back = int(self.said[3])
+            if 0 < back < len(blocks):
+                raise Unsure
+            process.unbind(blocks[back:])
+            raise Refused("PeerClosed", back)
+        self.refuse_if(not channel.is_open[to], "PeerClosed", len(blocks))
+        self.refuse_if(len(channel.waiting[to]) == self.options["--depth"], "Full", len(blocks))
+        process.unbind(blocks)
+        end.state = state
+        channel.sent[to] += 1
+        channel.waiting[to][channel.sent[to]] = tag, blocks
+        return [channel.sent[to]]
+
+    def do_take(self, by, e, *names, waits=False):
+        process = self.running(by)
+        end = self.block(process, e, True)
+        channel, side = end.channel, end.side
+        number = channel.taken[side] + 1
+        is_there = number in channel.waiting[side]
+        if self.said and "PeerClosed" in self.said:
+            self.drained.append(channel.waiting[side])
+        self.refuse_if(not is_there and not channel.is_open[1 - side], "PeerClosed")
+        if not (waits and self.said):
+            self.refuse_if(not is_there, "Empty")
+        if not is_there:
+            raise Later
+        channel.taken[side] = number
+        tag, blocks = channel.waiting[side].pop(number)
+        if channel.rows:
+            end.state = self.move(end, 1 - side, tag)
+        for name, block in zip(names, blocks):
+            process.names[name] = block
+        process.held += blocks
+        return [number, tag, *map(len, blocks)]
+
+    def do_await(self, by, e, *names):
+        return self.do_take(by, e, *names, waits=True)
+
+    def sweep(self, process, at, budget):
+        """The bytes that so many blocks gave back, from this one of the process on."""
+        count = 0
+        while len(process.held) > at and budget > 0:
+            block = process.held.pop(at)
+            budget -= 1
+            if block.channel:
+                block.channel.is_open[block.side] = False
+                for _, blocks in block.channel.waiting[block.side].values():
+                    process.held += blocks
+                block.channel.waiting[block.side].clear()
+            count += self.give_back(block)
+        return count
+
+    def do_close(self, by, e):
+        process = self.running(by)
+        end = self.block(process, e, True)
+        process.unbind([end])
+        if self.said:
+            return self.give_back_some(32)
+        process.held.append(end)
+        return [self.sweep(process, len(process.held) - 1, 4096)]
+
+    def give_back_some(self, least):
+        """On threads: as many bytes as it says."""
+        count = int(self.said[1])
+        claim(count >= least and count % 16 == 0, f"so many bytes come back: {count}")
+        self.reclaimed += count
+        return [count]
+
+    def end(self, process, budget, is_own):
+        if not self.said:
+            count, left = self.sweep(process, 0, budget), len(process.held)
+            process.state = "ending" if left else "ended"
+        elif is_own:
+            process.state = "ended" if self.said[0] == "ok" else "ending"
+        if self.said and "Unfinished" in self.said:
+            self.is_partial, left = True, int(self.said[3])
+            claim(1 <= left <= 2048, f"so many are left: {left}")
+        elif self.said:
+            return self.give_back_some(0)
+        if left:
+            raise Refused("Unfinished", left)
+        return [count]
+
+    def do_exit(self, by, budget=4096):
+        process = self.process(by)
+        self.lives(process, process.state != "ended")
+        return self.end(process, budget, True)
+
+    def do_kill(self, by, other, budget=4096):
+        if self.said and "Ended" in self.said:
+            claim({by, other} & self.mortal, f"{by} or {other} has ended, and nobody ended it")
+            raise Refused("Ended")
+        self.running(by)
+        process = self.process(other)
+        if not self.said and self.is_gone(process):
+            raise Refused("Ended")
+        return self.end(process, budget, by == other)
+
+    def do_again(self, by):
+        process = self.process(by)
+        self.refuse_if(not self.is_gone(process), "Twice")
+        claim(not self.said or by in self.mortal, f"{by} starts again, and nobody ended it")
+        return self.new_process(by)
+
+    def do_glance(self, by, other):
+        self.process(by)
+        process = self.process(other)
+        self.refuse_if(self.is_replaced(process), "Ended")
+        if not self.said or by == other and self.is_certain(process):
+            return [len(process.held), size_of(process.held)]
+        blocks, count = map(int, self.said[1:])
+        claim(16 * blocks <= count and count % 16 == 0, f"so many blocks and bytes: {self.said}")
+        return [blocks, count]
+
+    def is_certain(self, process):
+        """Whether a run on threads says what the process holds."""
+        return process.state == "running" and process.name not in self.victims
+
+    def ledger(self):
+        owned, flight = sum(size_of(it.held) for it in self.places), []
+        for at, channel in enumerate(self.channels):
+            for side in (0, 1):
+                blocks = [it for _, blocks in channel.waiting[side].values() for it in blocks]
+                flight += [(2 * at + side, len(blocks), size_of(blocks))] if blocks else []
+        for at, it in enumerate(self.arenas):
+            yield f"arena {at} {it.size} {it.taken - it.back} {sum(map(bool, it.units.split(b'#')))} {it.taken} {it.back}"
+        for it in self.places:
+            yield f"process {it.name.decode()} {it.state} {len(it.held)} {size_of(it.held)}"
+        yield f"owned {owned}"
+        yield f"flight {sum(it[2] for it in flight)}"
+        yield f"out {sum(it.taken - it.back for it in self.arenas)}"
+        if "--flight" in self.options:
+            yield from (f"direction {way} {blocks} {count}" for way, blocks, count in flight)
+
+
+def serial(script, options):
+    """What the serial machine prints."""
+    heap = Heap(options)
+    lines = [f"{number} {heap.step(by, verb, values)}" for number, by, verb, values in script.commands]
+    return [*lines, *heap.ledger()]
+
+
+def follow(script, options, lines, may_starve):
+    """Claims what is so of a run on threads: each process's commands in their order, a take behind its give. Numbers of
+    messages, lengths and bytes are certain, since who holds an endpoint is; what is left to the schedule is as was said."""
+    heap, waiting, count = Heap(options), {}, len(script.commands)
+    claim(sum("OutOfMemory" in line for line in lines) <= may_starve, "OutOfMemory")
+    for (number, by, verb, values), line in zip(script.commands, lines):
+        words = line.split(" ")
+        claim(words[:1] == [str(number)] and words[1:2] in (["ok"], ["no"]) and all(map(str.isalnum, words)), f"no reply of line {number}: {line}")
+        if by is None:
+            said = heap.step(by, verb, values)
+            claim(said == " ".join(words[1:]), f"wanted {said}: {line}")
+        else:
+            waiting.setdefault(by, []).append((verb, values, words[1:], line))
+        if verb in (b"exit", b"kill") and (words[1] == "ok" or "Unfinished" in words):
+            heap.mortal.add(by if verb == b"exit" else values[0])
+            heap.victims |= {values[0]} if verb == b"kill" else set()
+    while any([follow_one(heap, by, commands) for by, commands in waiting.items()]):
+        pass
+    claim(not any(waiting.values()), f"what was taken there nobody gave: {[it[0] for it in waiting.values() if it]}")
+    claim(not any(heap.drained), "what was given to an end was not taken there, and its peer is closed")
+    judge_ledger(heap, [line.split(" ") for line in lines[count:]])
+
+
+def follow_one(heap, by, commands):
+    """Follows a process until a message isn't given yet; whether it came on."""
+    done = 0
+    for verb, values, words, line in commands:
+        try:
+            said = heap.step(by, verb, values, words)
+        except Later:
+            break
+        claim(said == " ".join(words), f"wanted {said}: {line}")
+        done += 1
+    del commands[:done]
+    return done > 0
+
+
+def judge_ledger(heap, rows):
+    """Sums, and what is known of each process; where all have ended only circles are in flight."""
+    arenas, out, back = rows[: len(heap.arenas)], 0, 0
+    for at, (row, arena) in enumerate(zip(arenas, heap.arenas)):
+        claim(row[:3] == ["arena", str(at), str(arena.size)] and len(row) == 7, f"no line of an arena: {row}")
+        here, holes, came, went = map(int, row[3:])
+        claim(came == arena.taken and here == came - went and here <= arena.size and went >= arena.back, f"an arena: {row}")
+        claim((holes > 0) == (here < arena.size) and holes * 16 <= arena.size - here, f"holes: {row}")
+        out, back = out + here, back + went
+    wanted = sum(it.back for it in heap.arenas) + heap.reclaimed
+    claim(back == wanted or heap.is_partial and back > wanted, f"{back} came back, by the replies {wanted}")
+    places = [row for row in rows[len(arenas) :] if row[0] == "process"]
+    owned = sum(judge_place(heap, at, *row[1:]) for at, row in enumerate(places))
+    sums, flight = rows[len(arenas) + len(places) :][:3], rows[len(arenas) + len(places) + 3 :]
+    claim(sums == [["owned", str(owned)], ["flight", str(out - owned)], ["out", str(out)]], f"{owned} owned, {out} out: {sums}")
+    judge_flight(heap, out - owned, flight, all(row[2] == "ended" for row in places))
+
+
+def judge_place(heap, at, name, state, blocks, count):
+    process, held = heap.processes.get(name.encode()), (int(blocks), int(count))
+    claim(process and held[1] % 16 == 0 and held[1] >= 16 * held[0] and (held[1] == 0) == (held[0] == 0), f"{name} holds {held}")
+    claim({"running": True, "ending": held[0] > 0, "ended": held[0] == 0}[state], f"{name} is {state} with {held}")
+    if heap.is_certain(process) and process.number % 32 == at:
+        claim((state, *held) == ("running", len(process.held), size_of(process.held)), f"{name} is {state} with {held}")
+    return held[1]
+
+
+def judge_flight(heap, count, rows, is_over):
+    """What is in flight was given and not taken. Once all has ended, each end to which it goes is so in flight too."""
+    ways = {(channel, side): [it for _, blocks in channel.waiting[side].values() for it in blocks] for channel in heap.channels for side in (0, 1)}
+    while is_over:
+        there = {(it.channel, it.side) for blocks in ways.values() for it in blocks if it.channel}
+        kept = {way: blocks for way, blocks in ways.items() if way in there}
+        is_over, ways = len(kept) < len(ways), kept
+    numbers = [tuple(map(int, row[1:])) for row in rows]
+    claim(all(row[0] == "direction" for row in rows) and numbers == sorted(numbers), f"no lines of directions: {rows}")
+    claim(sum(it[2] for it in numbers) == count or "--flight" not in heap.options, f"{count} in flight: {rows}")
+    most = sum(map(size_of, ways.values()))
+    claim(count <= most and len(rows) <= len(ways) and (heap.mortal or heap.reclaimed or count == most), f"{count} in flight: {rows}, by the replies {most}")
+
+
+def judge(text, options, is_serial, may_starve, status, out, err):
+    """What is wrong with an answer, or None. Where a growth may have been refused, that may be the answer."""
+    if may_starve and status == 3:
+        return None if (out, err) == (b"", b"xheap: out of memory\n") else f"status 3 with {out!r} and {err!r}"
+    script, fault = soak_reader.read(text)
+    if fault:
+        wanted = (1, b"", f"xheap: line {fault[0]}: {fault[1]}\n".encode())
+        return None if (status, out, err) == wanted else f"wanted {wanted}, it was {(status, out, err)}"
+    if status != 0 or err or not out.endswith(b"\n"):
+        return f"status {status}, {err!r}, {out!r}"
+    lines = out.decode("ascii", "replace")[:-1].split("\n")
+    is_alone = [it[2] for it in script.commands].count(b"process") == 1
+    if is_serial or is_alone and not may_starve:
+        wanted = serial(script, options)
+        differ = [it for it in zip(wanted, lines) if it[0] != it[1]]
+        return None if wanted == lines else f"wanted and printed: {differ[:3]}"
+    try:
+        follow(script, options, lines, may_starve)
+    except (Wrong, ValueError, IndexError) as wrong:
+        return str(wrong)
+    except Unsure:
+        pass
+    return None
