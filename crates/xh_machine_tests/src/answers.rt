@@ -1,15 +1,13 @@
 //! Calls of a machine and what they answer, to be compared.
-use crate::contracts::request_and_reply;
 use crate::heaps::Booked;
 use std::alloc::Global;
 use std::process::Abort;
-use xh_core::{Block, Refused, Status};
+use xh_core::{Block, Glance, Refused, Status};
 use xh_runner::{Machine, Received};
 
 /// A call, by the numbers of processes, records and arenas. `Spawns` starts so many processes; `Lives` starts and ends
 /// 4,096 in turn, each place's generations one after the other and then the next place's. A read is of at most six bytes.
-/// `OpenWith` and `WireWith` are by the contract of a request and its reply. `Moved` asks what was taken of an arena and
-/// given back.
+/// `Moved` asks what was taken of an arena and given back.
 #[derive(Clone, Copy)]
 pub enum Call<'a> {
     Spawn,
@@ -21,12 +19,8 @@ pub enum Call<'a> {
     Write(u16, u16, u32, &'a [u8]),
     Free(u16, u16),
     Open(u16, u32),
-    OpenWith(u16, u32),
-    Wire(u16, u16, u32),
-    WireWith(u16, u16, u32),
     Give(u16, u16, u16, &'a [u16]),
     Take(u16, u16),
-    TakeWait(u16, u16),
     Close(u16, u16),
     Exit(u16, u32),
     Kill(u16, u16, u32),
@@ -36,69 +30,38 @@ pub enum Call<'a> {
 
 /// A process, a message's number, how many bytes came back, or the first of several that did not start or end; a
 /// block, by record and length; two blocks; the bytes of a read, with 0xee past the last; a message, by its number, its tag
-/// and its blocks, two at most, each by record and length (0 and 0 if it did not come); a place, by process, state, blocks and
-/// bytes; bytes taken and given back; the name of a refusal; one that hands blocks back, with all of them, which are two at
-/// most; how many blocks an ending left; nothing.
+/// and its first block, by record and length (0 and 0 if it did not come); a place, by process, state, blocks and bytes;
+/// bytes taken and given back; the name of a refusal; nothing.
 #[derive(Clone, Copy, Debug, PartialEq)]
 pub enum Answer {
     Number(u64),
     Block(u16, u32),
     Two(u16, u32, u16, u32),
     Bytes([u8; 6]),
-    Message(u64, u16, [Option<(u16, u32)>; 2]),
+    Message(u64, u16, Option<(u16, u32)>),
     Place(u16, Status, u32, u64),
     Moved(u64, u64),
     No(&'static str),
-    Back(&'static str, [Option<u16>; 2]),
-    Left(u32),
     Done,
 }
 
 /// What a call answers where a growth was refused.
 pub const LACKING: Answer = Answer::No("OutOfMemory");
 
-/// What no row expects: more blocks than an answer tells.
-const MANY: Answer = Answer::No("more than two blocks");
-
-/// A refusal that hands back these blocks.
-fn of_back(name: &'static str, back: &[u16]) -> Answer {
-    if back.len() > 2 {
-        return MANY;
-    }
-    Answer::Back(name, [back.first().copied(), back.get(1).copied()])
-}
-
-/// Why a call is refused: its name, and all that it hands back or leaves.
 fn of_refused(refused: Refused) -> Answer {
-    let name = refused.name();
-    match refused {
-        Refused::Full { back } | Refused::PeerClosed { back } | Refused::Protocol { back } => {
-            of_back(name, back.as_slice())
-        }
-        Refused::Unfinished { left } => Answer::Left(left),
-        _ => Answer::No(name),
-    }
+    Answer::No(refused.name())
 }
 
 fn of_number(answer: Result<u64, Refused>) -> Answer {
-    match answer {
-        Ok(number) => Answer::Number(number),
-        Err(refused) => of_refused(refused),
-    }
+    answer.map_or_else(of_refused, Answer::Number)
 }
 
-fn of_block(answer: Result<Block, Refused>) -> Answer {
-    match answer {
-        Ok(block) => Answer::Block(block.rec, block.len),
-        Err(refused) => of_refused(refused),
-    }
+fn of_block(block: Block) -> Answer {
+    Answer::Block(block.rec, block.len)
 }
 
-fn of_two(answer: Result<(Block, Block), Refused>) -> Answer {
-    match answer {
-        Ok((low, high)) => Answer::Two(low.rec, low.len, high.rec, high.len),
-        Err(refused) => of_refused(refused),
-    }
+fn of_two((low, high): (Block, Block)) -> Answer {
+    Answer::Two(low.rec, low.len, high.rec, high.len)
 }
 
 /// A block of a message.
@@ -109,23 +72,17 @@ fn of_got(block: &Option<Block>) -> (u16, u32) {
     }
 }
 
-fn of_message(answer: Result<Received, Refused>) -> Answer {
-    match answer {
-        Ok(message) if message.blocks.len() > 2 => MANY,
-        Ok(message) => {
-            let blocks = message.blocks.as_slice();
-            let two = [blocks.first().map(of_got), blocks.get(1).map(of_got)];
-            Answer::Message(message.number, message.tag, two)
-        }
-        Err(refused) => of_refused(refused),
-    }
+fn of_message(message: Received) -> Answer {
+    let first = message.blocks.as_slice().first().map(of_got);
+    Answer::Message(message.number, message.tag, first)
 }
 
-fn of_nothing(answer: Result<(), Refused>) -> Answer {
-    match answer {
-        Ok(()) => Answer::Done,
-        Err(refused) => of_refused(refused),
-    }
+fn of_place(seen: Glance) -> Answer {
+    Answer::Place(seen.process, seen.state, seen.blocks, seen.bytes)
+}
+
+fn of_nothing(_done: ()) -> Answer {
+    Answer::Done
 }
 
 /// The bytes of a read of at most six, or where it is refused and writes none, why.
@@ -135,13 +92,6 @@ fn bytes_of<M: Machine>(machine: &mut M, p: u16, r: u16, at: u32, count: usize) 
     match read {
         Err(refused) if bytes == [0xee; 6] => of_refused(refused),
         _ => Answer::Bytes(bytes),
-    }
-}
-
-fn place_of<M: Machine>(machine: &mut M, place: u8) -> Answer {
-    match machine.glance(place) {
-        Ok(seen) => Answer::Place(seen.process, seen.state, seen.blocks, seen.bytes),
-        Err(refused) => of_refused(refused),
     }
 }
 
@@ -173,37 +123,33 @@ fn lives_of<M: Machine>(machine: &mut M) -> Answer {
     Answer::Done
 }
 
-/// The ends of a channel by the contract: of the process, or of it and another.
-fn ends_under<M: Machine>(machine: &mut M, p: u16, other: Option<u16>, arena: u32) -> Answer {
-    match (request_and_reply(), other) {
-        (Ok(contract), None) => of_two(machine.open(p, arena, Some(&contract))),
-        (Ok(contract), Some(q)) => of_two(machine.wire(p, q, arena, Some(&contract))),
-        (Err(refused), _) => of_refused(refused),
-    }
-}
-
 /// What the call answers.
 pub fn answer_of<M: Booked>(machine: &mut M, alloc: Global, call: Call) -> Answer {
     match call {
         Call::Spawn => last_of(machine, 1),
         Call::Spawns(count) => last_of(machine, count),
         Call::Lives => lives_of(machine),
-        Call::Alloc(p, n, arena) => of_block(machine.alloc(alloc, p, n, arena)),
-        Call::Split(p, r, k) => of_two(machine.split(alloc, p, r, k)),
+        Call::Alloc(p, n, arena) => {
+            let made = machine.alloc(alloc, p, n, arena);
+            made.map_or_else(of_refused, of_block)
+        }
+        Call::Split(p, r, k) => {
+            let cut = machine.split(alloc, p, r, k);
+            cut.map_or_else(of_refused, of_two)
+        }
         Call::Read(p, r, at, count) => bytes_of(machine, p, r, at, count),
-        Call::Write(p, r, at, bytes) => of_nothing(machine.write(p, r, at, bytes)),
+        Call::Write(p, r, at, bytes) => {
+            let done = machine.write(p, r, at, bytes);
+            done.map_or_else(of_refused, of_nothing)
+        }
         Call::Free(p, r) => of_number(machine.free(p, r).map(u64::from)),
-        Call::Open(p, arena) => of_two(machine.open(p, arena, None)),
-        Call::OpenWith(p, arena) => ends_under(machine, p, None, arena),
-        Call::Wire(p, q, arena) => of_two(machine.wire(p, q, arena, None)),
-        Call::WireWith(p, q, arena) => ends_under(machine, p, Some(q), arena),
+        Call::Open(p, arena) => machine.open(p, arena, None).map_or_else(of_refused, of_two),
         Call::Give(p, e, tag, blocks) => of_number(machine.give(p, e, tag, blocks)),
-        Call::Take(p, e) => of_message(machine.take(p, e, false)),
-        Call::TakeWait(p, e) => of_message(machine.take(p, e, true)),
+        Call::Take(p, e) => machine.take(p, e, false).map_or_else(of_refused, of_message),
         Call::Close(p, e) => of_number(machine.close(p, e)),
         Call::Exit(p, budget) => of_number(machine.exit(p, budget)),
         Call::Kill(p, q, budget) => of_number(machine.kill(p, q, budget)),
-        Call::Glance(place) => place_of(machine, place),
+        Call::Glance(place) => machine.glance(place).map_or_else(of_refused, of_place),
         Call::Moved(arena) => moved_of(machine, arena),
     }
 }
@@ -258,7 +204,7 @@ pub fn answer_or_same<M: Booked>(
 ) -> Answer {
     let (seen, held) = (seen_of(machine, alloc), held_of(machine));
     let answered = answer_of(machine, alloc, call);
-    if matches!(&answered, Answer::No(_) | Answer::Back(..)) {
+    if matches!(&answered, Answer::No(_)) {
         assert!(rt; seen_of(machine, alloc) == seen);
         assert!(rt; held_of(machine) == held);
     }

@@ -188,14 +188,3 @@ pub fn arenas_of(arenas: u8, bytes: u32, records: u16) -> Config {
         wear: 1000,
     }
 }
-
-/// A configuration of one arena of so many bytes, in which so many messages wait in a direction.
-pub fn waiting_of(bytes: u32, depth: u8) -> Config {
-    Config {
-        arenas: 1,
-        bytes,
-        records: 8,
-        depth,
-        wear: 1000,
-    }
-}

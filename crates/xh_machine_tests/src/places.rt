@@ -1,6 +1,8 @@
 //! Places and glances, by calls.
-use crate::answers::Answer::{self, Block, Done, No, Number, Place, Two};
-use crate::answers::Call::{self, Alloc, Exit, Free, Glance, Kill, Lives, Spawn, Spawns, Split};
+use crate::answers::Answer::{self, Block, Bytes, Done, Moved, No, Number, Place, Two};
+use crate::answers::Call::{
+    self, Alloc, Exit, Free, Glance, Kill, Lives, Moved as Count, Read, Spawn, Spawns, Split, Write,
+};
 use crate::heaps::{arenas_of, assert_on};
 use xh_core::Status;
 
@@ -68,8 +70,22 @@ fn every_process_number(rt: HostRuntime) {
     assert_on(&rt, rt.alloc(), arenas_of(1, 16, 1), CALLS);
 }
 
-/// What is left of a machine without a process.
+/// A block is cut, written, read and given back, and the account tells what was taken and given back.
 #[test]
-fn settling_without_processes(rt: HostRuntime) {
-    assert_on(&rt, rt.alloc(), arenas_of(1, 16, 1), &[]);
+fn place_calls(rt: HostRuntime) {
+    const CALLS: &[(Call, Answer)] = &[
+        (Spawn, Number(0)),
+        (Alloc(0, 40, 0), Block(0, 48)),
+        (Split(0, 0, 16), Two(0, 16, 1, 32)),
+        (Write(0, 1, 0, &[1, 2]), Done),
+        (Read(0, 1, 0, 4), Bytes([1, 2, 0, 0, 0xee, 0xee])),
+        (Read(0, 0, 15, 2), No("BadRange")),
+        (Free(0, 1), Number(32)),
+        (Free(0, 1), No("NotOwned")),
+        (Alloc(1, 16, 0), No("NoProcess")),
+        (Alloc(32, 16, 0), No("NoProcess")),
+        (Count(0), Moved(48, 32)),
+        (Count(1), No("NoArena")),
+    ];
+    assert_on(&rt, rt.alloc(), arenas_of(1, 256, 8), CALLS);
 }

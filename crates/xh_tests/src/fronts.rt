@@ -1,11 +1,24 @@
 //! Each front of a script is a script of its own, or has a fault of its own.
-use crate::harness::{SMALL, is_faulty, writes};
+use crate::harness::{SCRIPT, SMALL, assert_fails, run_alone};
 use std::alloc::{AllocError, Global};
+use std::process::Abort;
 use std::test::Fail;
-use xh_script::Kind;
+use xh_script::{Fault, Kind};
 
-const SCRIPT: &[u8] =
-    b"process a\nprocess b\nwire a e b f 0\na alloc x 40 0\na alloc y 16 0\na give e 7 x y\na give e 7 x\nb take f p q\nb write p 0 beef\nb read p 0 4\n";
+/// What each front of a line is that has so many of its bytes, the end of the line among them: a script (.), or a fault of
+/// that line: BadCount (C), BadWord (W), BadHex (H).
+const MARKS: [&str; 10] = [
+    "CCCCCCCW..",
+    "CCCCCCCW..",
+    "CCCCWCWCWCWCW..",
+    "CWWWWWCWCWCCW..",
+    "CWWWWWCWCWCCW..",
+    "CWWWWCWCW.W.W..",
+    "CWWWWCWCW.W..",
+    "CWWWWCW.W.W..",
+    "CWWWWWCWCWCWH.H..",
+    "CWWWWCWCWCW..",
+];
 
 /// What the whole script's commands are answered.
 const REPLIES: [&str; 10] = [
@@ -21,224 +34,107 @@ const REPLIES: [&str; 10] = [
     "10 ok beef0000\n",
 ];
 
-/// The ledger when both blocks were made.
-const MADE: &str = "arena 0 256 128 1 128 0\n\
-    process a running 3 96\n\
-    process b running 1 32\n\
-    owned 128\n\
-    flight 0\n\
-    out 128\n";
+const NONE: &str = "arena 0 256 0 1 0 0\nowned 0\nflight 0\nout 0\n";
 
-/// The ledger when both were given.
-const GIVEN: &str = "arena 0 256 128 1 128 0\n\
-    process a running 1 32\n\
-    process b running 1 32\n\
-    owned 64\n\
-    flight 64\n\
-    out 128\n";
+const ONE: &str = "arena 0 256 0 1 0 0\nprocess a running 0 0\nowned 0\nflight 0\nout 0\n";
 
-/// The ledger when both were taken.
-const TAKEN: &str = "arena 0 256 128 1 128 0\n\
-    process a running 1 32\n\
-    process b running 3 96\n\
-    owned 128\n\
-    flight 0\n\
-    out 128\n";
+const TWO: &str =
+    "arena 0 256 0 1 0 0\nprocess a running 0 0\nprocess b running 0 0\nowned 0\nflight 0\nout 0\n";
 
-/// The fronts that are scripts, by their lengths (from one on, and less than the other), each with how many of the
-/// whole script's replies it prints, and what it prints then.
-const SCRIPTS: &[(usize, usize, usize, &str)] = &[
-    (
-        0,
-        1,
-        0,
-        "arena 0 256 0 1 0 0\n\
-         owned 0\n\
-         flight 0\n\
-         out 0\n",
-    ),
-    (
-        9,
-        11,
-        1,
-        "arena 0 256 0 1 0 0\n\
-         process a running 0 0\n\
-         owned 0\n\
-         flight 0\n\
-         out 0\n",
-    ),
-    (
-        19,
-        21,
-        2,
-        "arena 0 256 0 1 0 0\n\
-         process a running 0 0\n\
-         process b running 0 0\n\
-         owned 0\n\
-         flight 0\n\
-         out 0\n",
-    ),
-    (
-        34,
-        36,
-        3,
-        "arena 0 256 64 1 64 0\n\
-         process a running 1 32\n\
-         process b running 1 32\n\
-         owned 64\n\
-         flight 0\n\
-         out 64\n",
-    ),
-    (
-        49,
-        51,
-        4,
-        "arena 0 256 112 1 112 0\n\
-         process a running 2 80\n\
-         process b running 1 32\n\
-         owned 112\n\
-         flight 0\n\
-         out 112\n",
-    ),
-    (64, 66, 5, MADE),
-    (75, 76, 6, MADE),
-    (
-        77,
-        78,
-        6,
-        "arena 0 256 128 1 128 0\n\
-         process a running 2 48\n\
-         process b running 1 32\n\
-         owned 80\n\
-         flight 48\n\
-         out 128\n",
-    ),
-    (79, 81, 6, GIVEN),
-    (
-        90,
-        91,
-        6,
-        "7 ok 2\n\
-         arena 0 256 128 1 128 0\n\
-         process a running 1 32\n\
-         process b running 1 32\n\
-         owned 64\n\
-         flight 64\n\
-         out 128\n",
-    ),
-    (92, 94, 7, GIVEN),
-    (101, 102, 8, TAKEN),
-    (103, 104, 8, TAKEN),
-    (105, 107, 8, TAKEN),
-    (120, 121, 9, TAKEN),
-    (122, 124, 9, TAKEN),
-    (135, 137, 10, TAKEN),
+const WIRED: &str = "arena 0 256 64 1 64 0\nprocess a running 1 32\nprocess b running 1 32\n\
+    owned 64\nflight 0\nout 64\n";
+
+const HALF: &str = "arena 0 256 112 1 112 0\nprocess a running 2 80\nprocess b running 1 32\n\
+    owned 112\nflight 0\nout 112\n";
+
+const MADE: &str = "arena 0 256 128 1 128 0\nprocess a running 3 96\nprocess b running 1 32\n\
+    owned 128\nflight 0\nout 128\n";
+
+/// One of the two blocks was given.
+const SENT: &str = "arena 0 256 128 1 128 0\nprocess a running 2 48\nprocess b running 1 32\n\
+    owned 80\nflight 48\nout 128\n";
+
+const GIVEN: &str = "arena 0 256 128 1 128 0\nprocess a running 1 32\nprocess b running 1 32\n\
+    owned 64\nflight 64\nout 128\n";
+
+/// Both were given, and then a message without blocks.
+const AGAIN: &str =
+    "7 ok 2\narena 0 256 128 1 128 0\nprocess a running 1 32\nprocess b running 1 32\n\
+    owned 64\nflight 64\nout 128\n";
+
+const TAKEN: &str = "arena 0 256 128 1 128 0\nprocess a running 1 32\nprocess b running 3 96\n\
+    owned 128\nflight 0\nout 128\n";
+
+/// The fronts that are scripts, from so many bytes on: how many of the whole script's replies each writes, and what it
+/// writes then.
+const WRITTEN: &[(usize, usize, &str)] = &[
+    (0, 0, NONE),
+    (9, 1, ONE),
+    (19, 2, TWO),
+    (34, 3, WIRED),
+    (49, 4, HALF),
+    (64, 5, MADE),
+    (75, 6, MADE),
+    (77, 6, SENT),
+    (79, 6, GIVEN),
+    (90, 6, AGAIN),
+    (92, 7, GIVEN),
+    (101, 8, TAKEN),
+    (120, 9, TAKEN),
+    (135, 10, TAKEN),
 ];
 
-// So many of the replies, and a text.
-fn replies_and(alloc: Global, count: usize, text: &str) -> Result<String, AllocError> {
+// What the front of so many bytes writes, where it is a script.
+fn text_of(alloc: Global, length: usize) -> Result<String, AllocError> {
     let mut all = String::new(alloc);
-    for reply in REPLIES.get(..count).unwrap_or(&[]) {
-        all.push_str(reply)?;
+    if let Some((_from, count, text)) = WRITTEN.iter().rfind(|row| row.0 <= length) {
+        for reply in REPLIES.iter().take(*count) {
+            all.push_str(reply)?;
+        }
+        all.push_str(text)?;
     }
-    all.push_str(text)?;
     Ok(all)
 }
 
-/// Each front that is a script prints its own replies and ledger.
-#[test]
-fn fronts_that_are_scripts(rt: HostRuntime) -> Result<(), Fail> {
-    for (from, to, count, text) in SCRIPTS {
-        let wanted = replies_and(rt.alloc(), *count, text)?;
-        for length in *from..*to {
-            assert!(rt; length <= SCRIPT.len());
-            writes(&rt, rt.alloc(), SMALL, &SCRIPT[..length], wanted.as_str())?;
+// The front of so many bytes, which ends in this line, is what the mark says.
+fn assert_front(
+    rt: &impl Abort,
+    alloc: Global,
+    length: usize,
+    line: u32,
+    mark: u8,
+) -> Result<(), Fail> {
+    let front = SCRIPT.get(..length).expect(rt, "a front");
+    let kind = match mark {
+        b'C' => Kind::BadCount,
+        b'W' => Kind::BadWord,
+        b'H' => Kind::BadHex,
+        _ => {
+            let (ended, text) = run_alone(alloc, SMALL, front);
+            assert!(rt; ended == Ok(()), "{length}");
+            assert!(rt;
+                text.as_slice() == text_of(alloc, length)?.as_bytes(),
+                "{length}"
+            );
+            return Ok(());
         }
-    }
+    };
+    assert_fails(rt, alloc, SMALL, front, Fault::Script { line, kind });
     Ok(())
 }
 
-/// The fronts that have a fault, by their lengths (so too), each with its line and its kind.
-const FAULTS: &[(usize, usize, u32, Kind)] = &[
-    (1, 8, 1, Kind::BadCount),
-    (8, 9, 1, Kind::BadWord),
-    (11, 18, 2, Kind::BadCount),
-    (18, 19, 2, Kind::BadWord),
-    (21, 25, 3, Kind::BadCount),
-    (25, 26, 3, Kind::BadWord),
-    (26, 27, 3, Kind::BadCount),
-    (27, 28, 3, Kind::BadWord),
-    (28, 29, 3, Kind::BadCount),
-    (29, 30, 3, Kind::BadWord),
-    (30, 31, 3, Kind::BadCount),
-    (31, 32, 3, Kind::BadWord),
-    (32, 33, 3, Kind::BadCount),
-    (33, 34, 3, Kind::BadWord),
-    (36, 37, 4, Kind::BadCount),
-    (37, 42, 4, Kind::BadWord),
-    (42, 43, 4, Kind::BadCount),
-    (43, 44, 4, Kind::BadWord),
-    (44, 45, 4, Kind::BadCount),
-    (45, 46, 4, Kind::BadWord),
-    (46, 48, 4, Kind::BadCount),
-    (48, 49, 4, Kind::BadWord),
-    (51, 52, 5, Kind::BadCount),
-    (52, 57, 5, Kind::BadWord),
-    (57, 58, 5, Kind::BadCount),
-    (58, 59, 5, Kind::BadWord),
-    (59, 60, 5, Kind::BadCount),
-    (60, 61, 5, Kind::BadWord),
-    (61, 63, 5, Kind::BadCount),
-    (63, 64, 5, Kind::BadWord),
-    (66, 67, 6, Kind::BadCount),
-    (67, 71, 6, Kind::BadWord),
-    (71, 72, 6, Kind::BadCount),
-    (72, 73, 6, Kind::BadWord),
-    (73, 74, 6, Kind::BadCount),
-    (74, 75, 6, Kind::BadWord),
-    (76, 77, 6, Kind::BadWord),
-    (78, 79, 6, Kind::BadWord),
-    (81, 82, 7, Kind::BadCount),
-    (82, 86, 7, Kind::BadWord),
-    (86, 87, 7, Kind::BadCount),
-    (87, 88, 7, Kind::BadWord),
-    (88, 89, 7, Kind::BadCount),
-    (89, 90, 7, Kind::BadWord),
-    (91, 92, 7, Kind::BadWord),
-    (94, 95, 8, Kind::BadCount),
-    (95, 99, 8, Kind::BadWord),
-    (99, 100, 8, Kind::BadCount),
-    (100, 101, 8, Kind::BadWord),
-    (102, 103, 8, Kind::BadWord),
-    (104, 105, 8, Kind::BadWord),
-    (107, 108, 9, Kind::BadCount),
-    (108, 113, 9, Kind::BadWord),
-    (113, 114, 9, Kind::BadCount),
-    (114, 115, 9, Kind::BadWord),
-    (115, 116, 9, Kind::BadCount),
-    (116, 117, 9, Kind::BadWord),
-    (117, 118, 9, Kind::BadCount),
-    (118, 119, 9, Kind::BadWord),
-    (119, 120, 9, Kind::BadHex),
-    (121, 122, 9, Kind::BadHex),
-    (124, 125, 10, Kind::BadCount),
-    (125, 129, 10, Kind::BadWord),
-    (129, 130, 10, Kind::BadCount),
-    (130, 131, 10, Kind::BadWord),
-    (131, 132, 10, Kind::BadCount),
-    (132, 133, 10, Kind::BadWord),
-    (133, 134, 10, Kind::BadCount),
-    (134, 135, 10, Kind::BadWord),
-];
-
-/// Each front that has a fault tells its line and its kind.
+/// Each front of a script writes its own replies and ledger, or tells its fault, and then writes nothing.
 #[test]
-fn fronts_with_a_fault(rt: HostRuntime) -> Result<(), Fail> {
-    for (from, to, line, kind) in FAULTS {
-        for length in *from..*to {
-            assert!(rt; length <= SCRIPT.len());
-            is_faulty(&rt, rt.alloc(), &SCRIPT[..length], *line, *kind)?;
+fn fronts(rt: HostRuntime) -> Result<(), Fail> {
+    assert_front(&rt, rt.alloc(), 0, 0, b'.')?;
+    let (mut length, mut line) = (0, 0);
+    for marks in MARKS {
+        line += 1;
+        for mark in marks.bytes() {
+            length += 1;
+            assert_front(&rt, rt.alloc(), length, line, mark)?;
         }
     }
+    assert_eq!(&rt; length, SCRIPT.len());
     Ok(())
 }

@@ -1,15 +1,11 @@
 //! Readers and writers that fail, and a reader without an end.
-use crate::harness::{SMALL, fails};
+use crate::harness::{SCRIPT, SMALL, assert_fails};
 use std::alloc::Global;
 use std::io;
 use std::io::{Read, Write};
-use std::test::Fail;
 use xh_core::Config;
 use xh_runner::run_serial;
 use xh_script::{Fault, Kind, Watched};
-
-const SCRIPT: &[u8] =
-    b"process a\nprocess b\nwire a e b f 0\na alloc x 40 0\na alloc y 16 0\na give e 7 x y\na give e 7 x\nb take f p q\nb write p 0 beef\nb read p 0 4\n";
 
 const OUTPUT: &[u8] =
     b"1 ok 0\n2 ok 1\n3 ok\n4 ok 48\n5 ok 16\n6 ok 1\n7 no 6 NotOwned\n8 ok 1 7 48 16\n9 ok\n\
@@ -81,15 +77,14 @@ impl Write for Choppy {
 }
 
 #[test]
-fn a_reader_fails_at_each_read(rt: HostRuntime) -> Result<(), Fail> {
+fn a_reader_fails_at_each_read(rt: HostRuntime) {
     for reads in 0..=SCRIPT.len() {
         let reader = OneByOne {
             left: SCRIPT,
             reads,
         };
-        fails(&rt, rt.alloc(), SMALL, reader, Fault::Read)?;
+        assert_fails(&rt, rt.alloc(), SMALL, reader, Fault::Read);
     }
-    Ok(())
 }
 
 // How a run ended whose writer fails at this write, or takes nothing, and what it took.
@@ -106,58 +101,51 @@ fn run_choppy(alloc: Global, writes: usize, is_failing: bool) -> (Result<(), Fau
 }
 
 #[test]
-fn a_writer_fails_at_each_write(rt: HostRuntime) -> Result<(), Fail> {
+fn a_writer_fails_at_each_write(rt: HostRuntime) {
     for turn in 0..2 * OUTPUT.len() {
         let (ended, taken) = run_choppy(rt.alloc(), turn / 2, turn % 2 == 0);
         assert!(rt; ended == Err(Fault::Write) && taken.as_slice() == &OUTPUT[..turn / 2]);
     }
-    Ok(())
 }
 
 #[test]
-fn a_reader_without_an_end(rt: HostRuntime) -> Result<(), Fail> {
+fn a_reader_without_an_end(rt: HostRuntime) {
     let fault = Fault::Script {
         line: 0,
         kind: Kind::TooLong,
     };
-    fails(&rt, rt.alloc(), SMALL, Endless, fault)
+    assert_fails(&rt, rt.alloc(), SMALL, Endless, fault);
 }
 
-/// Configs outside their limits.
-const BAD_CONFIGS: &[Config] = &[
-    Config { arenas: 0, ..SMALL },
-    Config { arenas: 9, ..SMALL },
-    Config { bytes: 40, ..SMALL },
-    Config { bytes: 0, ..SMALL },
-    Config {
-        bytes: 1_048_592,
-        ..SMALL
-    },
-    Config {
-        records: 0,
-        ..SMALL
-    },
-    Config {
-        records: 257,
-        ..SMALL
-    },
-    Config { depth: 0, ..SMALL },
-    Config { depth: 17, ..SMALL },
-    Config {
-        wear: 9_223_372_036_854_775_808,
-        ..SMALL
-    },
+/// Configs outside their limits: arenas, bytes, records, depth and wear.
+const BAD_CONFIGS: &[(u8, u32, u16, u8, u64)] = &[
+    (0, 256, 256, 4, 0),
+    (9, 256, 256, 4, 0),
+    (1, 40, 256, 4, 0),
+    (1, 0, 256, 4, 0),
+    (1, 1_048_592, 256, 4, 0),
+    (1, 256, 0, 4, 0),
+    (1, 256, 257, 4, 0),
+    (1, 256, 256, 0, 0),
+    (1, 256, 256, 17, 0),
+    (1, 256, 256, 4, 9_223_372_036_854_775_808),
 ];
 
 /// A config outside its limits is refused before the first read, which would fail.
 #[test]
-fn bad_configs(rt: HostRuntime) -> Result<(), Fail> {
-    for config in BAD_CONFIGS {
+fn bad_configs(rt: HostRuntime) {
+    for (arenas, bytes, records, depth, wear) in BAD_CONFIGS {
+        let config = Config {
+            arenas: *arenas,
+            bytes: *bytes,
+            records: *records,
+            depth: *depth,
+            wear: *wear,
+        };
         let reader = OneByOne {
             left: SCRIPT,
             reads: 0,
         };
-        fails(&rt, rt.alloc(), *config, reader, Fault::BadConfig)?;
+        assert_fails(&rt, rt.alloc(), config, reader, Fault::BadConfig);
     }
-    Ok(())
 }

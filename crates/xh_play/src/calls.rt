@@ -1,0 +1,163 @@
+//! All lines of a script by the calls of one worker of a kernel.
+ghost use Rattle.std.specs.Prelude.{◌≡◌, ◌<◌, All, IfOk, length, vec_len};
+ghost use Rattle.xh_model.specs.declared.limits.TheConstants.{PLACES};
+
+use std::alloc::{AllocError, Global};
+use std::marker::Brand;
+use std::sync::Wait;
+use xh_books::close_kernel;
+use xh_core::Config;
+use xh_glance::Look;
+use xh_kernel::{Account, Kernel, Names, Parts};
+use xh_runner::{Machine, OpenGate, Report, hire, leave_all};
+use xh_script::{Answered, Fault, Name, Script};
+use xh_session::{Names as Bindings, Session};
+
+/// What is left but for the kernel.
+#[derive(Drop)]
+struct Ended<N: Names> {
+    answers: Vec<Answered>,
+    names: Vec<Name>,
+    accounts: Vec<Account<N>>,
+    looks: Vec<Look>,
+}
+
+/// The machine, the replies, and the name of the latest process of each place.
+#[derive(Drop)]
+struct Played<M> {
+    machine: M,
+    answers: Vec<Answered>,
+    names: Vec<Name>,
+}
+
+// Does the commands of all lines: the replies, and the name of the latest process of each place.
+fn answer_all<M: Machine>(
+    alloc: Global,
+    session: &mut Session<'_, M>,
+    script: &Script,
+) -> Result<(Vec<Answered>, Vec<Name>), AllocError>
+    ensures { IfOk result (λ r. length r.1.items ≡ PLACES) }
+{
+    let mut answers = Vec::with_capacity(alloc, script.lines.len())?;
+    for line in &script.lines {
+        let reply = session.step(alloc, &line.command);
+        answers.push(Answered {
+            line: line.number,
+            reply,
+        })?;
+    }
+    let names = session.names.by_place(alloc, &script.processes)?;
+    Ok((answers, names))
+}
+
+// Plays the script on a machine.
+fn play_on<M: Machine>(alloc: Global, machine: M, script: &Script) -> Result<Played<M>, AllocError>
+    ensures { IfOk result (λ played. length played.names.items ≡ PLACES) }
+{
+    let mut session = Session {
+        machine,
+        names: Bindings::new(alloc)?,
+        contracts: &script.contracts,
+    };
+    let answered = answer_all(alloc, &mut session, script);
+    let Session {
+        machine,
+        names: _,
+        contracts: _,
+    } = session;
+    let (answers, names) = answered?;
+    Ok(Played {
+        machine,
+        answers,
+        names,
+    })
+}
+
+// Plays the script by the one worker of a kernel.
+fn play_by_worker<N: Names, R: Wait>(
+    rt: &R,
+    alloc: Global,
+    kernel: &Kernel<N>,
+    accounts: Vec<Account<N>>,
+    looks: Vec<Look>,
+    script: &Script,
+) -> Result<Ended<N>, AllocError>
+    requires count { (vec_len accounts ≡ 1) × (vec_len looks ≡ 1) }
+    requires own { All (λ l. l.glances ≡ N.parts.glances) looks.items }
+    ensures count { IfOk result (λ e. (vec_len e.accounts ≡ 1) × (length e.names.items ≡ PLACES)) }
+    ensures own { IfOk result (λ e. All (λ l. l.glances ≡ N.parts.glances) e.looks.items) }
+{
+    let mut workers = hire(rt, alloc, kernel, &OpenGate, accounts, looks)?;
+    let Played {
+        machine,
+        answers,
+        names,
+    } = play_on(alloc, workers.remove(0), script)?;
+    workers.push(machine)?;
+    let (accounts, looks) = leave_all(alloc, workers)?;
+    Ok(Ended {
+        answers,
+        names,
+        accounts,
+        looks,
+    })
+}
+
+// Closes the books of the kernel.
+fn report_of<N: Names>(alloc: Global, kernel: Kernel<N>, ended: Ended<N>) -> Result<Report, Fault>
+    requires count { (vec_len ended.accounts ≡ N.parts.workers) × (length ended.names.items ≡ PLACES) }
+    requires looks { All (λ l. l.glances ≡ N.parts.glances) ended.looks.items }
+    ensures { IfOk result (λ r. All (λ line. line.place < length r.names.items) r.ledger.places.items) }
+{
+    let Ended {
+        answers,
+        names,
+        accounts,
+        looks,
+    } = ended;
+    match close_kernel(alloc, kernel, accounts, looks) {
+        Ok(books) => Ok(Report {
+            answers,
+            ledger: books.ledger,
+            flight: books.flight,
+            names,
+        }),
+        Err(_refused) => Err(Fault::Memory),
+    }
+}
+
+// Plays the script on a kernel of these parts.
+fn play_parts<N: Names, R: Wait>(
+    rt: &R,
+    alloc: Global,
+    parts: Parts,
+    script: &Script,
+) -> Result<Report, Fault>
+    requires { (parts ≡ N.parts) × (parts.workers ≡ 1) }
+    ensures { IfOk result (λ r. All (λ line. line.place < length r.names.items) r.ledger.places.items) }
+{
+    let (kernel, accounts, looks) = match Kernel::<N>::new(alloc, parts) {
+        Ok(made) => made,
+        Err(_refused) => return Err(Fault::Memory),
+    };
+    match play_by_worker(rt, alloc, &kernel, accounts, looks, script) {
+        Ok(ended) => report_of(alloc, kernel, ended),
+        Err(_refused) => Err(Fault::Memory),
+    }
+}
+
+/// Plays a script by the calls of the one worker of a new kernel. A line that waits for what no line before it sent
+/// doesn't end.
+pub(crate) fn play_calls<R: Wait>(
+    rt: &R,
+    alloc: Global,
+    script: &Script,
+    config: Config,
+) -> Result<Report, Fault>
+    ensures { IfOk result (λ r. All (λ line. line.place < length r.names.items) r.ledger.places.items) }
+{
+    match Parts::new(alloc, config, 1) {
+        Ok(parts) => play_parts::<Brand, R>(rt, alloc, parts, script),
+        Err(_refused) => Err(Fault::Memory),
+    }
+}
