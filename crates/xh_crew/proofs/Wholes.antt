@@ -60,7 +60,7 @@ module _ {M S : Type 0} (state : M → S) (did : S → (q : Question) → Answer
     places_fit k (old ∷ olds) [] p j i e below = absurd p
     places_fit k (old ∷ olds) (done ∷ dones) (p, ps) zero i e below =
         let same : k ≡ i = omega (arith, e) in
-        subst (λ x. length done.replies.items ≡ length (part ready.names (suc x) lines)) same (plays_length (DoesAmong did) _ _ _ _ p.1)
+        subst (λ x. length done.replies.items ≡ length (part ready.names (suc x) lines)) same (plays_length (DoesAmong did lines) _ _ _ _ p.1)
     places_fit k (old ∷ olds) (done ∷ dones) (p, ps) (suc j) i e below = places_fit (suc k) olds dones ps j i (omega (arith, e)) (omega (arith, below))
 
     module _ (contracts : List (List Row)) (answers : List Answered) where
@@ -71,7 +71,7 @@ module _ {M S : Type 0} (state : M → S) (did : S → (q : Question) → Answer
       places_played k [] (done ∷ dones) p q = absurd p
       places_played k (old ∷ olds) [] p q = absurd p
       places_played k (old ∷ olds) (done ∷ dones) (p, ps) q = (
-        (p.0, subst (λ rs. Plays (DoesAmong did) (record ready { machine = state old }) (part ready.names (suc k) lines) rs p.0) (q 0 k (omega arith) (omega arith)) p.1, p.2),
+        (p.0, subst (λ rs. Plays (DoesAmong did lines) (record ready { machine = state old }) (part ready.names (suc k) lines) rs p.0) (q 0 k (omega arith) (omega arith)) p.1, p.2),
         places_played (suc k) olds dones ps (λ j i e below. q (suc j) i (omega (arith, e)) (omega (arith, below))),
       )
 

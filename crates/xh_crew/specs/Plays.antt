@@ -1,17 +1,17 @@
 -- How the lines of a script are played on threads: the head, then the commands of each process by a machine of its own, and last those of processes without a place.
-use Rattle.std.specs.Prelude.{◌≡◌, ◌==◌, ◌&&◌, ◌%◌, ℕ, suc, nat_le, nat_lt, Bool, true, false, List, [], ◌∷◌, map, replicate, slice_index_or, slice_set, if◌then◌else◌, Option, Some, None}
-use Rattle.std.specs.List.{filter}
+use Rattle.std.specs.Prelude.{◌≡◌, ◌==◌, ◌&&◌, ◌%◌, ℕ, suc, nat_le, nat_lt, not, Bool, true, false, List, [], ◌∷◌, map, replicate, slice_index_or, slice_set, if◌then◌else◌, Option, Some, None}
+use Rattle.std.specs.List.{filter, list_any}
 use Rattle.xh_model.specs.declared.limits.TheConstants.{PLACES}
 use Rattle.xh_model.specs.declared.row.Row.{Row}
 use Rattle.xh_script.specs.declared.command.Line.{Line}
 use Rattle.xh_script.specs.declared.form.Form.{Form}
-use Rattle.xh_script.specs.declared.form.Form.TheVariants.{Kill, Glance}
+use Rattle.xh_script.specs.declared.form.Form.TheVariants.{Again, Glance, Kill}
 use Rattle.xh_script.specs.declared.reply.Answered.{Answered}
 use Rattle.xh_script.specs.declared.reply.Reply.{Reply}
 use Rattle.xh_script.specs.declared.reply.Reply.TheVariants.{Started}
 use Rattle.xh_script.specs.Forms.{is_head}
 use Rattle.xh_script.specs.Operands.{name}
-use Rattle.xh_session.specs.Bindings.{Bindings, following, names_by_place, no_bindings, number_of, process_at, started}
+use Rattle.xh_session.specs.Bindings.{Bindings, names_by_place, no_bindings, number_of, process_at, renumbered, started}
 use Rattle.xh_session.specs.Plans.{Follows, World, plan}
 use Rattle.xh_session.specs.Questions.{Question, Answer}
 
@@ -86,6 +86,23 @@ names_another Kill = true
 names_another Glance = true
 names_another form = false
 
+-- and which: the one of its second word
+abbrev pub other_of : Line → ℕ
+other_of line = name line.command.words.items 1
+
+-- whether the form's command starts its process again
+abbrev pub starts_again : Form → Bool
+starts_again Again = true
+starts_again form = false
+
+-- whether a line starts a process again
+unfoldable pub renews : ℕ → Line → Bool
+renews p line = starts_again line.command.form && (process_of line == p)
+
+-- whether a line's command names a process, not its own, that one of the lines starts again
+unfoldable pub names_renewed : List Line → Line → Bool
+names_renewed lines line = names_another line.command.form && (not (other_of line == process_of line) && list_any (renews (other_of line)) lines)
+
 -- the lines, one after another, each with its reply
 abbrev pub Plays : {S : Type 0} → (World S → Line → Reply → World S → Type 0) → World S → List Line → List Reply → World S → Type 0
 Plays Step old [] [] new = new ≡ old
@@ -109,10 +126,11 @@ module _ {S : Type 0} (did : S → (q : Question) → Answer q → S → Type 0)
   abbrev pub Does : World S → Line → Reply → World S → Type 0
   Does old line reply new = Follows did (plan old.names old.contracts line.command) old reply new
 
-  -- the same, while other workers do theirs: where a command names another process, the names of the others may stand for later processes by then
-  abbrev pub DoesAmong : World S → Line → Reply → World S → Type 0
-  DoesAmong old line reply new = (others : Bindings)
-      × Does (if names_another line.command.form then record old { names = following (process_of line) others old.names } else old) line reply new
+  -- the same, while other workers do the others of the lines: where it names a process that one of them starts again, that name may have another number by
+  -- then; every other name stands for what it stood for
+  abbrev pub DoesAmong : List Line → World S → Line → Reply → World S → Type 0
+  DoesAmong lines old line reply new = (n : ℕ)
+      × Does (if names_renewed lines line then record old { names = renumbered old.names (other_of line) n } else old) line reply new
 
   -- a script's lines, with the answers of a report
   module _ (contracts : List (List Row)) (lines : List Line) (answers : List Answered) where
@@ -122,7 +140,7 @@ module _ {S : Type 0} (did : S → (q : Question) → Answer q → S → Type 0)
 
     -- a machine played the commands of the process at the place k, from what the head left on
     abbrev pub PlaysPlace : World S → ℕ → S → S → Type 0
-    PlaysPlace ready k old new = (end : World S) × PlaysPart DoesAmong ready.names (suc k) (record ready { machine = old }) end × (end.machine ≡ new)
+    PlaysPlace ready k old new = (end : World S) × PlaysPart (DoesAmong lines) ready.names (suc k) (record ready { machine = old }) end × (end.machine ≡ new)
 
     -- the first machine played the head and, at the end, the last part; and of the others each its place
     pub record PlayAll (first : S) (olds : List S) (last : S) (news : List S) : Type 0 where

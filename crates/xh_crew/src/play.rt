@@ -1,7 +1,8 @@
 //! How a worker does its job.
 ghost use Rattle.std.specs.Prelude.{◌≡◌, ◌==◌, ◌<◌, [], suc, IfOk, IfErr};
+ghost use Rattle.std.specs.List.{list_any};
 ghost use Rattle.xh_model.specs.declared.limits.TheConstants.{PLACES};
-ghost use Rattle.xh_crew.specs.Plays.{DoesAmong, Plays, is_placed, names_another, part, part_of};
+ghost use Rattle.xh_crew.specs.Plays.{DoesAmong, Plays, is_placed, names_another, names_renewed, part, part_of, renews};
 ghost use Rattle.xh_crew.specs.inner.Jobs.{Hears, Leaves};
 ghost use Rattle.xh_crew.specs.Stops.{Stops};
 ghost use Rattle.xh_session.specs.Worlds.{world_of};
@@ -55,12 +56,43 @@ fn names_another(form: Form) -> bool
     matches!(form, Form::Kill | Form::Glance)
 }
 
-// What the names of other processes stand for by now, where the line's command names one.
-fn hear<R: Wait, G>(rt: &R, shared: &Shared<'_, G>, names: &mut Bindings, line: &Line)
-    ensures { Hears line.now names.old names.new }
+// Whether the line starts the process again.
+#[tactic(auto, unfolding(crate::specs::Plays::renews))]
+fn renews(process: u8, line: &Line) -> bool
+    ensures { result ≡ renews process line.now }
 {
-    if names_another(line.command.form) {
-        names.follow(line.command.name(0), &shared.names.lock(rt));
+    matches!(line.command.form, Form::Again) && line.command.name(0) == process
+}
+
+// Whether one of the lines starts the process again.
+fn is_renewed(lines: &[Line], process: u8) -> bool
+    ensures { result ≡ list_any (renews process) lines.now }
+{
+    for line in lines {
+        if renews(process, line) {
+            return true;
+        }
+    }
+    false
+}
+
+// Whether the line's command names a process, not its own, that one of the lines starts again.
+#[tactic(auto, unfolding(crate::specs::Plays::names_renewed))]
+fn names_renewed(lines: &[Line], line: &Line) -> bool
+    ensures { result ≡ names_renewed lines.now line.now }
+{
+    let other = line.command.name(1);
+    names_another(line.command.form) && other != line.command.name(0) && is_renewed(lines, other)
+}
+
+// By which number the process goes by now that the line's command names, where another worker may start it again.
+fn hear<R: Wait, G>(rt: &R, shared: &Shared<'_, G>, names: &mut Bindings, line: &Line)
+    ensures { Hears shared.now.lines.now line.now names.old names.new }
+{
+    if names_renewed(shared.lines, line) {
+        let other = line.command.name(1);
+        let number = shared.names.lock(rt).number(other);
+        names.renumber(other, number);
     }
 }
 
@@ -72,7 +104,7 @@ fn step<'a, M: Machine, R: Wait, G>(
     session: &mut Session<'a, M>,
     line: &Line,
 ) -> Reply
-    ensures { DoesAmong M.did (world_of M.state session.old) line.now result (world_of M.state session.new) }
+    ensures { DoesAmong M.did shared.now.lines.now (world_of M.state session.old) line.now result (world_of M.state session.new) }
 {
     hear(rt, shared, &mut session.names, line);
     let reply = session.step(alloc, &line.command);
@@ -92,7 +124,7 @@ fn play<'a, M: Machine, R: Wait, G: Gate>(
     room: Vec<Reply>,
 ) -> Result<Vec<Reply>, Fault>
     requires { (place < PLACES) × (room.items ≡ []) }
-    ensures played { IfOk result (λ replies. Plays (DoesAmong M.did) (world_of M.state session.old) (part shared.now.ready.now (suc place) shared.now.lines.now) replies.items
+    ensures played { IfOk result (λ replies. Plays (DoesAmong M.did shared.now.lines.now) (world_of M.state session.old) (part shared.now.ready.now (suc place) shared.now.lines.now) replies.items
         (world_of M.state session.new)) }
     ensures stopped { IfErr result (Stops G.always) }
 {

@@ -37,9 +37,9 @@ has_place b p = not (number_of b p == NOTHING)
 abbrev pub started : Bindings → ℕ → ℕ → Bindings
 started b p n = record b { numbers = slice_set b.numbers p n; latest = slice_set b.latest (n % PLACES) p }
 
--- processes stand for what they stand for elsewhere, but for this one, which keeps its number
-abbrev pub following : ℕ → Bindings → Bindings → Bindings
-following p others b = record b { numbers = slice_set others.numbers p (number_of b p); latest = others.latest }
+-- a process has another number
+abbrev pub renumbered : Bindings → ℕ → ℕ → Bindings
+renumbered b p n = record b { numbers = slice_set b.numbers p n }
 
 -- the name of a process; one that no line names is called vacant
 unfoldable pub name_at : List (List ℕ) → ℕ → List ℕ

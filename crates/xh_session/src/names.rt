@@ -1,6 +1,6 @@
 //! What the names of a script stand for.
 ghost use Rattle.std.specs.Prelude.{◌≡◌, ◌+◌, ◌*◌, ◌%◌, ◌≤◌, ◌==◌, if◌then◌else◌, length, map, codes, IfOk, slice_index_or, slice_set};
-ghost use Rattle.xh_session.specs.Bindings.{Bindings, no_bindings, nothings, number_of, has_place, started, following, name_at, names_by_place, record_of, records_of};
+ghost use Rattle.xh_session.specs.Bindings.{Bindings, no_bindings, nothings, number_of, has_place, started, renumbered, name_at, names_by_place, record_of, records_of};
 ghost use Rattle.xh_session.specs.Bindings.{bound, bound_block, bound_each, cleared, without_record, unbound, unbound_each, unbound_all, not_among, process_at};
 ghost use Rattle.xh_model.specs.declared.limits.TheConstants.{PLACES};
 ghost use Rattle.xh_script.specs.declared.limits.TheConstants.{MAX_WORDS, MAX_BLOCK_NAMES};
@@ -186,14 +186,11 @@ impl Names {
         })
     }
 
-    /// The names of processes stand for what they stand for elsewhere, but for the process's own, which keeps its number.
-    pub fn follow(&mut self, process: u8, others: &Names)
-        ensures { self.new ≡ following process others.now self.old }
+    /// The process has this number from now on.
+    pub fn renumber(&mut self, process: u8, number: u16)
+        ensures { self.new ≡ renumbered self.old process number }
     {
-        let own = self.number(process);
-        self.numbers = others.numbers;
-        put(&mut self.numbers, usize::from(process), own);
-        self.latest = others.latest;
+        put(&mut self.numbers, usize::from(process), number);
     }
 
     /// The record of a block's name, or `NOTHING` where it is bound to none.

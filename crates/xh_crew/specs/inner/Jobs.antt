@@ -8,21 +8,21 @@ use Rattle.xh_crew.specs.declared.job.Job.{Job}
 use Rattle.xh_crew.specs.declared.job.Shared.{Shared}
 use Rattle.xh_crew.specs.declared.run.Played.{Played}
 use Rattle.xh_crew.specs.Stops.{Stops}
-use Rattle.xh_crew.specs.Plays.{AllZipFrom, Does, DoesAmong, LAST, Plays, names_another, part, part_of, process_of}
+use Rattle.xh_crew.specs.Plays.{AllZipFrom, Does, DoesAmong, LAST, Plays, names_renewed, other_of, part, part_of}
 use Rattle.xh_script.specs.declared.command.Line.{Line}
 use Rattle.xh_script.specs.declared.fault.Fault.{Fault}
 use Rattle.xh_script.specs.declared.reply.Answered.{Answered}
 use Rattle.xh_script.specs.declared.reply.Reply.{Reply}
-use Rattle.xh_session.specs.Bindings.{Bindings, following, process_at}
+use Rattle.xh_session.specs.Bindings.{Bindings, process_at, renumbered}
 use Rattle.xh_session.specs.Plans.{World}
 use Rattle.xh_session.specs.Questions.{Question, Answer}
 use Rattle.xh_session.specs.Worlds.{world_of}
 
 -- ---- a job
 
--- what the names of the other processes stand for by then, where the line's command names one
-abbrev pub Hears : Line → Bindings → Bindings → Type 0
-Hears line old new = (others : Bindings) × (new ≡ (if names_another line.command.form then following (process_of line) others old else old))
+-- by which number the other process goes by then that the line's command names, where one of the lines starts it again
+abbrev pub Hears : List Line → Line → Bindings → Bindings → Type 0
+Hears lines line old new = (n : ℕ) × (new ≡ (if names_renewed lines line then renumbered old (other_of line) n else old))
 
 module _ {M S : Type 0} (state : M → S) where
   -- the job of the place k on this machine, from what the head left on
@@ -33,7 +33,7 @@ module _ {M S : Type 0} (state : M → S) where
   module _ (did : S → (q : Question) → Answer q → S → Type 0) where
     -- a machine played the lines of the place k from a world on, by what the names stood for after the head
     abbrev pub Left : Bindings → List Line → ℕ → World S → Done M → Type 0
-    Left b lines k old done = (end : World S) × Plays (DoesAmong did) old (part b (suc k) lines) done.replies.items end × (end.machine ≡ state done.machine)
+    Left b lines k old done = (end : World S) × Plays (DoesAmong did lines) old (part b (suc k) lines) done.replies.items end × (end.machine ≡ state done.machine)
 
     -- what is left of the place k, by the machine
     abbrev pub PlaceIsDone : World S → List Line → ℕ → M → Done M → Type 0
