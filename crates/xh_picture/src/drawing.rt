@@ -1,235 +1,316 @@
 //! The whole picture.
-ghost use Rattle.std.specs.Prelude.{IfOk};
-ghost use Rattle.xh_picture.specs.Documents.{IsPicture};
+ghost use Rattle.std.specs.Prelude.{IfOk, string_bytes};
+ghost use Rattle.xh_picture.specs.Pictures.{IsPicture};
 
-use crate::document::Document;
-use crate::history::{Bar, History, Keeper};
-use crate::labels::{Label, Labels, Piece, is_refused, phrase, reply_text};
-use crate::layout::{COMMANDS, LETTER, LETTERS, Layout, REPLIES, ROW, STRIPS, entry};
-use crate::shapes::{Area, open_rect, rect, tell, words};
-use crate::tags::{Key, Tag};
+use crate::axis::{Axis, WIDTH};
+use crate::history::{Bar, BlockName, History, Keeper};
+use crate::legend::STYLE;
+use crate::shapes::{Area, Look, Shown, rect, words};
+use arrayvec::ArrayVec;
 use std::alloc::{AllocError, Global};
-use xh_core::Config;
-use xh_script::{Answered, Name};
+use xh_core::{Config, FlightLine};
+use xh_script::{Answered, Name, Reply, Watched, write_reply};
 
-const HEADING: &[u8] = b"The heap over time, command by command";
+/// The height of a row.
+pub(crate) const ROW: u64 = 18;
 
-/// The colour of a number's hue. Numbers below 360 have hues of their own, those of neighbours far apart.
-fn colour(number: u8) -> Label {
-    let hue = (u64::from(number) * 137 + 210) % 360;
-    phrase(&[
-        Piece::Text(b"hsl("),
-        Piece::Number(hue),
-        Piece::Text(b",65%,60%)"),
-    ])
+/// Where the columns begin: the commands, the replies, the messages, and the arenas.
+pub(crate) const LEFT: u64 = 10;
+
+pub(crate) const REPLIES: u64 = 224;
+
+pub(crate) const MESSAGES: u64 = 354;
+
+pub(crate) const ARENAS: u64 = 444;
+
+/// A picture in the making: where its next part begins, what is drawn, and where bytes stand.
+#[derive(Drop)]
+pub(crate) struct Sheet<'a> {
+    pub(crate) svg: String,
+    pub(crate) top: u64,
+    pub(crate) lines: Vec<&'a [u8]>,
+    pub(crate) processes: &'a [Name],
+    history: &'a History,
+    axis: Axis,
 }
 
-/// Gives an open rectangle the look of a holder: a process has a full colour, a direction a pale one
-/// and a dashed edge.
-fn look(document: &mut Document, keeper: Keeper) {
-    match keeper {
-        Keeper::Process { name, .. } => {
-            document.give(Key::Fill, &colour(name));
-            document.give(Key::Stroke, b"#333333");
-        }
-        Keeper::Direction(direction) => {
-            document.give(Key::Fill, &colour(direction.saturating_add(3)));
-            document.give(Key::FillOpacity, b"0.35");
-            document.give(Key::Stroke, b"#333333");
-            document.give(Key::Dashes, b"3");
-        }
+/// The line of a reply without its end: the number of the command's line, and the reply.
+fn reply_text(answered: &Answered) -> ArrayVec<u8, 256> {
+    let mut said = ArrayVec::new();
+    let _ = write_reply(&mut Watched::new(&mut said), answered.line, &answered.reply);
+    let _end = said.pop();
+    said
+}
+
+impl<'a> Sheet<'a> {
+    /// The command of a row.
+    fn command(&self, row: usize) -> &'a [u8] {
+        let history = self.history;
+        let line = match history.answers.get(row) {
+            Some(answered) => (answered.line as usize).saturating_sub(1),
+            None => 0,
+        };
+        self.lines.get(line).copied().unwrap_or(&[])
     }
-}
 
-/// The keepers of the legend: each process, and each direction that held a block.
-fn keepers_of(alloc: Global, processes: usize, bars: &[Bar]) -> Result<Vec<Keeper>, AllocError> {
-    let mut keepers = Vec::new(alloc);
-    for name in 0..processes.min(256) {
-        keepers.push(Keeper::Process {
-            name: name as u8,
-            number: 0,
-        })?;
+    /// A word of the command of a row.
+    fn word(&self, row: usize, index: usize) -> &'a [u8] {
+        let command = self.command(row);
+        let mut words = command.split(|byte| *byte == b' ');
+        words.nth(index).unwrap_or(&[])
     }
-    for bar in bars {
-        let keeper = bar.block.keeper;
-        if matches!(keeper, Keeper::Direction(_)) && !keepers.contains(&keeper) {
-            keepers.push(keeper)?;
-        }
+
+    fn name(&self, name: &BlockName) -> &'a [u8] {
+        self.word(name.row, name.word)
     }
-    Ok(keepers)
-}
 
-/// Draws an entry of the legend.
-fn draw_entry(document: &mut Document, labels: &Labels, index: usize, keeper: Keeper) {
-    let (x, y) = entry(index);
-    let square = Area {
-        x,
-        y,
-        width: 12,
-        height: 12,
-    };
-    open_rect(document, square);
-    look(document, keeper);
-    document.close();
-    let (x, y) = (x.saturating_add(18), y.saturating_add(10));
-    words(document, x, y, &labels.holder(keeper), LETTERS);
-}
+    /// Where a row begins.
+    fn row(&self, row: usize) -> u64 {
+        (row as u64).saturating_mul(ROW).saturating_add(self.top)
+    }
 
-/// Draws the texts of a row.
-fn draw_row(document: &mut Document, y: u64, command: &[u8], answered: &Answered) {
-    if is_refused(&answered.reply) {
-        let area = Area {
-            x: REPLIES - 4,
+    /// The area of bytes of an arena over these rows.
+    fn area(&self, arena: u16, bytes: (u32, u32), rows: (usize, usize)) -> Area {
+        let x = self.axis.left(arena, bytes.0).saturating_add(ARENAS);
+        let right = self.axis.left(arena, bytes.1).saturating_add(ARENAS);
+        let y = self.row(rows.0);
+        Area {
+            x,
             y,
-            width: STRIPS - REPLIES - LETTER,
-            height: ROW,
+            width: right.saturating_sub(x).max(1),
+            height: self.row(rows.1).saturating_sub(y),
+        }
+    }
+
+    fn area_of(&self, bar: &Bar) -> Area {
+        let block = bar.block;
+        let end = block.start.saturating_add(block.length);
+        self.area(
+            block.arena,
+            (block.start, end),
+            (bar.first, bar.last.saturating_add(1)),
+        )
+    }
+
+    /// Draws the scale of bytes: a line where a block begins or ends, and its number where there is room.
+    fn scale(&mut self) -> Result<(), AllocError> {
+        let (y, mut free) = (self.top.saturating_sub(6), 0u64);
+        self.svg.push_str("<g class=\"s\">\n")?;
+        for (index, unit) in self.axis.units.iter().enumerate() {
+            if !unit.is_cut {
+                continue;
+            }
+            let x = unit.left.saturating_add(ARENAS);
+            write!(self.svg, "<path class=\"line\" d=\"M{x},{y}v6\"/>")?;
+            let byte = (index % self.axis.per_arena.max(1)).saturating_mul(16);
+            if free <= unit.left {
+                write!(self.svg, "<text x=\"{x}\" y=\"{y}\">{byte}</text>\n")?;
+                free = unit.left.saturating_add(if byte < 1000 { 20 } else { 40 });
+            }
+        }
+        self.svg.push_str("</g>\n")
+    }
+
+    /// Draws the arenas, all holes, each below its number.
+    fn arenas(&mut self, config: &Config) -> Result<(), AllocError> {
+        let y = self.top.saturating_sub(ROW);
+        let rows = (0, self.history.answers.len());
+        for arena in 0..config.arenas {
+            let area = self.area(u16::from(arena), (0, config.bytes), rows);
+            rect(&mut self.svg, area, "class=\"hole\"", arena)?;
+            let x = area.x;
+            write!(self.svg, "<text x=\"{x}\" y=\"{y}\">arena {arena}</text>\n")?;
+        }
+        Ok(())
+    }
+
+    /// Draws a bar, and its block's name where there is room.
+    fn bar(&mut self, bar: &Bar) -> Result<(), AllocError> {
+        let area = self.area_of(bar);
+        let name = self.name(&bar.name);
+        rect(&mut self.svg, area, Look(bar.block), Shown(name))?;
+        let letters = (name.len() as u64).saturating_mul(7);
+        let (right, down, turn) = if letters.saturating_add(6) <= area.width {
+            (4, 13, 0u8)
+        } else if letters <= area.height && 12 < area.width {
+            ((area.width / 2).saturating_sub(4), 3, 90)
+        } else {
+            return Ok(());
         };
-        rect(document, area, b"#f9c4c9");
+        let (x, y) = (area.x.saturating_add(right), area.y.saturating_add(down));
+        write!(
+            self.svg,
+            "<g class=\"name\" transform=\"translate({x},{y}) rotate({turn})\">"
+        )?;
+        words(&mut self.svg, 0, 0, name, 16)?;
+        self.svg.push_str("</g>\n")
     }
-    let base = y.saturating_add(12);
-    words(document, COMMANDS, base, command, LETTERS);
-    words(document, REPLIES, base, &reply_text(answered), LETTERS);
-}
 
-/// What stands above the strip of an arena.
-fn heading(arena: u8, layout: &Layout) -> Label {
-    phrase(&[
-        Piece::Text(b"arena "),
-        Piece::Number(u64::from(arena)),
-        Piece::Text(b": the first "),
-        Piece::Number(u64::from(layout.shown)),
-        Piece::Text(b" of "),
-        Piece::Number(u64::from(layout.size)),
-        Piece::Text(b" bytes"),
-    ])
-}
-
-/// Draws the heads of the columns, and the strips of the arenas, all holes.
-fn draw_strips(document: &mut Document, layout: &Layout) {
-    let base = layout.row(0).saturating_sub(6);
-    words(document, COMMANDS, base, b"command", LETTERS);
-    words(document, REPLIES, base, b"line and reply", LETTERS);
-    for arena in 0..layout.arenas {
-        let area = layout.strip(u16::from(arena));
-        rect(document, area, b"#ffffff");
-        let letters = (area.width / LETTER) as usize;
-        words(document, area.x, base, &heading(arena, layout), letters);
-    }
-}
-
-/// Draws the circle of an endpoint.
-fn draw_circle(document: &mut Document, area: Area) {
-    document.open(Tag::Circle);
-    document.measure(Key::CentreX, area.x.saturating_add(8));
-    document.measure(Key::CentreY, area.y.saturating_add(8));
-    document.measure(Key::Radius, 4);
-    document.give(Key::Fill, b"#ffffff");
-    document.give(Key::Stroke, b"#333333");
-    document.close();
-}
-
-/// Draws a bar: an endpoint has a circle, and there stands whose it is where there is room.
-fn draw_bar(document: &mut Document, area: Area, labels: &Labels, bar: &Bar) {
-    open_rect(document, area);
-    look(document, bar.block.keeper);
-    tell(document, &labels.bar(bar));
-    document.close();
-    if bar.block.is_end {
-        draw_circle(document, area);
-    }
-    let short = labels.short(bar.block.keeper);
-    if short.len() <= (area.width / LETTER).saturating_sub(3) as usize {
-        let (x, y) = (area.x.saturating_add(16), area.y.saturating_add(12));
-        words(document, x, y, &short, LETTERS);
-    }
-}
-
-/// Draws a line above each row.
-fn draw_lines(document: &mut Document, layout: &Layout, rows: usize) {
-    for row in 0..rows {
-        let line = Area {
-            x: 0,
-            y: layout.row(row),
-            width: layout.whole().width,
-            height: 1,
+    /// Draws the arrow of a message from an area to the endpoint to which a direction leads.
+    fn arrow(&mut self, from: Area, row: usize, direction: u8) -> Result<(), AllocError> {
+        let Some(Some(end)) = self.history.ends.get(usize::from(direction)) else {
+            return Ok(());
         };
-        open_rect(document, line);
-        document.give(Key::FillOpacity, b"0.12");
-        document.close();
+        let to = self.area_of(end);
+        let y = self.row(row).saturating_add(ROW - 3);
+        let inside = (from.width / 2).min(7);
+        let x = if from.x < to.x {
+            from.x.saturating_add(from.width).saturating_sub(inside)
+        } else {
+            from.x.saturating_add(inside)
+        };
+        let end = to.x.saturating_add(to.width / 2);
+        write!(self.svg, "<path class=\"arrow\" d=\"M{x},{y}H{end}\"/>\n")
+    }
+
+    /// Draws the arrows of all messages, those without blocks from the endpoint that gave them.
+    fn arrows(&mut self) -> Result<(), AllocError> {
+        let history = self.history;
+        for bar in &history.bars {
+            if let Keeper::Direction(direction) = bar.block.keeper {
+                let from = self.area_of(bar);
+                self.arrow(from, bar.first, direction)?;
+            }
+        }
+        for (row, direction) in &history.bare {
+            if let Some(Some(own)) = history.ends.get(usize::from(*direction ^ 1)) {
+                let from = self.area_of(own);
+                self.arrow(from, *row, *direction)?;
+            }
+        }
+        Ok(())
+    }
+
+    /// Draws the number and the tag of the message that a command gave or took.
+    fn message(&mut self, y: u64, row: usize, reply: &Reply) -> Result<(), AllocError> {
+        let x = MESSAGES;
+        match reply {
+            Reply::Given(number) => {
+                let tag = Shown(self.word(row, 3));
+                write!(
+                    self.svg,
+                    "<text x=\"{x}\" y=\"{y}\">&#8594;{number}, tag {tag}</text>\n"
+                )
+            }
+            Reply::Taken { number, tag, .. } => {
+                write!(
+                    self.svg,
+                    "<text x=\"{x}\" y=\"{y}\">&#8592;{number}, tag {tag}</text>\n"
+                )
+            }
+            _ => Ok(()),
+        }
+    }
+
+    /// Draws the texts of a row.
+    fn texts(&mut self, row: usize, answered: &Answered) -> Result<(), AllocError> {
+        let y = self.row(row);
+        if matches!(answered.reply, Reply::No(_) | Reply::NotGiven(_)) {
+            write!(
+                self.svg,
+                "<path class=\"no\" d=\"M0,{y}H{ARENAS}v{ROW}H0z\"/>"
+            )?;
+        }
+        write!(self.svg, "<path class=\"line\" d=\"M0,{y}H900\"/>\n")?;
+        let y = y.saturating_add(13);
+        let command = self.command(row);
+        words(&mut self.svg, LEFT, y, command, 32)?;
+        words(&mut self.svg, REPLIES, y, &reply_text(answered), 19)?;
+        self.message(y, row, &answered.reply)
+    }
+
+    /// Draws what is in flight on a direction at the end.
+    fn flight(&mut self, y: u64, line: &FlightLine) -> Result<(), AllocError> {
+        let history = self.history;
+        let name = match history.ends.get(usize::from(line.direction)) {
+            Some(Some(bar)) => self.name(&bar.name),
+            _ => &[],
+        };
+        let FlightLine {
+            direction,
+            blocks,
+            bytes,
+        } = *line;
+        let name = Shown(name);
+        write!(
+            self.svg,
+            "<text x=\"{LEFT}\" y=\"{y}\">in flight to {name}, direction {direction}: blocks {blocks}, bytes {bytes}</text>\n"
+        )
+    }
+
+    /// Draws the sums at the end.
+    fn sums(&mut self) -> Result<(), AllocError> {
+        let history = self.history;
+        let mut y = self.row(history.answers.len()).saturating_add(ROW);
+        let mut flight = 0u64;
+        for line in history.flight.as_slice() {
+            flight = flight.saturating_add(line.bytes);
+        }
+        let (owned, out) = (history.owned, history.owned.saturating_add(flight));
+        write!(
+            self.svg,
+            "<text x=\"{LEFT}\" y=\"{y}\">owned {owned}, flight {flight}, out {out}</text>\n"
+        )?;
+        for line in history.flight.as_slice() {
+            y = y.saturating_add(ROW);
+            self.flight(y, line)?;
+        }
+        self.top = y.saturating_add(10);
+        Ok(())
+    }
+
+    /// Draws all.
+    fn whole(&mut self, config: &Config) -> Result<(), AllocError> {
+        let history = self.history;
+        self.head()?;
+        self.scale()?;
+        self.arenas(config)?;
+        for bar in &history.bars {
+            self.bar(bar)?;
+        }
+        for (row, answered) in history.answers.iter().enumerate() {
+            self.texts(row, answered)?;
+        }
+        self.arrows()?;
+        self.sums()
     }
 }
 
-/// Begins the document of a picture of this size.
-fn begin(alloc: Global, whole: Area) -> Result<Document, AllocError> {
-    let mut document = Document::new(alloc, Tag::Svg)?;
-    document.give(Key::Xmlns, b"http://www.w3.org/2000/svg");
-    document.measure(Key::Width, whole.width);
-    document.measure(Key::Height, whole.height);
-    document.give(Key::FontFamily, b"monospace");
-    document.measure(Key::FontSize, 11);
-    tell(&mut document, HEADING);
-    rect(&mut document, whole, b"#eeeeee");
-    words(&mut document, COMMANDS, 28, HEADING, HEADING.len());
-    Ok(document)
-}
-
-/// Draws the rows, the strips, a line above each row, and below them what is in flight after the last, a line
-/// for each direction.
-fn draw_rows(document: &mut Document, layout: &Layout, labels: &Labels, bars: &[Bar]) {
-    let history = labels.history;
-    for (row, answered) in history.answers.iter().enumerate() {
-        draw_row(document, layout.row(row), labels.command(row), answered);
-    }
-    draw_strips(document, layout);
-    for bar in bars {
-        draw_bar(document, layout.bar(bar), labels, bar);
-    }
-    draw_lines(document, layout, history.answers.len());
-    for (index, line) in history.flight.as_slice().iter().enumerate() {
-        let said = labels.flight(line);
-        let row = history.answers.len().saturating_add(index);
-        let base = layout.row(row).saturating_add(12);
-        words(document, COMMANDS, base, &said, said.len());
-    }
-}
-
-/// The picture of what was found of a run.
-fn picture_of(
-    alloc: Global,
-    layout: &Layout,
-    labels: &Labels,
-    keepers: &[Keeper],
-    bars: &[Bar],
-) -> Result<Vec<u8>, AllocError>
-    ensures { IfOk result (λ picture. IsPicture picture.items) }
+/// A document of this size, with this in it.
+fn document(alloc: Global, height: u64, drawn: &str) -> Result<String, AllocError>
+    ensures { IfOk result (λ picture. IsPicture (string_bytes picture)) }
 {
-    let mut document = begin(alloc, layout.whole())?;
-    for (index, keeper) in keepers.iter().enumerate() {
-        draw_entry(&mut document, labels, index, *keeper);
-    }
-    draw_rows(&mut document, layout, labels, bars);
-    let mut picture = document.finish()?;
-    picture.extend_from_slice(b"\n")?;
+    let size = format!(in alloc;
+        "xmlns=\"http://www.w3.org/2000/svg\" width=\"900\" height=\"{height}\"><path fill=\"#eee\" d=\"M0,0H900V{height}H0z\"/>\n"
+    )?;
+    let mut picture = String::from_str(alloc, "<svg ")?;
+    picture.push_str(&size)?;
+    picture.push_str(STYLE)?;
+    picture.push_str(drawn)?;
+    picture.push_str("</svg>\n")?;
     Ok(picture)
 }
 
-/// The picture of a run: the script's text, the names of its processes, and what its commands did.
+/// The picture of a run that has ended: the script's text, the names of its processes, and what its commands did.
 pub fn draw(
     alloc: Global,
     config: &Config,
     text: &[u8],
     processes: &[Name],
     history: &History,
-) -> Result<Vec<u8>, AllocError>
-    ensures { IfOk result (λ picture. IsPicture picture.items) }
+) -> Result<String, AllocError>
+    ensures { IfOk result (λ picture. IsPicture (string_bytes picture)) }
 {
-    let bars = history.bars(alloc)?;
-    let keepers = keepers_of(alloc, processes.len(), &bars)?;
-    let labels = Labels {
-        processes,
+    let mut sheet = Sheet {
+        svg: String::new(alloc),
+        top: 24,
         lines: text.split(|byte| *byte == b'\n').collect(alloc)?,
+        processes,
         history,
+        axis: Axis::new(alloc, config, &history.bars)?,
     };
-    let layout = Layout::new(config, keepers.len(), history, &bars);
-    picture_of(alloc, &layout, &labels, &keepers, &bars)
+    let drawn = sheet.whole(config);
+    let Sheet { svg, top, .. } = sheet;
+    drawn?;
+    document(alloc, top, &svg)
 }

@@ -3,7 +3,7 @@ use Rattle.std.specs.Prelude.{◌≡◌, ◌⊎◌, ℕ, List, Option, codes}
 use Rattle.clap.specs.Words.{Text}
 use Rattle.xh_command_line.specs.Options.{AreOptions, IsUnasked, options_of}
 use Rattle.xh_command_line.specs.Status.{status_of}
-use Rattle.xh_picture.specs.Documents.{IsPicture}
+use Rattle.xh_picture.specs.Pictures.{IsPicture}
 use Rattle.xh_session.specs.Ends.{EndsWith}
 use Rattle.xh_script.specs.declared.watch.Watched.{Watched}
 use Rattle.xh_script.specs.Scripts.{Listing}

@@ -1,7 +1,7 @@
 //! A script from its bytes to its picture.
-ghost use Rattle.std.specs.Prelude.{◌≡◌, ◌⊎◌, IfErr, IfOk, OnOk};
+ghost use Rattle.std.specs.Prelude.{◌≡◌, ◌⊎◌, IfErr, IfOk, OnOk, string_bytes};
 ghost use Rattle.xh_model.specs.Config.{IsConfig};
-ghost use Rattle.xh_picture.specs.Documents.{IsPicture};
+ghost use Rattle.xh_picture.specs.Pictures.{IsPicture};
 ghost use Rattle.xh_script.specs.Watching.{WritesOrFails};
 ghost use Rattle.xh_session.specs.Ends.{Done, Stopped};
 ghost use Rattle.xheap_picture.specs.Drawn.{IsDrawn};
@@ -25,6 +25,7 @@ fn history_of(
         let answered = stage.step(alloc, line)?;
         history.note(stage.machine(), stage.latest(), line, answered)?;
     }
+    history.end(stage.machine())?;
     Ok(history)
 }
 
@@ -39,8 +40,8 @@ fn play(alloc: Global, config: Config, script: &Script) -> Result<History, Fault
 }
 
 /// The picture of a script.
-fn picture_of(alloc: Global, config: Config, input: &Input) -> Result<Vec<u8>, Fault>
-    ensures picture { IfOk result (λ picture. IsPicture picture.items) }
+fn picture_of(alloc: Global, config: Config, input: &Input) -> Result<String, Fault>
+    ensures picture { IfOk result (λ picture. IsPicture (string_bytes picture)) }
     ensures fault { IfErr result (λ e. ((e ≡ Fault.BadConfig) × ¬ IsConfig config) ⊎ (e ≡ Fault.Memory)) }
 {
     let history = play(alloc, config, &input.script)?;
@@ -74,5 +75,5 @@ pub(crate) fn run_picture<R: Read, W: Write>(
 {
     let input = read_input(alloc, config, reader)?;
     let picture = picture_of(alloc, config, &input)?;
-    put(writer, &picture)
+    put(writer, picture.as_bytes())
 }

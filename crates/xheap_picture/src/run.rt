@@ -19,8 +19,8 @@ const ABOUT: &str =
 
 const DETAIL: &str =
     "Reads a script from standard input, does its commands one by one on an exchange heap, and writes \
-a picture (SVG): a row for each command with its reply, in it each arena as a strip of its bytes, holes white, each \
-block in the colour of its holder, and a circle on each endpoint.";
+a picture (SVG): a row for each command with its reply and its message, in it each arena as a strip of its bytes, holes white, \
+each block in the colour of its holder, endpoints narrow and grey, what is in flight hatched, and below the sums.";
 
 const SERIAL: &str = "Says nothing: the commands are always done one by one";
 
