@@ -6,7 +6,7 @@ pub use Rattle.std.proofs.{Math.Logic.∥∥₁_map, Math.Nat.div-add-mod, Math.
 pub use Rattle.std.proofs.Common.{All, Bool, List, [], add-one, ap, append_assoc, arith, cond, drop, false, filter, get_or, inl, inr, length, length-set, map, mod-lt, refl, rules, set}
 pub use Rattle.std.proofs.Common.{subst, suc, suc-mul, sum, sym, take, true, vec_len, zero, ℕ, ⊎_elim, ◌%◌, ◌*◌, ◌++◌, ◌+◌, ◌-◌, ◌/◌, ◌<◌, ◌||◌, ◌∙◌, ◌∷◌, ◌≡◌, ◌≢◌, ◌≤◌, ◌⊎◌}
 pub use Rattle.std.proofs.lemmas.{Bool.false_from_ne_true, Bool.ltb-true, Bool.Decides.nat_tests, Grind.common_steps, List.get_or-map, List.get_or_default}
-pub use Rattle.std.proofs.lemmas.{List.length-append, List.length-drop, List.length-map, List.length-take-le, List.nil_from_length, List.same_lists, List.set-get_or}
+pub use Rattle.std.proofs.lemmas.{List.length-append, List.length-drop, List.length-map, List.length-take-le, List.map-append, List.nil_from_length, List.same_lists, List.set-get_or}
 pub use Rattle.std.proofs.lemmas.{List.take_all, List.Concat.get_or-flat_map, List.Folds.list_any_at, List.Recursion.is_sum_by, List.Sums.sum-map, List.Sums.sum_by-append, List.Sums.sum_by-cons}
 pub use Rattle.std.proofs.lemmas.{List.Sums.sum_by-set, List.Sums.sum_by_more, Option.MatchOption-at_some, Option.get_or_from_slice_get, Option.same_Some, Option.slice_get-map, Result.IfOk-weaker}
 pub use Rattle.std.proofs.lemmas.{Slice.Zip.AllZip-left, Slice.Zip.AllZip-long, Slice.Zip.AllZip-right, Slice.Zip.all_zipped_more, Slice.Zip.get_or-zip, Slice.Zip.length-zip}
@@ -18,7 +18,7 @@ pub use Rattle.xh_arena.specs.Views.{LotOf, Move, TallyOf, VaultOf}
 pub use Rattle.xh_books.specs.{Closing.IsClosed, Closing.IsSumOver, Flight.IsInFlight, Flight.Stands, Flight.WasPassed, Flight.flight_line, Flight.flight_lines, declared.closing.Books.Books}
 pub use Rattle.xh_books.specs.Ledgers.{IsBalanced, all_back, all_lengths, all_taken, arena_line, arena_lines, arenas_of, back_of, bytes_in_flight, bytes_owned, is_listed, place_lines, taken_of}
 pub use Rattle.xh_books.specs.Sums.{AllBegan, AllWorked, AreLawful, MakesOne, Moves, Reaches, SeesOthers, Worked, Works, arena_count, back_in, sum_of, sum_of_all, taken_in}
-pub use Rattle.xh_books.specs.inner.Steps.{AreAt, AreBooks, AreGathered, AreSeats, IsFull, IsSeatOfPlace, closed_line, lens_of, with_accounts, with_tallies, with_tally}
+pub use Rattle.xh_books.specs.inner.Steps.{AreAt, AreBooks, AreFronts, AreGathered, AreSeats, IsFull, IsSeatOfPlace, closed_line, lens_of, with_accounts, with_tallies, with_tally}
 unfoldable pub use Rattle.xh_books.specs.inner.Steps.{TellFlight}
 pub use Rattle.xh_calls.proofs.{Lists.below_get, Lists.there, Moved.none_back}
 pub use Rattle.xh_calls.specs.{Parts.IsOpen, Parts.PartsOf, Parts.vault_names, Tallies.fresh_tally, declared.wired.Wired.Wired}
@@ -40,6 +40,6 @@ pub use Rattle.xh_place.proofs.{Swept.gave_some}
 pub use Rattle.xh_place.specs.{Moves.moves, Seen.PlaceSeen, Tallies.ids_of, Tallies.took, declared.body.Body.Body}
 pub use Rattle.xh_place.specs.Places.{IsPlaceOf, Item, Lists, PlaceOf, item_of, line, line_in, total_of}
 pub use Rattle.xh_records.proofs.{Elements.elem_slice, Elements.in_range, Elements.is_there, Elements.slice_elem, Keeps.never, Keeps.one_holder, Keeps.same_place}
-pub use Rattle.xh_records.specs.{History.LeadsTo, History.all_free, History.by_place, Showing.IsLotAt, Showing.IsSmall, declared.shape.Shape.Shape}
+pub use Rattle.xh_records.specs.{History.LeadsTo, History.StartsWith, History.all_free, History.by_place, Showing.IsLotAt, Showing.IsSmall, declared.shape.Shape.Shape}
 pub use Rattle.xh_records.specs.Seats.{Ends, Held, IsSeatOf, RecordsOf, lot_in}
 pub use mathlib.Core.Logic.{dite, ∥∥₁_elim}

@@ -1,6 +1,6 @@
 -- The places' seats and lines, one place after the other.
-use Rattle.xh_books.proofs.Common.{AreSeats, Body, Held, IsSeatOfPlace, Item, List, Lists, None, Option, PlaceLine, PlaceOf, Some, Status, [], all_zipped_more, ap, append_assoc}
-use Rattle.xh_books.proofs.Common.{arith, bytes_owned, common_steps, cons_option, filter_map-append, is_over, length, line, line_in, place_lines, refl, subst, sum_by}
+use Rattle.xh_books.proofs.Common.{AreSeats, Body, Event, Held, IsSeatOfPlace, Item, List, Lists, None, Option, PlaceLine, PlaceOf, PlaceSeen, Some, Status, [], all_zipped_more, ap, append_assoc}
+use Rattle.xh_books.proofs.Common.{arith, bytes_owned, common_steps, cons_option, filter_map-append, is_over, length, line, line_in, map, map-append, place_lines, refl, subst, sum_by}
 use Rattle.xh_books.proofs.Common.{sum_by-append, sum_by-cons, sym, total_of, true, value_at, value_here, ℕ, ◌++◌, ◌+◌, ◌∙◌, ◌∷◌, ◌≡◌, ◌≤◌}
 
 -- a seat that holds nothing is that of a place without blocks
@@ -41,6 +41,17 @@ one_ended all rest now_ p seats seats' lines lines' x o was next is none line_is
           let e = sum_by-cons (λ (q : PlaceOf). total_of q.blocks) p [] in
           let f = was.owned in omega arith);
     }
+
+-- what the ended ones had seen, and then what the rest has, is what all had
+abbrev pub FrontsSoFar : List PlaceSeen → List PlaceSeen → List (Held Body) → Type 0
+FrontsSoFar all rest seats = map (λ x. x.front) seats ++ map (λ p. p.front) rest ≡ map (λ p. p.front) all
+
+pub fronts_more : (all now_ rest : List PlaceSeen) (p : PlaceSeen) (seats seats' : List (Held Body)) (x : Held Body) → FrontsSoFar all now_ seats → now_ ≡ p ∷ rest → x.front ≡ p.front
+    → seats' ≡ seats ++ x ∷ [] → FrontsSoFar all rest seats'
+fronts_more all now_ rest p seats seats' x was next same more =
+    let f : Held Body → List Event = λ y. y.front in let g : PlaceSeen → List Event = λ q. q.front in
+    ap (λ (ys : List (Held Body)). map f ys ++ map g rest) more ∙ ap (λ (l : List (List Event)). l ++ map g rest) (map-append f seats (x ∷ [])) ∙ append_assoc (map f seats) (x.front ∷ []) (map g rest)
+    ∙ ap (λ (l : List Event). map f seats ++ l ∷ map g rest) same ∙ ap (λ (qs : List PlaceSeen). map f seats ++ map g qs) (sym next) ∙ was
 
 pub one_more : (lines lines' : List PlaceLine) (o : Option PlaceLine) → lines' ≡ lines ++ cons_option o [] → length lines' ≤ length lines + 1
 one_more lines lines' o e = grind (arith, common_steps, e)

@@ -43,7 +43,7 @@ pub is_closed : (parts : PartsOf) (own : RecordsOf) → own ≡ parts.records
     → IfOk r (λ b. b.ledger.arenas.items ≡ arena_lines now_ 0 vaults) → IfOk r (λ b. b.ledger.places.items ≡ place_lines (places_of places))
     → IfOk r (λ b. b.ledger.owned ≡ bytes_owned (places_of places))
     → IfOk r (λ b. b.ledger.flight ≡ bytes_in_flight (places_of places) own.shape.records 0 (all_lengths (arenas_of vaults))) → IfOk r (λ b. IsBalanced b.ledger)
-    → IfOk r (λ b. IsInFlight own.shape (places_of places) (all_lengths (arenas_of vaults)) b.flight.items) → IfOk r (λ b. IsClosed parts all looks b.ledger b.flight.items)
+    → IfOk r (λ b. IsInFlight own.shape places (all_lengths (arenas_of vaults)) b.flight.items) → IfOk r (λ b. IsClosed parts all looks b.ledger b.flight.items)
 is_closed parts own is places vaults all now_ looks (Err e) seen workers open_vaults same arenas lines owned flight balanced in_flight = tt
 is_closed parts own is places vaults all now_ looks (Ok b) seen workers open_vaults same arenas lines owned flight balanced in_flight = record {
   places = places;
@@ -58,7 +58,7 @@ is_closed parts own is places vaults all now_ looks (Ok b) seen workers open_vau
   owned = owned;
   flight = flight ∙ ap (λ x. bytes_in_flight (places_of places) x.shape.records 0 (all_lengths (arenas_of vaults))) is;
   balanced = balanced;
-  in_flight = subst (λ (x : RecordsOf). IsInFlight x.shape (places_of places) (all_lengths (arenas_of vaults)) b.flight.items) is in_flight;
+  in_flight = subst (λ (x : RecordsOf). IsInFlight x.shape places (all_lengths (arenas_of vaults)) b.flight.items) is in_flight;
 }
 
 line_taken : (all : List AccountOf) (k : ℕ) (vs : List VaultOf) (i : ℕ) → i < length vs → slice_index (map (λ a. a.taken) (arena_lines all k vs)) i ≡ sum_by (taken_of (k + i)) all

@@ -1,9 +1,9 @@
 -- What the places list is what the closed table's lots have, each once.
-use Rattle.xh_books.proofs.Common.{All, AllZip-left, AllZip-right, AreAt, AreFlightLines, AreSeats, Body, Bool, Direction, Ends, FlightLine, Held, Holder, IsHeldBy, IsHolder}
-use Rattle.xh_books.proofs.Common.{IsInFlight, IsLotAt, IsPlaceOf, IsSeatOf, IsSeatOfPlace, IsSomeAnd, Item, List, LotOf, MatchOption-at_some, None, Option, PlaceOf, Process, RecordsOf}
-use Rattle.xh_books.proofs.Common.{Shape, Some, Stands, TellFlight, ap, arena_of_number, arith, below_get, by_place, bytes_in_flight, bytes_owned, elem_slice, false}
+use Rattle.xh_books.proofs.Common.{All, AllZip-left, AllZip-right, AreAt, AreFlightLines, AreFronts, AreSeats, Body, Bool, Direction, Ends, Event, FlightLine, Held, Holder, IsHeldBy, IsHolder}
+use Rattle.xh_books.proofs.Common.{IsInFlight, IsLotAt, IsPlaceOf, IsSeatOf, IsSeatOfPlace, IsSomeAnd, Item, List, LotOf, MatchOption-at_some, None, Option, PlaceOf, PlaceSeen, Process, RecordsOf}
+use Rattle.xh_books.proofs.Common.{Shape, Some, Stands, StartsWith, TellFlight, ap, arena_of_number, arith, below_get, by_place, bytes_in_flight, bytes_owned, elem_slice, false}
 use Rattle.xh_books.proofs.Common.{false_from_ne_true, flight_lines, get_or, get_or_from_slice_get, in_range, index_back, index_of, is_listed, is_there, item_of, length, length-map, lens_of}
-use Rattle.xh_books.proofs.Common.{lot_in, map, mod-lt, moves, never, number_back, number_of, one_holder, option_map, place_of, place_of_number, refl, same_Some, same_place, slice_elem}
+use Rattle.xh_books.proofs.Common.{lot_in, map, mod-lt, moves, never, number_back, number_of, one_holder, option_map, place_of, place_of_number, places_of, refl, same_Some, same_place, slice_elem}
 use Rattle.xh_books.proofs.Common.{slice_get, slice_get-map, subst, sum, sym, there, value_at, word_of, zip, ℕ, ◌%◌, ◌+◌, ◌<◌, ◌∙◌, ◌≡◌, ◌≤◌}
 use Rattle.xh_books.proofs.Audited.{len_at}
 use Rattle.xh_books.proofs.Passing.{was_passed}
@@ -30,11 +30,14 @@ seats_own all xs ps k x are of_ at =
     let q = place_at xs ps k x are at in let own = subst (IsPlaceOf all) (get_or_from_slice_get ps k q.0 q.0 q.1) (of_ k q.0 (below_get ps k q.0 q.1)) in
     (q.2.same.0 ∙ own.0, q.2.same.1 ∙ own.1)
 
-module _ (fits : Body → ℕ → Bool) (all : RecordsOf) (seats : List (Held Body)) (ps : List PlaceOf) (words : List ℕ) (lots : List (LotOf Body))
-    (ends : Ends fits all.shape seats words lots) (are : AreSeats seats ps) (of_ : All (IsPlaceOf all) ps)
+module _ (fits : Body → ℕ → Bool) (all : RecordsOf) (seats : List (Held Body)) (places : List PlaceSeen) (words : List ℕ) (lots : List (LotOf Body))
+    (ends : Ends fits all.shape seats words lots) (are : AreSeats seats (places_of places)) (of_ : All (IsPlaceOf all) (places_of places))
     (some : 0 < all.shape.records) (small : all.shape.records ≤ 256) where
   abbrev n : ℕ
   n = all.shape.records
+
+  abbrev ps : List PlaceOf
+  ps = places_of places
 
   shape_of : (j : ℕ) (x : Held Body) → slice_get seats j ≡ Some x → x.shape ≡ all.shape
   shape_of j x at = (seats_own all seats ps j x are of_ at).1
@@ -142,11 +145,21 @@ module _ (fits : Body → ℕ → Bool) (all : RecordsOf) (seats : List (Held Bo
   long : length ends.owners ≡ length (lens_of lots)
   long = sym (length-map lots (λ (l : LotOf Body). l.len) ∙ ends.lots_long)
 
-  in_flight : (lines : List FlightLine) → lines ≡ flight_lines (zip words (lens_of lots)) → IsInFlight all.shape ps (lens_of lots) lines
-  in_flight lines e = record {
+  -- and each has seen a beginning of it
+  seen : AreFronts seats places → All (λ p. StartsWith ends.log p.front) places
+  seen fronts j d below =
+      let p : PlaceSeen = get_or places j d in let at = there places j d below in
+      let s = seat_at seats ps j p.place are (slice_get-map (λ (q : PlaceSeen). q.place) places j ∙ ap (option_map (λ (q : PlaceSeen). q.place)) at) in
+      let same : s.0.front ≡ p.front = same_Some s.0.front p.front (ap (option_map (λ (x : Held Body). x.front)) (sym s.1) ∙ sym (slice_get-map (λ (x : Held Body). x.front) seats j)
+      ∙ ap (λ (l : List (List Event)). slice_get l j) fronts ∙ slice_get-map (λ (q : PlaceSeen). q.front) places j ∙ ap (option_map (λ (q : PlaceSeen). q.front)) at) in
+      subst (StartsWith ends.log) same (ends.fronts j s.0 s.1)
+
+  in_flight : AreFronts seats places → (lines : List FlightLine) → lines ≡ flight_lines (zip words (lens_of lots)) → IsInFlight all.shape places (lens_of lots) lines
+  in_flight fronts lines e = record {
     log = ends.log;
     theirs = ends.theirs;
     parts = parts;
+    seen = seen fronts;
     owners = ends.owners;
     count = long;
     leads = ends.leads;
@@ -165,7 +178,7 @@ module _ (fits : Body → ℕ → Bool) (all : RecordsOf) (seats : List (Held Bo
       subst (λ (z : ℕ). AreFlightLines z (flight_lines (zip (map word_of ends.owners) (lens_of lots)))) (flying_is ps n 0 ends.owners (lens_of lots) long each)
       (are_lines (zip (map word_of ends.owners) (lens_of lots)) (λ d. all_full d ps n 0 ends.owners (lens_of lots) each))
 
-  pub tell_flight : (lines : List FlightLine) → lines ≡ flight_lines (zip words (lens_of lots)) → TellFlight all.shape ps (lens_of lots) lines
+  pub tell_flight : AreFronts seats places → (lines : List FlightLine) → lines ≡ flight_lines (zip words (lens_of lots)) → TellFlight all.shape places (lens_of lots) lines
   unfolding TellFlight in_flight
-  tell_flight lines e =
-      let is = in_flight lines e in (is, subst (λ (ls : List FlightLine). AreFlightLines (bytes_in_flight ps n 0 (lens_of lots)) ls) (sym is.lines_are) are_flight_lines)
+  tell_flight fronts lines e =
+      let is = in_flight fronts lines e in (is, subst (λ (ls : List FlightLine). AreFlightLines (bytes_in_flight ps n 0 (lens_of lots)) ls) (sym is.lines_are) are_flight_lines)

@@ -33,7 +33,7 @@ pub record IsClosed (parts : PartsOf) (accounts : List AccountOf) (looks : List 
   pub owned : l.owned ≡ bytes_owned (places_of places)
   pub flight : l.flight ≡ bytes_in_flight (places_of places) parts.records.shape.records 0 (all_lengths (arenas_of vaults))
   pub balanced : IsBalanced l
-  pub in_flight : IsInFlight parts.records.shape (places_of places) (all_lengths (arenas_of vaults)) directions
+  pub in_flight : IsInFlight parts.records.shape places (all_lengths (arenas_of vaults)) directions
 
 -- What the ledger says was taken of each arena is the sum of what all calls of the histories took there, and what came back of all arenas the sum of what came back by them.
 pub record IsSumOver (parts : PartsOf) (hs : List (History Call)) (l : Ledger) : Type 0 where

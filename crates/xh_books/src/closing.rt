@@ -46,7 +46,7 @@ fn close_table(alloc: Global, records: Records<Body>, places: Vec<Place>) -> Res
     requires places { All (IsPlaceOf records) (places_of places.items) × (vec_len places ≡ records.shape.places) }
     ensures lots { IfOk result (λ r. (length r.1.items ≡ length records.shape.names * records.shape.records) × AreAt records.shape.records records.shape.names r.1.items) }
     ensures owned { IfOk result (λ r. sum (lens_of r.1.items) ≡ bytes_owned (places_of places.items) + bytes_in_flight (places_of places.items) records.shape.records 0 (lens_of r.1.items)) }
-    ensures flight { IfOk result (λ r. TellFlight records.shape (places_of places.items) (lens_of r.1.items) r.0.items) }
+    ensures flight { IfOk result (λ r. TellFlight records.shape places.items (lens_of r.1.items) r.0.items) }
     ensures lines { IfOk result (λ r. (r.2.items ≡ place_lines (places_of places.items)) × (sum_by (λ l. l.bytes) r.2.items ≡ bytes_owned (places_of places.items))) }
     ensures refused { IfErr result (λ e. e ≡ Refused.OutOfMemory) }
 {
@@ -104,7 +104,7 @@ pub fn close_books<N: Names>(
     ensures flight { IfOk result (λ b. b.ledger.flight ≡ bytes_in_flight (places_of places.items) records.shape.records 0 (all_lengths (arenas_of vaults.items))) }
     ensures moved { IfOk result (λ b. all_taken accounts.items ≡ all_back accounts.items + b.ledger.out) }
     ensures balanced { IfOk result (λ b. IsBalanced b.ledger) }
-    ensures in_flight { IfOk result (λ b. IsInFlight records.shape (places_of places.items) (all_lengths (arenas_of vaults.items)) b.flight.items) }
+    ensures in_flight { IfOk result (λ b. IsInFlight records.shape places.items (all_lengths (arenas_of vaults.items)) b.flight.items) }
     ensures lines { IfOk result (λ b. AreFlightLines b.ledger.flight b.flight.items) }
     ensures refused { IfErr result (λ e. e ≡ Refused.OutOfMemory) }
 {

@@ -4,7 +4,7 @@ ghost use Rattle.std.specs.List.{cons_option, sum_by};
 ghost use Rattle.arrayvec.specs.ArrayVec.{array_vec_len};
 ghost use Rattle.xh_model.specs.declared.limits.TheConstants.{MAX_ARENAS, PLACES};
 ghost use Rattle.xh_kernel.specs.Places.{places_of};
-ghost use Rattle.xh_books.specs.inner.Steps.{AreBooks, AreSeats, IsFull, closed_line};
+ghost use Rattle.xh_books.specs.inner.Steps.{AreBooks, AreFronts, AreSeats, IsFull, closed_line};
 ghost use Rattle.xh_books.specs.Ledgers.{bytes_owned, place_lines};
 
 use arrayvec::ArrayVec;
@@ -82,6 +82,7 @@ pub(crate) fn end_places(
 ) -> Result<(Vec<Seat<Body>>, ArrayVec<PlaceLine, PLACE_LINES>), AllocError>
     requires { vec_len places ≤ PLACES }
     ensures seats { IfOk result (λ r. AreSeats r.0.items (places_of places.items)) }
+    ensures fronts { IfOk result (λ r. AreFronts r.0.items places.items) }
     ensures lines { IfOk result (λ r. r.1.items ≡ place_lines (places_of places.items)) }
     ensures owned { IfOk result (λ r. sum_by (λ l. l.bytes) r.1.items ≡ bytes_owned (places_of places.items)) }
 {

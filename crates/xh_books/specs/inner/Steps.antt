@@ -7,12 +7,14 @@ use Rattle.xh_core.specs.declared.flight.FlightLine.{FlightLine}
 use Rattle.xh_core.specs.declared.ledger.ArenaLine.{ArenaLine}
 use Rattle.xh_kernel.specs.Accounts.{AccountOf}
 use Rattle.xh_calls.specs.Parts.{vault_names}
+use Rattle.xh_kernel.specs.Places.{places_of}
 use Rattle.xh_model.specs.Arena.{lengths_of}
 use Rattle.xh_model.specs.Cover.{bytes_out, holes_of}
 use Rattle.xh_model.specs.Keyed.{value_at}
 use Rattle.xh_place.specs.declared.body.Body.{Body}
 use Rattle.xh_place.specs.Moves.{moves}
 use Rattle.xh_place.specs.Places.{Item, Lists, PlaceOf}
+use Rattle.xh_place.specs.Seen.{PlaceSeen}
 use Rattle.xh_records.specs.Seats.{Held}
 use Rattle.xh_records.specs.declared.shape.Shape.{Shape}
 use Rattle.xh_core.specs.Flight.{AreFlightLines}
@@ -74,6 +76,10 @@ pub record IsSeatOfPlace (x : Held Body) (p : PlaceOf) : Type 0 where
 abbrev pub AreSeats : List (Held Body) → List PlaceOf → Type 0
 AreSeats = AllZip IsSeatOfPlace
 
+-- each had seen what its place had
+abbrev pub AreFronts : List (Held Body) → List PlaceSeen → Type 0
+AreFronts xs places = map (λ x. x.front) xs ≡ map (λ p. p.front) places
+
 -- ---- the table
 
 abbrev pub lens_of : List (LotOf Body) → List ℕ
@@ -84,5 +90,5 @@ abbrev pub AreAt : ℕ → List TableId → List (LotOf Body) → Type 0
 AreAt n names ls = (k : ℕ) (l : LotOf Body) → slice_get ls k ≡ Some l → (slice_get names (k / n) ≡ Some l.id) × (l.index ≡ k % n)
 
 -- the lines are what is in flight, of records of these lengths, and their sum is that of the lengths of the records in no place's list
-unfoldable pub TellFlight : Shape → List PlaceOf → List ℕ → List FlightLine → Type 0
-TellFlight s places lens lines = IsInFlight s places lens lines × AreFlightLines (bytes_in_flight places s.records 0 lens) lines
+unfoldable pub TellFlight : Shape → List PlaceSeen → List ℕ → List FlightLine → Type 0
+TellFlight s places lens lines = IsInFlight s places lens lines × AreFlightLines (bytes_in_flight (places_of places) s.records 0 lens) lines

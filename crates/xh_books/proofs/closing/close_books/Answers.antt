@@ -43,22 +43,3 @@ returns g c =
       lines = subst (λ (n : ℕ). AreFlightLines n c.in_ok-flight.flight.items) (sym flight) c.in_ok-flight.ensures.flight.1;
       refused = tt;
     }
-
-pub returns-clause-arenas : goal.returns-clause-arenas
-returns-clause-arenas g c = let f = facts g c.before.before in ap (λ (ls : ArrayVec ArenaLine). ls.items) c.ledger-ledger.ensures.lines.0 ∙ f.arenas
-
-pub returns-clause-places : goal.returns-clause-places
-returns-clause-places g c = ap (λ (ls : ArrayVec PlaceLine). ls.items) c.ledger-ledger.ensures.lines.1 ∙ c.in_ok-flight.ensures.lines.0
-
-pub returns-clause-in_flight : goal.returns-clause-in_flight
-unfolding TellFlight
-returns-clause-in_flight g c =
-    let f = facts g c.before.before in
-    subst (λ (lens : List ℕ). IsInFlight c.args.records.shape (places_of c.args.places.items) lens c.in_ok-flight.flight.items) f.lengths c.in_ok-flight.ensures.flight.0
-
-pub returns-clause-lines : goal.returns-clause-lines
-unfolding TellFlight
-returns-clause-lines g c =
-    let f = facts g c.before.before in
-    subst (λ (n : ℕ). AreFlightLines n c.in_ok-flight.flight.items)
-    (ap (bytes_in_flight (places_of c.args.places.items) c.args.records.shape.records 0) f.lengths ∙ sym (returns-clause-flight g c)) c.in_ok-flight.ensures.flight.1

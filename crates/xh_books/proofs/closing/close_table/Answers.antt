@@ -10,22 +10,15 @@ close-requires-clause-all c =
     let l = sym (AllZip-long IsSeatOfPlace c.in_ok-seats.seats.items (places_of c.args.places.items) c.in_ok-seats.ensures.seats) in
     let count = c.requires.places.1 in let same = length-map c.args.places.items (λ (p : PlaceSeen). p.place) in search rules
 
-pub returns-clause-lots : goal.returns-clause-lots
-returns-clause-lots c = let small : IsSmall c.args.records.shape = subst (λ r. IsSmall r.shape) c.records.view_is c.records.invariant.small in (
-  c.in-Ok.ensures.all,
-  lots_at _ c.args.records c.in_ok-seats.seats.items (places_of c.args.places.items) c.in-Ok.words.items c.in-Ok.lots.items c.in-Ok.ensures
-      c.in_ok-seats.ensures.seats c.requires.places.0 small.0 small.1,
-)
-
-pub returns-clause-owned : goal.returns-clause-owned
-returns-clause-owned c =
+pub returns : goal.returns
+returns c =
     let small : IsSmall c.args.records.shape = subst (λ r. IsSmall r.shape) c.records.view_is c.records.invariant.small in
-    owned _ c.args.records c.in_ok-seats.seats.items (places_of c.args.places.items) c.in-Ok.words.items c.in-Ok.lots.items c.in-Ok.ensures
-    c.in_ok-seats.ensures.seats c.requires.places.0 small.0 small.1
-
-pub returns-clause-flight : goal.returns-clause-flight
-returns-clause-flight c =
-    let small : IsSmall c.args.records.shape = subst (λ r. IsSmall r.shape) c.records.view_is c.records.invariant.small in
-    tell_flight _ c.args.records c.in_ok-seats.seats.items (places_of c.args.places.items) c.in-Ok.words.items c.in-Ok.lots.items c.in-Ok.ensures
-    c.in_ok-seats.ensures.seats c.requires.places.0 small.0 small.1 c.flight_lines-flight.result.items
-    (c.flight_lines-flight.ensures ∙ (λ i. flight_lines (zip (c.as_slice.ensures.value i) (lens_of (c.as_slice-2.ensures.value i)))))
+    let seats = c.in_ok-seats.seats.items in let places = c.args.places.items in let words = c.in-Ok.words.items in let lots = c.in-Ok.lots.items in
+    let ends = c.in-Ok.ensures in let are = c.in_ok-seats.ensures.seats in let own = c.requires.places.0 in record {
+      lots = (ends.all, lots_at _ c.args.records seats places words lots ends are own small.0 small.1);
+      owned = owned _ c.args.records seats places words lots ends are own small.0 small.1;
+      flight = tell_flight _ c.args.records seats places words lots ends are own small.0 small.1 c.in_ok-seats.ensures.fronts c.flight_lines-flight.result.items
+          (c.flight_lines-flight.ensures ∙ (λ i. flight_lines (zip (c.as_slice.ensures.value i) (lens_of (c.as_slice-2.ensures.value i)))));
+      lines = (c.in_ok-seats.ensures.lines, c.in_ok-seats.ensures.owned);
+      refused = tt;
+    }

@@ -1,5 +1,5 @@
 use Rattle.xh_books.proofs.Common.{IsSeatOfPlace, ap, arith, into_iter_items, into_iter_len, places_of, rules, vec_len, ◌+◌, ◌≡◌}
-use Rattle.xh_books.proofs.Ending.{one_ended, one_more}
+use Rattle.xh_books.proofs.Ending.{fronts_more, one_ended, one_more}
 use Rattle.xh_books.proofs.lines.end_places.Goals as goal
 
 pub loop-place-preserved : goal.loop-place-preserved
@@ -20,4 +20,6 @@ loop-place-preserved c =
           let one : vec_len c.push.new.self ≡ vec_len l.seats + 1 = search rules in
           let seats : vec_len c.push.new.self + into_iter_len c.next.new.self ≡ vec_len c.args.places = search rules in
           let was = l.invariant.1 in let few = l.invariant.2 in omega arith),
+      fronts_more c.args.places.items (into_iter_items c.loop-place.place-iterator) rest place l.seats.items c.push.new.self.items seat
+          l.invariant.3 step.0 c.end-seat.ensures.same.3 c.in_ok-push.ensures.items,
     )
