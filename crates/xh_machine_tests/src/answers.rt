@@ -145,7 +145,9 @@ pub fn answer_of<M: Booked>(machine: &mut M, alloc: Global, call: Call) -> Answe
         Call::Free(p, r) => of_number(machine.free(p, r).map(u64::from)),
         Call::Open(p, arena) => machine.open(p, arena, None).map_or_else(of_refused, of_two),
         Call::Give(p, e, tag, blocks) => of_number(machine.give(p, e, tag, blocks)),
-        Call::Take(p, e) => machine.take(p, e, false).map_or_else(of_refused, of_message),
+        Call::Take(p, e) => machine
+            .take(p, e, false)
+            .map_or_else(of_refused, of_message),
         Call::Close(p, e) => of_number(machine.close(p, e)),
         Call::Exit(p, budget) => of_number(machine.exit(p, budget)),
         Call::Kill(p, q, budget) => of_number(machine.kill(p, q, budget)),

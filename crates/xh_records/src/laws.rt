@@ -9,5 +9,4 @@ ghost use Rattle.xh_records.specs.History.{LeadsTo};
 /// store that has the ownership the event can be done, and then the store has the next one.
 pub fn events_are_the_cores()
     ensures { (n : ℕ) (o : Ownership) (log : List Event) (after : Ownership) → LeadsTo n o log after → LeadsOnStores n o log after }
-{
-}
+{}

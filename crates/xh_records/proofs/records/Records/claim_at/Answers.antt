@@ -13,6 +13,8 @@ returns-clause-missed g c =
     let look = c.word_at-word.ensures.1 in
     IfErr-weaker c.take.result _ _ (λ word m. (
       m.0,
-      (subst (λ h. HasFound (index_of h.shape.records c.args.number) word h c.take.new.seat.front) look.0 m.1.0,
-      looks_on c.args.seat.now c.word_at-word.new.seat look c.take.new.seat m.1.1),
+      (
+        subst (λ h. HasFound (index_of h.shape.records c.args.number) word h c.take.new.seat.front) look.0 m.1.0,
+        looks_on c.args.seat.now c.word_at-word.new.seat look c.take.new.seat m.1.1,
+      ),
     )) c.take.ensures.missed
