@@ -1,5 +1,5 @@
 -- What an open that its tests let through came to.
-use Rattle.xh_calls.proofs.Common.{AreListed, Block, Err, IfErr, IfOk, IsUnopened, List, MatchOption, MatchResult, None, Ok, Option, PlaceOf, Posted, Refused, Result, Running, Some}
+use Rattle.xh_calls.proofs.Common.{AreListed, Block, Err, IfErr, IfOk, IsUnopened, List, MatchOption, MatchResult, None, Ok, Option, PlaceOf, Posted, Refused, Result, Running}
 use Rattle.xh_calls.proofs.Common.{TallyOf, Tests, Unopened, [], ap, end_block, first_refusal, with_blocks, ℕ, ◌++◌, ◌∙◌, ◌∷◌, ◌≡◌}
 use Rattle.xh_channel.specs.Pairs.{IsPair}
 use Rattle.xh_model.specs.declared.row.Row.{Row}

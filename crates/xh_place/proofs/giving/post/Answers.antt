@@ -1,5 +1,5 @@
-use Rattle.xh_place.proofs.Common.{rules, ◌≡◌, ◌≢◌, ℕ, ◌+◌, ◌*◌, ◌-◌, List, sym, ap, ◌∙◌, subst, Some, Among, value_at, put, put_at, put_other, IsLotOf, Held, with_lots, passed_on, LotDoes, bare}
-use Rattle.xh_place.proofs.Common.{with_done, Body, Posted, Puts, IsBlock, lens, starts_more, starts_same, Came, Pass, came_more}
+use Rattle.xh_place.proofs.Common.{rules, ◌≡◌, ◌≢◌, ℕ, ◌-◌, List, sym, ap, ◌∙◌, subst, Some, Among, value_at, put, put_at, put_other, IsLotOf, Held, with_lots, passed_on, LotDoes, bare}
+use Rattle.xh_place.proofs.Common.{with_done, Body, Posted, Puts, lens, starts_more, starts_same, Pass, came_more}
 use Rattle.xh_place.proofs.Ends.{end_kind, still_block}
 use Rattle.xh_place.proofs.giving.post.Goals.{After-pass_all-bytes}
 use Rattle.xh_place.proofs.giving.post.Goals as goal

@@ -1,7 +1,6 @@
 use Rattle.xh_place.proofs.Common.{arith, ◌≡◌, ℕ, ◌+◌, ◌-◌, ◌≤◌, true, List, refl, sym, ap, ◌∙◌, subst, Some, ◌==◌, list_any, vec_capacity, is_running, Event, Among, keys, put, value_at, away}
-use Rattle.xh_place.proofs.Common.{kind_of, there_and_back, away_in, end_block, lens, less_all, with_done, Item, item_at, item_in, item_of, shown, with_blocks, with_moved, Answers, settled, Posted}
-use Rattle.xh_place.proofs.Common.{Puts, all_move, heard, heard_shows, shown_keys, list_distinct, over_running, total_bound, IsNow, placed, place_gone, on_err_weaker, all_found, found, IsRecord}
-use Rattle.xh_place.proofs.Common.{PlaceOf}
+use Rattle.xh_place.proofs.Common.{there_and_back, away_in, end_block, lens, less_all, with_done, Item, item_at, item_in, item_of, shown, with_blocks, with_moved, Answers, settled, Posted}
+use Rattle.xh_place.proofs.Common.{Puts, all_move, heard, heard_shows, shown_keys, list_distinct, over_running, total_bound, IsNow, placed, place_gone, on_err_weaker, all_found, found}
 use Rattle.xh_place.specs.Bodies.{IsEndAt}
 use Rattle.xh_place.proofs.Ends.{item_now, item_was}
 use Rattle.xh_place.proofs.Givens.{given_place, passed_below, settled_same, shown_look}

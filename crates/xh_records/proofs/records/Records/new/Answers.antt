@@ -1,6 +1,5 @@
 use Rattle.xh_records.proofs.Common.{nat_tests, ◌≡◌, ℕ, ◌/◌, ◌%◌, ◌<◌, ◌≤◌, arith, sym, ap, ◌∙◌, subst, mod-lt, Some, slice_get, MAX_RECORDS, number_of, arena_of_number, place_of_number}
 use Rattle.xh_records.proofs.Elements.{elem_slice, slice_elem}
-use Rattle.xh_records.proofs.records.Records.new.Goals.{In_ok-table}
 use Rattle.xh_records.proofs.records.Records.new.Goals as goal
 
 pub table_of-requires-clause-empty : goal.table_of-requires-clause-empty
