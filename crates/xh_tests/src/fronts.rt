@@ -127,11 +127,11 @@ fn assert_front(
 #[test]
 fn fronts(rt: HostRuntime) -> Result<(), Fail> {
     assert_front(&rt, rt.alloc(), 0, 0, b'.')?;
-    let (mut length, mut line) = (0, 0);
+    let (mut length, mut line) = (0usize, 0u32);
     for marks in MARKS {
-        line += 1;
+        line = line.wrapping_add(1);
         for mark in marks.bytes() {
-            length += 1;
+            length = length.wrapping_add(1);
             assert_front(&rt, rt.alloc(), length, line, mark)?;
         }
     }
