@@ -56,6 +56,9 @@ class Channel:
     def __init__(self, rows):
         self.rows, self.is_open, self.waiting, self.sent, self.taken = rows, [True, True], ({}, {}), [0, 0], [0, 0]
 
+    def blocks_to(self, side):
+        return [it for _, blocks in self.waiting[side].values() for it in blocks]
+
 
 class Process:
     def __init__(self, name, number):
@@ -300,8 +303,7 @@ class Heap:
             budget -= 1
             if block.channel:
                 block.channel.is_open[block.side] = False
-                for _, blocks in block.channel.waiting[block.side].values():
-                    process.held += blocks
+                process.held += block.channel.blocks_to(block.side)
                 block.channel.waiting[block.side].clear()
             count += self.give_back(block)
         return count
@@ -376,7 +378,7 @@ class Heap:
         owned, flight = sum(size_of(it.held) for it in self.places), []
         for at, channel in enumerate(self.channels):
             for side in (0, 1):
-                blocks = [it for _, blocks in channel.waiting[side].values() for it in blocks]
+                blocks = channel.blocks_to(side)
                 flight += [(2 * at + side, len(blocks), size_of(blocks))] if blocks else []
         for at, it in enumerate(self.arenas):
             yield f"arena {at} {it.size} {it.taken - it.back} {sum(map(bool, it.units.split(b'#')))} {it.taken} {it.back}"
@@ -462,7 +464,7 @@ def judge_place(heap, at, name, state, blocks, count):
 
 def judge_flight(heap, count, rows, is_over):
     """What is in flight was given and not taken. Once all has ended, each end to which it goes is so in flight too."""
-    ways = {(channel, side): [it for _, blocks in channel.waiting[side].values() for it in blocks] for channel in heap.channels for side in (0, 1)}
+    ways = {(channel, side): channel.blocks_to(side) for channel in heap.channels for side in (0, 1)}
     while is_over:
         there = {(it.channel, it.side) for blocks in ways.values() for it in blocks if it.channel}
         kept = {way: blocks for way, blocks in ways.items() if way in there}
