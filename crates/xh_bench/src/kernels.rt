@@ -1,5 +1,6 @@
 //! Measures of a kernel: it is made, one kind of call is timed on it, and it is dropped.
 ghost use Rattle.std.specs.Prelude.{◌≡◌, All, vec_len};
+ghost use Rattle.xh_kernel.specs.Histories.{IsLaw};
 
 use crate::calls::{Deed, Doing};
 use crate::failure::{Failure, add, unless_refused};
@@ -9,8 +10,7 @@ use crate::timer::{Host, MOST, Pace, Runs, Way, pace_of};
 use std::alloc::Global;
 use std::marker::Brand;
 use xh_core::Config;
-use xh_glance::Look;
-use xh_kernel::{Account, Kernel, Names, Parts};
+use xh_kernel::{Account, Kernel, Look, Names, Parts};
 use xh_model::limits::{MAX_ARENAS, MAX_BYTES, MAX_DEPTH, MAX_RECORDS, MAX_WEAR};
 use xh_runner::{OpenGate, hire};
 
@@ -145,7 +145,7 @@ impl Timing {
         looks: Vec<Look>,
     ) -> Result<Pace, Failure>
         requires count { vec_len looks ≡ vec_len accounts }
-        requires own { All (λ l. l.glances ≡ N.parts.glances) looks.items }
+        requires own { All (λ l. l.table ≡ N.parts.histories) looks.items }
     {
         let workers = hire(rt, self.alloc, kernel, &OpenGate, accounts, looks)?;
         self.by(rt, workers)
@@ -154,6 +154,7 @@ impl Timing {
     // Times the call on the kernel of these parts.
     fn over<N: Names + Send + Sync, R: Host>(self, rt: &R, parts: Parts) -> Result<Pace, Failure>
         requires names { parts ≡ N.parts }
+        requires law { IsLaw N.parts N.leads }
     {
         let (kernel, accounts, looks) = match Kernel::<N>::new(self.alloc, parts) {
             Ok(made) => made,

@@ -17,18 +17,18 @@ pub use Rattle.std.specs.Prelude.{slice_index_or, slice_set, ◌==◌}
 pub use Rattle.xh_arena.specs.Views.{LotOf, Move, TallyOf, VaultOf}
 pub use Rattle.xh_books.specs.{Closing.IsClosed, Closing.IsSumOver, Flight.IsInFlight, Flight.Stands, Flight.WasPassed, Flight.flight_line, Flight.flight_lines, declared.closing.Books.Books}
 pub use Rattle.xh_books.specs.Ledgers.{IsBalanced, all_back, all_lengths, all_taken, arena_line, arena_lines, arenas_of, back_of, bytes_in_flight, bytes_owned, is_listed, place_lines, taken_of}
-pub use Rattle.xh_books.specs.Sums.{AllBegan, AllWorked, AreLawful, MakesOne, Moves, Reaches, SeesOthers, Worked, Works, arena_count, back_in, sum_of, sum_of_all, taken_in}
+pub use Rattle.xh_books.specs.Sums.{AllBegan, AllWorked, AreLawful, MakesOne, Reaches, SeesOthers, Worked, Works, arena_count, back_in, sum_of, sum_of_all, taken_in}
 pub use Rattle.xh_books.specs.inner.Steps.{AreAt, AreBooks, AreFronts, AreGathered, AreSeats, IsFull, IsSeatOfPlace, closed_line, lens_of, with_accounts, with_tallies, with_tally}
 unfoldable pub use Rattle.xh_books.specs.inner.Steps.{TellFlight}
 pub use Rattle.xh_calls.proofs.{Lists.below_get, Lists.there, Moved.none_back}
-pub use Rattle.xh_calls.specs.{Parts.IsOpen, Parts.PartsOf, Parts.vault_names, Tallies.fresh_tally, declared.wired.Wired.Wired}
+pub use Rattle.xh_calls.specs.{Parts.IsOpen, Parts.PartsOf, Parts.vault_names, Tallies.fresh_tally, Leading.Leading, declared.call.Call.Call, declared.call.Entry.Entry, declared.wired.Wired.Wired}
 pub use Rattle.xh_core.proofs.Ranges.{indexed, picked, same_range}
 pub use Rattle.xh_core.specs.{Flight.AreFlightLines, Statuses.is_over, declared.block.Block.Block}
 pub use Rattle.xh_core.specs.{declared.flight.FlightLine.FlightLine, declared.glance.Glance.Glance, declared.ledger.ArenaLine.ArenaLine, declared.ledger.Ledger.Ledger}
 pub use Rattle.xh_core.specs.{declared.ledger.PlaceLine.PlaceLine, declared.refused.Refused.Refused, declared.status.Status.Status, declared.status.Status.TheVariants.Vacant}
-pub use Rattle.xh_history.specs.Histories.{HasSeen, History, at, calls_of}
-pub use Rattle.xh_kernel.specs.{Accounts.AccountOf, Accounts.HasBack, Accounts.HasTaken, Accounts.IsUnmoved, Accounts.fresh, Histories.Calls, Histories.IsLawfulHistory, Histories.Leads}
-pub use Rattle.xh_kernel.specs.{Histories.Made, Kept.AreKept, Places.places_of, Wires.Connects, Wires.HandsOver, Wires.Opens, Wires.Wires, declared.call.Call.Call, declared.scribe.Pens.Pens}
+pub use Rattle.xh_history.specs.Histories.{HasSeen, History, PenOf, at, calls_of}
+pub use Rattle.xh_kernel.specs.{Accounts.AccountOf, Accounts.HasBack, Accounts.HasTaken, Accounts.IsUnmoved, Accounts.fresh, Calls.Calls, Calls.Makes, Calls.Moves, Histories.IsLawfulHistory, Histories.Leads}
+pub use Rattle.xh_kernel.specs.{Kept.AreKept, Places.places_of, Wires.Connects, Wires.HandsOver, Wires.OpensBoth, Wires.Wires}
 pub use Rattle.xh_model.proofs.{Keyed.no_key, Keyed.none_at, Keyed.value_here, Keyed.value_there, Lengths.length-lengths}
 pub use Rattle.xh_model.proofs.{Lengths.length_at, Totals.sum_add, Totals.sum_same, Totals.sum_zero, Words.arena_of_number, Words.index_back, Words.number_back, Words.place_of_number}
 pub use Rattle.xh_model.specs.{Arena.ArenaState, Arena.lengths_of, Cover.bytes_out, Cover.holes_of, Cover.length_of, Keyed.Among, Keyed.Distinct, Keyed.keys, Keyed.value_at, Slots.index_of}

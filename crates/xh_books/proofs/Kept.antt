@@ -1,23 +1,23 @@
 -- What the locks of a kernel kept: its pens, and their lawful histories.
 use Rattle.xh_books.proofs.Common.{AccountOf, All, AllBegan, AllWorked, AreKept, AreLawful, ArenaLine, Books, Err, FlightLine, IfOk, IsBalanced, IsClosed, IsInFlight, IsLawfulHistory, IsOpen}
-use Rattle.xh_books.proofs.Common.{IsSumOver, Ledger, List, Ok, PartsOf, Pens, PlaceSeen, RecordsOf, Refused, Result, TallyOf, VaultOf, [], all_lengths, ap, arena_count, arena_line, arena_lines}
+use Rattle.xh_books.proofs.Common.{Entry, IsSumOver, Ledger, List, Ok, PartsOf, PenOf, PlaceSeen, RecordsOf, Refused, Result, TallyOf, VaultOf, [], all_lengths, ap, arena_count, arena_line, arena_lines}
 use Rattle.xh_books.proofs.Common.{arenas_of, arith, at, bytes_in_flight, bytes_owned, get_or-map, length, length-map, map, place_lines, places_of, refl, slice_index, subst, suc, sum_by}
 use Rattle.xh_books.proofs.Common.{sum_by-cons, sym, taken_of, vault_names, zero, ℕ, ∥∥₁_map, ◌+◌, ◌<◌, ◌∙◌, ◌∷◌, ◌≡◌}
-use Rattle.xh_glance.specs.Look.{LookOf}
+use Rattle.xh_history.specs.Histories.{LookOf}
 use Rattle.xh_kernel.specs.Finished.{AreInOrder, WereSeen, histories_of, tallies_of}
 use Rattle.xh_kernel.proofs.Compared.{kept_at}
 use Rattle.xh_books.proofs.Summing.{all_back_in_lines}
 use Rattle.xh_books.proofs.Sums.{all_back_is, all_taken_is, as_many_tallies}
 
 module _ (parts : PartsOf) where
-  kept_lawful : (places : List PlaceSeen) (pens : List Pens) → AreKept parts places pens → AreInOrder pens → AreLawful parts (histories_of pens)
+  kept_lawful : (places : List PlaceSeen) (pens : List (PenOf Entry)) → AreKept parts places pens → AreInOrder pens → AreLawful parts (histories_of pens)
   kept_lawful places pens kept in_order p below =
-      let inside : p < length pens = omega (arith, length-map pens (λ (own : Pens). own.history.history)) in
+      let inside : p < length pens = omega (arith, length-map pens (λ (own : PenOf Entry). own.history)) in
       let at_p = kept_at parts places pens kept p inside in let own = at_p.1 in
-      let number : own.history.number ≡ p = at_p.2.own.2 ∙ ap (λ (x : Pens). x.glances.number) (sym (at_p.3 own)) ∙ in_order.1 p own (omega (arith, inside, in_order.0)) in
-      let history : own.history.history ≡ at (histories_of pens) p = sym (get_or-map (λ (x : Pens). x.history.history) pens p own [] inside ∙ ap (λ (x : Pens). x.history.history) (at_p.3 own)) in
-      let lawful : IsLawfulHistory parts own.history.number own.history.history = ∥∥₁_map at_p.2.history (λ l. (own.glances.history, at_p.0, l)) in
-      subst (λ (k : ℕ). IsLawfulHistory parts k (at (histories_of pens) p)) number (subst (IsLawfulHistory parts own.history.number) history lawful)
+      let number : own.number ≡ p = ap (λ (x : PenOf Entry). x.number) (sym (at_p.3 own)) ∙ in_order.1 p own (omega (arith, inside, in_order.0)) in
+      let history : own.history ≡ at (histories_of pens) p = sym (get_or-map (λ (x : PenOf Entry). x.history) pens p own [] inside ∙ ap (λ (x : PenOf Entry). x.history) (at_p.3 own)) in
+      let lawful : IsLawfulHistory parts own.number own.history = ∥∥₁_map at_p.2.history (λ l. (at_p.0, l)) in
+      subst (λ (k : ℕ). IsLawfulHistory parts k (at (histories_of pens) p)) number (subst (IsLawfulHistory parts own.number) history lawful)
 
 -- ---- the lines of the arenas
 
@@ -38,7 +38,7 @@ lines_same xs ys e k (v ∷ vs) =
 
 -- its ledger, of accounts whose tallies are still those that were handed in
 pub is_closed : (parts : PartsOf) (own : RecordsOf) → own ≡ parts.records
-    → (places : List PlaceSeen) (vaults : List VaultOf) (all now_ : List AccountOf) (looks : List LookOf) (r : Result Books Refused)
+    → (places : List PlaceSeen) (vaults : List VaultOf) (all now_ : List AccountOf) (looks : List (LookOf Entry)) (r : Result Books Refused)
     → WereSeen parts places all looks → length all ≡ parts.workers → (vault_names vaults ≡ parts.records.shape.names) × All (IsOpen parts) vaults → tallies_of now_ ≡ tallies_of all
     → IfOk r (λ b. b.ledger.arenas.items ≡ arena_lines now_ 0 vaults) → IfOk r (λ b. b.ledger.places.items ≡ place_lines (places_of places))
     → IfOk r (λ b. b.ledger.owned ≡ bytes_owned (places_of places))
@@ -66,7 +66,7 @@ line_taken all k [] i h = absurd (omega arith)
 line_taken all k (v ∷ vs) zero h = let e : k ≡ k + 0 = omega arith in ap (λ j. sum_by (taken_of j) all) e
 line_taken all k (v ∷ vs) (suc i) h = let e : suc k + i ≡ k + suc i = omega arith in line_taken all (suc k) vs i (omega arith) ∙ ap (λ j. sum_by (taken_of j) all) e
 
-module _ (parts : PartsOf) (all : List AccountOf) (looks : List LookOf) (l : Ledger) (directions : List FlightLine) (c : IsClosed parts all looks l directions) (began : AllBegan parts all) where
+module _ (parts : PartsOf) (all : List AccountOf) (looks : List (LookOf Entry)) (l : Ledger) (directions : List FlightLine) (c : IsClosed parts all looks l directions) (began : AllBegan parts all) where
   worked : AllWorked parts (histories_of c.pens) all
   worked = (c.workers, began, c.seen.seen, kept_lawful parts c.places c.pens c.kept c.seen.in_order)
 

@@ -2,13 +2,11 @@
 use Rattle.std.specs.Prelude.{◌≡◌, List, All, length, map, slice_index}
 use Rattle.std.specs.List.{sum_by}
 use Rattle.xh_arena.specs.Views.{VaultOf}
+use Rattle.xh_calls.specs.declared.call.Entry.{Entry}
 use Rattle.xh_calls.specs.Parts.{IsOpen, PartsOf, vault_names}
 use Rattle.xh_core.specs.declared.flight.FlightLine.{FlightLine}
 use Rattle.xh_core.specs.declared.ledger.Ledger.{Ledger}
-use Rattle.xh_glance.specs.Look.{LookOf}
-use Rattle.xh_history.specs.Histories.{History}
-use Rattle.xh_kernel.specs.declared.call.Call.{Call}
-use Rattle.xh_kernel.specs.declared.scribe.Pens.{Pens}
+use Rattle.xh_history.specs.Histories.{History, LookOf, PenOf}
 use Rattle.xh_kernel.specs.Accounts.{AccountOf}
 use Rattle.xh_kernel.specs.Finished.{HaveSeen}
 use Rattle.xh_kernel.specs.Kept.{AreKept}
@@ -20,9 +18,9 @@ use Rattle.xh_books.specs.Sums.{EachArena, back_in, sum_of_all, taken_in}
 
 -- The locks of the kernel kept lawful histories of its places, each led to the place beside it, and these are all accounts and looks of the workers that made them. The ledger is of
 -- these places, of the kernel's vaults and of the accounts; the lines of directions are of these places and vaults.
-pub record IsClosed (parts : PartsOf) (accounts : List AccountOf) (looks : List LookOf) (l : Ledger) (directions : List FlightLine) : Type 0 where
+pub record IsClosed (parts : PartsOf) (accounts : List AccountOf) (looks : List (LookOf Entry)) (l : Ledger) (directions : List FlightLine) : Type 0 where
   pub places : List PlaceSeen
-  pub pens : List Pens
+  pub pens : List (PenOf Entry)
   pub vaults : List VaultOf
   pub kept : AreKept parts places pens
   pub workers : length accounts ≡ parts.workers
@@ -36,6 +34,6 @@ pub record IsClosed (parts : PartsOf) (accounts : List AccountOf) (looks : List 
   pub in_flight : IsInFlight parts.records.shape places (all_lengths (arenas_of vaults)) directions
 
 -- What the ledger says was taken of each arena is the sum of what all calls of the histories took there, and what came back of all arenas the sum of what came back by them.
-pub record IsSumOver (parts : PartsOf) (hs : List (History Call)) (l : Ledger) : Type 0 where
+pub record IsSumOver (parts : PartsOf) (hs : List (History Entry)) (l : Ledger) : Type 0 where
   pub taken : EachArena parts (λ i. slice_index (map (λ a. a.taken) l.arenas.items) i ≡ sum_of_all (taken_in i) hs)
   pub back : sum_by (λ a. a.back) l.arenas.items ≡ sum_of_all back_in hs

@@ -1,15 +1,16 @@
 -- What the calls of a worker took of the arenas and gave back, in its account and over the histories of the places.
-use Rattle.std.specs.Prelude.{◌≡◌, ◌==◌, ◌⊎◌, ℕ, zero, suc, ◌*◌, ◌/◌, ◌<◌, cond, List, length, slice_index_or, slice_set, Ok, MatchResult, All}
+use Rattle.std.specs.Prelude.{◌≡◌, ◌==◌, ◌⊎◌, ℕ, zero, suc, ◌*◌, ◌<◌, cond, List, length, slice_index_or, slice_set, Ok, All}
 use Rattle.std.specs.List.{sum_by}
 use Rattle.xh_calls.specs.Parts.{PartsOf}
 use Rattle.xh_history.specs.Histories.{HasSeen, History, at, calls_of}
-use Rattle.xh_kernel.specs.declared.call.Call.{Call}
-use Rattle.xh_kernel.specs.declared.call.Call.TheVariants as call
-use Rattle.xh_kernel.specs.Accounts.{AccountOf, HasBack, HasGiven, HasTaken, IsUnmoved, fresh}
+use Rattle.xh_calls.specs.declared.call.Call.{Call}
+use Rattle.xh_calls.specs.declared.call.Call.TheVariants as call
+use Rattle.xh_calls.specs.declared.call.Entry.{Entry}
+use Rattle.xh_kernel.specs.Accounts.{AccountOf, IsUnmoved, fresh}
 use Rattle.xh_kernel.specs.Finished.{AreSeen}
-use Rattle.xh_kernel.specs.Histories.{IsLawfulHistory, Made}
-use Rattle.xh_kernel.specs.Wires.{TakesEnds}
-use Rattle.xh_model.specs.declared.limits.TheConstants.{END_BYTES, MAX_RECORDS, PLACES}
+use Rattle.xh_kernel.specs.Calls.{Makes}
+use Rattle.xh_kernel.specs.Histories.{IsLawfulHistory}
+use Rattle.xh_model.specs.declared.limits.TheConstants.{END_BYTES, PLACES}
 
 -- ---- a call
 
@@ -29,46 +30,34 @@ back_in (call.Close p e bytes result) = bytes
 back_in (call.Stop p budget bytes result) = bytes
 back_in _ = 0
 
--- what a call's contract says of the tallies
-abbrev pub Moves : Call → AccountOf → AccountOf → Type 0
-Moves (call.Alloc p n a result) old new = MatchResult result (λ b. HasTaken a b.len old new) (λ _. IsUnmoved old new)
-Moves (call.Free p r result) old new = MatchResult result (λ n. HasGiven (r / MAX_RECORDS) n old new) (λ _. IsUnmoved old new)
-Moves (call.Open p a contract result) old new = TakesEnds a old new result
-Moves (call.OpenToward p a contract result) old new = TakesEnds a old new result
-Moves (call.Receive q r channel bytes result) old new = HasBack bytes old new
-Moves (call.CloseAgain p r channel bytes) old new = HasBack bytes old new
-Moves (call.Close p e bytes result) old new = HasBack bytes old new
-Moves (call.Stop p budget bytes result) old new = HasBack bytes old new
-Moves _ old new = IsUnmoved old new
-
 -- ---- a worker
 
 -- it made a call on a place
-abbrev pub MakesOne : PartsOf → AccountOf → AccountOf → Type 0
-MakesOne parts old new = (p : ℕ) × (e : Call) × (p < PLACES) × Made parts p e old.number old.fronts new.fronts × Moves e old new
+abbrev pub MakesOne : AccountOf → AccountOf → Type 0
+MakesOne old new = (p : ℕ) × (e : Call) × (p < PLACES) × Makes p e old new
 
 -- it saw what others had called on a place, as `Account::compare` shows
 abbrev pub SeesOthers : AccountOf → AccountOf → Type 0
-SeesOthers old new = (p : ℕ) × (h : History Call) × HasSeen old.number (at old.fronts p) h × IsUnmoved old new × (new.fronts ≡ slice_set old.fronts p h)
+SeesOthers old new = (p : ℕ) × (h : History Entry) × HasSeen old.number (at old.fronts p) h × IsUnmoved old new × (new.fronts ≡ slice_set old.fronts p h)
 
 -- its work: n of these, one after another
-abbrev pub Works : PartsOf → ℕ → AccountOf → AccountOf → Type 0
-Works parts zero old new = new ≡ old
-Works parts (suc n) old new = (mid : AccountOf) × Works parts n old mid × (MakesOne parts mid new ⊎ SeesOthers mid new)
+abbrev pub Works : ℕ → AccountOf → AccountOf → Type 0
+Works zero old new = new ≡ old
+Works (suc n) old new = (mid : AccountOf) × Works n old mid × (MakesOne mid new ⊎ SeesOthers mid new)
 
-abbrev pub Reaches : PartsOf → AccountOf → AccountOf → Type 0
-Reaches parts old new = (n : ℕ) × Works parts n old new
+abbrev pub Reaches : AccountOf → AccountOf → Type 0
+Reaches old new = (n : ℕ) × Works n old new
 
 -- what the contract of a call says is that it was some such work
-abbrev pub AreWork : PartsOf → (AccountOf → AccountOf → Type 0) → Type 0
-AreWork parts Contract = (old new : AccountOf) → Contract old new → Reaches parts old new
+abbrev pub AreWork : (AccountOf → AccountOf → Type 0) → Type 0
+AreWork Contract = (old new : AccountOf) → Contract old new → Reaches old new
 
 -- the worker k of a kernel of these parts began with a fresh account, and its work led to this one
 abbrev pub Began : PartsOf → ℕ → AccountOf → Type 0
-Began parts k a = Reaches parts (fresh parts.records.shape.names k) a
+Began parts k a = Reaches (fresh parts.records.shape.names k) a
 
 -- and to these histories
-abbrev pub Worked : PartsOf → List (History Call) → ℕ → AccountOf → Type 0
+abbrev pub Worked : PartsOf → List (History Entry) → ℕ → AccountOf → Type 0
 Worked parts hs k a = Began parts k a × AreSeen a hs
 
 -- each of these accounts began so, the k-th as that of the worker k
@@ -76,11 +65,11 @@ abbrev pub AllBegan : PartsOf → List AccountOf → Type 0
 AllBegan parts all = (k : ℕ) (d : AccountOf) → k < length all → Began parts k (slice_index_or all k d)
 
 -- the history of each place is lawful
-abbrev pub AreLawful : PartsOf → List (History Call) → Type 0
+abbrev pub AreLawful : PartsOf → List (History Entry) → Type 0
 AreLawful parts hs = (p : ℕ) → p < length hs → IsLawfulHistory parts p (at hs p)
 
 -- these are the accounts of all workers, in order, and they worked on these histories
-abbrev pub AllWorked : PartsOf → List (History Call) → List AccountOf → Type 0
+abbrev pub AllWorked : PartsOf → List (History Entry) → List AccountOf → Type 0
 AllWorked parts hs all = (length all ≡ parts.workers) × AllBegan parts all × All (λ a. AreSeen a hs) all × AreLawful parts hs
 
 -- ---- the sums
@@ -94,9 +83,9 @@ abbrev pub EachArena : PartsOf → (ℕ → Type 0) → Type 0
 EachArena parts P = (arena : ℕ) → arena < arena_count parts → P arena
 
 -- of what the calls of a worker moved
-abbrev pub sum_of : (Call → ℕ) → ℕ → List (History Call) → ℕ
-sum_of moved k = sum_by (λ h. sum_by moved (calls_of k h))
+abbrev pub sum_of : (Call → ℕ) → ℕ → List (History Entry) → ℕ
+sum_of moved k = sum_by (λ h. sum_by (λ e. moved e.call) (calls_of k h))
 
 -- of what all calls moved
-abbrev pub sum_of_all : (Call → ℕ) → List (History Call) → ℕ
-sum_of_all moved = sum_by (λ h. sum_by (λ c. moved c.1) h)
+abbrev pub sum_of_all : (Call → ℕ) → List (History Entry) → ℕ
+sum_of_all moved = sum_by (λ h. sum_by (λ c. moved c.1.call) h)

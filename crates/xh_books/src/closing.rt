@@ -21,8 +21,7 @@ use xh_arena::{Lot, Vault};
 use xh_core::{
     ARENA_LINES, ArenaLine, FLIGHT_LINES, FlightLine, Ledger, PLACE_LINES, PlaceLine, Refused,
 };
-use xh_glance::Look;
-use xh_kernel::{Account, Finished, Kernel, Names};
+use xh_kernel::{Account, Finished, Kernel, Look, Names};
 use xh_place::{Body, Place};
 use xh_records::Records;
 
@@ -128,7 +127,7 @@ pub fn close_kernel<N: Names>(
     looks: Vec<Look>,
 ) -> Result<Books, Refused>
     requires accounts { vec_len accounts ≡ N.parts.workers }
-    requires looks { All (λ l. l.glances ≡ N.parts.glances) looks.items }
+    requires looks { All (λ l. l.table ≡ N.parts.histories) looks.items }
     ensures closed { IfOk result (λ b. IsClosed N.parts accounts.items looks.items b.ledger b.flight.items) }
     ensures arenas { IfOk result (λ b. (length b.ledger.arenas.items ≡ length N.parts.records.shape.names) × All (λ a. a.size ≡ N.parts.size) b.ledger.arenas.items) }
     ensures places { IfOk result (λ b. All (λ line. line.place < PLACES) b.ledger.places.items) }

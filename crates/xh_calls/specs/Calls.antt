@@ -31,6 +31,12 @@ abbrev pub Spawns : PlaceOf → PlaceOf → Option ℕ → Type 0
 Spawns old new result = MatchOption result ((can_start old ≡ false) × (new ≡ old))
     (λ p. (can_start old ≡ true) × (new ≡ started old) × (p ≡ new.process))
 
+-- ---- a look
+
+-- whether the process runs there
+abbrev pub Looks : ℕ → PlaceOf → PlaceOf → Result (Unit {0}) Refused → Type 0
+Looks p old new result = (new ≡ old) × Tested (start p old) result (λ _. Unit {0})
+
 -- ---- alloc
 
 -- this is so of some lawful vault of the arena; that it is the one which the call found under its lock, the histories of the arenas say

@@ -1,4 +1,5 @@
 pub mod Parts
+pub mod Leading
 pub mod Tallies
 pub mod Vaults
 pub mod Places

@@ -11,14 +11,13 @@ use Rattle.xh_records.specs.Seats.{RecordsOf}
 
 -- the table of the records, whose shape has the names of the vaults in the order of their arenas; how many workers
 -- share each vault, the bytes of each, and how many it may ever hand out; how many messages may wait in a direction;
--- and the tables of the glances, of the histories of the places, and of those of the arenas
+-- and the tables of the histories of the places, and of those of the arenas
 pub record PartsOf : Type 0 where
   pub records : RecordsOf
   pub workers : ℕ
   pub size : ℕ
   pub wear : ℕ
   pub depth : ℕ
-  pub glances : TableId
   pub histories : TableId
   pub vaults : TableId
 
@@ -26,7 +25,7 @@ abbrev pub no_shape : Shape
 no_shape = record { records = 0; places = 0; names = [] }
 
 abbrev pub no_parts : PartsOf
-no_parts = record { records = record { table = no_table; shape = no_shape }; workers = 0; size = 0; wear = 0; depth = 0; glances = no_table; histories = no_table; vaults = no_table }
+no_parts = record { records = record { table = no_table; shape = no_shape }; workers = 0; size = 0; wear = 0; depth = 0; histories = no_table; vaults = no_table }
 
 -- the limits that a kernel's parts are made with
 pub record ArePartsLimits (config : Config) (workers : ℕ) : Type 0 where

@@ -11,7 +11,7 @@ use std::alloc::{AllocError, Global};
 use std::mem;
 use std::sync::{Mutex, Wait};
 use xh_arena::{Lot, Refused, Tally, Vault};
-use xh_history::{Front, Histories, Pen};
+use xh_history::{Front, Histories, Nothing, Pen};
 use xh_place::{Body, Vaults};
 
 /// One lock for each arena, on cache lines of its own, and how many arenas there are, how many bytes
@@ -20,7 +20,7 @@ use xh_place::{Body, Vaults};
 pub struct Arenas<N: Names> {
     pub(crate) count: u8,
     pub(crate) size: u32,
-    pub(crate) histories: Histories<Vault>,
+    pub(crate) histories: Histories<Vault, Nothing>,
     pub(crate) arena0: CachePadded<Mutex<Kept<N, 0>>>,
     pub(crate) arena1: CachePadded<Mutex<Kept<N, 1>>>,
     pub(crate) arena2: CachePadded<Mutex<Kept<N, 2>>>,
@@ -44,7 +44,7 @@ impl<N: Names> Arenas<N> {
     pub fn new(
         vaults: Vec<Vault>,
         size: u32,
-        histories: Histories<Vault>,
+        histories: Histories<Vault, Nothing>,
         pens: Vec<Pen<Vault>>,
     ) -> Arenas<N>
         requires sized { (size ≡ N.parts.size) × (size % UNIT ≡ 0) × (size ≤ MAX_BYTES) }

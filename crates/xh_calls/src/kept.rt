@@ -15,7 +15,7 @@ use std::marker::{Model, PhantomData};
 use std::sync::{Mutex, Wait};
 use std::vec::IntoIter;
 use xh_arena::{Lot, Refused, Tally, Vault};
-use xh_history::{Front, Histories, Pen};
+use xh_history::{Front, Histories, Nothing, Pen};
 use xh_place::Body;
 
 /// The vault of arena A, where the kernel has that arena, and the pen of its history.
@@ -98,7 +98,7 @@ impl<N: Names, const A: u8> Kept<N, A> {
     pub(crate) fn carve<R: Wait>(
         rt: &R,
         lock: &CachePadded<Mutex<Kept<N, A>>>,
-        histories: &Histories<Vault>,
+        histories: &Histories<Vault, Nothing>,
         front: &mut Front<Vault>,
         arena: u8,
         lot: &mut Lot<Body>,
@@ -123,7 +123,7 @@ impl<N: Names, const A: u8> Kept<N, A> {
             unreachable!()
         };
         let answer = vault.carve(lot, tally, n);
-        histories.add(&mut kept.pen, front, &*vault);
+        histories.add(&mut kept.pen, front, None, &*vault);
         answer
     }
 
@@ -131,7 +131,7 @@ impl<N: Names, const A: u8> Kept<N, A> {
     pub(crate) fn cut<R: Wait>(
         rt: &R,
         lock: &CachePadded<Mutex<Kept<N, A>>>,
-        histories: &Histories<Vault>,
+        histories: &Histories<Vault, Nothing>,
         front: &mut Front<Vault>,
         arena: u8,
         head: &mut Lot<Body>,
@@ -153,14 +153,14 @@ impl<N: Names, const A: u8> Kept<N, A> {
             unreachable!()
         };
         vault.cut(head, tail, k);
-        histories.add(&mut kept.pen, front, &*vault);
+        histories.add(&mut kept.pen, front, None, &*vault);
     }
 
     // As `Vault::give_back`, under the lock of the arena, which is A. The worker enters it in the arena's history.
     pub(crate) fn give_back<R: Wait>(
         rt: &R,
         lock: &CachePadded<Mutex<Kept<N, A>>>,
-        histories: &Histories<Vault>,
+        histories: &Histories<Vault, Nothing>,
         front: &mut Front<Vault>,
         arena: u8,
         lot: &mut Lot<Body>,
@@ -180,6 +180,6 @@ impl<N: Names, const A: u8> Kept<N, A> {
             unreachable!()
         };
         vault.give_back(lot, tally);
-        histories.add(&mut kept.pen, front, &*vault);
+        histories.add(&mut kept.pen, front, None, &*vault);
     }
 }

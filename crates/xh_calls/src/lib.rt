@@ -33,6 +33,7 @@ macro_rules! at_desk {
 
 mod arenas;
 mod blocks;
+mod call;
 mod channels;
 mod endings;
 mod heap;
@@ -46,6 +47,7 @@ mod till;
 mod wired;
 
 pub use arenas::Arenas;
+pub use call::{Call, Entry};
 pub use heap::Heap;
 pub use making::{Bundle, Makings, make_vaults};
 pub use names::Names;

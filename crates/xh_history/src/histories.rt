@@ -1,12 +1,15 @@
 //! The table of histories.
-ghost use Rattle.std.specs.Prelude.{◌≡◌, ◌<◌, ◌∷◌, [], ◌++◌, ◌+◌, ℕ, IfOk, vec_len, slice_index_or, slice_set};
-ghost use Rattle.xh_history.specs.Histories.{FrontOf, HasSeen, PenOf, at, fresh_front, fresh_pen};
-ghost use Rattle.xh_history.specs.inner.Views.{signed, view_from};
+ghost use Rattle.std.specs.Prelude.{◌≡◌, ◌<◌, ◌∷◌, [], ◌++◌, ◌+◌, ◌*◌, All, ℕ, IfOk, vec_len, slice_index_or, slice_set, unwrap_or};
+ghost use Rattle.xh_history.specs.Histories.{FrontOf, HasSeen, PenOf, Sees, Shown, StartsWith, at, fresh_front, fresh_look, fresh_pen};
+ghost use Rattle.xh_history.specs.inner.Views.{place_of, signed, stride, view_from};
 ghost use Rattle.xh_model.specs.declared.limits.TheConstants.{PLACES};
 
 use crate::front::Front;
+use crate::look::Look;
 use crate::pen::Pen;
-use crate::steps::{Adds, FirstPlace, FirstWorker, OneHistory, Says, TakesIn};
+use crate::steps::{
+    Adds, Compares, FirstPlace, FirstWorker, Looks, OneHistory, Onlooker, Says, Shows, TakesIn,
+};
 use crate::view::View;
 use atomic_table::{Badge, Seat, Table};
 use std::alloc::{AllocError, Global};
@@ -14,37 +17,83 @@ use std::marker::{Brand, Model};
 use std::mem;
 use xh_model::limits::PLACES;
 
-/// The one history of each place. Its calls are of a type of which no value is made.
-#[derive(Drop)]
-pub struct Histories<E> {
-    table: Table<(), View<E>, (), OneHistory, Global>,
+/// How many words lie from one place's word to the next's: those of a cache line, so that threads
+/// that store the words of their places don't wait for each other.
+const STRIDE: usize = 8;
+
+// The word of a place.
+fn word_at(place: u8) -> usize
+    requires { place < PLACES }
+    ensures word { result ≡ stride * place }
+    ensures place { place_of result ≡ place }
+{
+    usize::from(place) * STRIDE
 }
 
-impl<E> Model for Histories<E> {
+/// The one history of each place, and the word that shows its last call. Its calls are of a type of which no value
+/// is made.
+#[derive(Drop)]
+pub struct Histories<E, S: Shows<E>> {
+    table: Table<(), View<E>, (), OneHistory<S>, Global>,
+}
+
+impl<E, S: Shows<E>> Model for Histories<E, S> {
     ghost use Rattle.std.specs.Prelude.{◌≡◌};
     ghost use Rattle.atomic_table.specs.Seated.{TableId};
+    ghost use Rattle.xh_history.specs.inner.Views.{all_words};
 
     ghost Value = { TableId };
 
     ghost view = { λ h. h.table.shared.table_id };
 
-    ghost invariant = { λ h. h.table.shared.table_id.words ≡ 1 };
+    ghost invariant = { λ h. h.table.shared.table_id.words ≡ all_words };
 }
 
-impl<E> Histories<E> {
-    /// Empty histories: the pen of each place, and the fronts of so many workers.
+impl<E, S: Shows<E>> Histories<E, S> {
+    /// Empty histories: the pen of each place, the fronts of so many workers, and so many looks.
     pub fn new(
         alloc: Global,
         workers: u8,
-    ) -> Result<(Histories<E>, Vec<Pen<E>>, Vec<Front<E>>), AllocError>
+        looks: u8,
+    ) -> Result<(Histories<E, S>, Vec<Pen<E>>, Vec<Front<E>>, Vec<Look<E>>), AllocError>
         ensures pens { IfOk result (λ r. (vec_len r.1 ≡ PLACES) × ((k : ℕ) (d : PenOf E) → k < PLACES → slice_index_or r.1.items k d ≡ fresh_pen r.0 k)) }
         ensures fronts { IfOk result (λ r. (vec_len r.2 ≡ workers) × ((k : ℕ) (d : FrontOf E) → k < workers → slice_index_or r.2.items k d ≡ fresh_front r.0 k)) }
+        ensures looks { IfOk result (λ r. (vec_len r.3 ≡ looks) × All (λ l. l ≡ fresh_look r.0) r.3.items) }
     {
-        let (table, mut first) = Table::of_words(alloc, &[0], &())?;
+        let (table, mut first) = Table::of_words(alloc, &[0; PLACES as usize * STRIDE], &())?;
         let histories = Histories { table };
+        let looks = histories.looks(alloc, &mut first, looks)?;
         let fronts = histories.fronts(alloc, &mut first, workers)?;
         let pens = histories.pens(alloc, first, workers)?;
-        Ok((histories, pens, fronts))
+        Ok((histories, pens, fronts, looks))
+    }
+
+    #[tactic(auto, using(crate::proofs::Keeping::onlooks))]
+    fn next_look(&self, first: &mut Seat<(), View<E>>) -> Look<E>
+        requires { (first.old.table_id ≡ self.now) × (first.old.me.0 ≡ view_from 0 0) }
+        ensures same { (first.new.table_id ≡ self.now) × (first.new.me.0 ≡ view_from 0 0) }
+        ensures look { result ≡ fresh_look self.now }
+    {
+        Look {
+            seat: self.table.shared.split_seat::<Onlooker>(first),
+        }
+    }
+
+    fn looks(
+        &self,
+        alloc: Global,
+        first: &mut Seat<(), View<E>>,
+        count: u8,
+    ) -> Result<Vec<Look<E>>, AllocError>
+        requires { (first.old.table_id ≡ self.now) × (first.old.me.0 ≡ view_from 0 0) }
+        ensures same { IfOk result (λ _. (first.new.table_id ≡ self.now) × (first.new.me.0 ≡ view_from 0 0)) }
+        ensures looks { IfOk result (λ v. (vec_len v ≡ count) × All (λ l. l ≡ fresh_look self.now) v.items) }
+    {
+        let mut looks = Vec::with_capacity(alloc, usize::from(count))?;
+        for _ in 0..count {
+            looks.push(self.next_look(first))?;
+        }
+        Ok(looks)
     }
 
     // The first seat has the workers from the number on.
@@ -86,6 +135,7 @@ impl<E> Histories<E> {
     {
         Pen {
             seat: self.table.shared.split_seat::<FirstPlace>(first),
+            number,
         }
     }
 
@@ -105,12 +155,15 @@ impl<E> Histories<E> {
         Ok(pens)
     }
 
-    // The worker adds these calls, and sees the place's history to its end.
+    // The worker adds these calls, and sees the place's history to its end. The place's word becomes this one, or
+    // stays.
     #[inline(always)]
     #[tactic(auto, using(crate::proofs::Keeping::joins, crate::proofs::Keeping::worker_splits))]
-    fn step<S: Says<E>>(&self, pen: &mut Pen<E>, front: &mut Front<E>)
-        requires { (pen.old.table ≡ self.now) × (front.old.table ≡ self.now) }
-        ensures pen { pen.new ≡ record pen.old { history = pen.old.history ++ signed front.old.number S.calls } }
+    fn step<C: Says<E>>(&self, pen: &mut Pen<E>, front: &mut Front<E>, word: Option<u64>)
+        requires tables { (pen.old.table ≡ self.now) × (front.old.table ≡ self.now) }
+        requires shown { (n : ℕ) → Shown S.shows pen.old.number pen.old.history n
+            → Shown S.shows pen.old.number (pen.old.history ++ signed front.old.number C.calls) (unwrap_or word n) }
+        ensures pen { pen.new ≡ record pen.old { history = pen.old.history ++ signed front.old.number C.calls } }
         ensures front { front.new ≡ record front.old { fronts = slice_set front.old.fronts pen.old.number pen.new.history } }
         ensures seen { HasSeen front.old.number (at front.old.fronts pen.old.number) pen.old.history }
         ensures whole { at front.new.fronts pen.new.number ≡ pen.new.history }
@@ -118,7 +171,13 @@ impl<E> Histories<E> {
         let shared = &self.table.shared;
         let badge = mem::replace(&mut front.badge, Badge::blank());
         shared.join_seat::<TakesIn>(&mut pen.seat, badge.into_seat());
-        shared.load::<Adds<S>>(&mut pen.seat, 0);
+        let index = word_at(pen.number);
+        match word {
+            Some(word) => shared.store::<Adds<C>>(&mut pen.seat, index, word),
+            None => {
+                shared.load::<Adds<C>>(&mut pen.seat, index);
+            }
+        }
         front.badge = shared.split_seat::<FirstWorker>(&mut pen.seat).into_badge();
     }
 
@@ -131,20 +190,45 @@ impl<E> Histories<E> {
         ensures seen { HasSeen front.old.number (at front.old.fronts pen.old.number) pen.old.history }
         ensures whole { at front.new.fronts pen.new.number ≡ pen.new.history }
     {
-        self.step::<Brand>(pen, front);
+        self.step::<Brand>(pen, front, None);
     }
 
-    /// One more call on the pen's place, which the worker made. Which call it is the caller's proof says,
-    /// by what is shown here. It is inlined, so that what is shown need not lie in memory.
+    /// One more call on the pen's place, which the worker made. The place's word becomes this one; with none it stays.
+    /// Which call it is the caller's proof says, by what is shown here. It is inlined, so that what is shown need
+    /// not lie in memory.
     #[inline(always)]
-    pub fn add<A>(&self, pen: &mut Pen<E>, front: &mut Front<E>, _about: &A)
+    pub fn add<A>(&self, pen: &mut Pen<E>, front: &mut Front<E>, word: Option<u64>, _about: &A)
         ghost call: { E }
-        requires { (pen.old.table ≡ self.now) × (front.old.table ≡ self.now) }
+        requires tables { (pen.old.table ≡ self.now) × (front.old.table ≡ self.now) }
+        requires shown { (n : ℕ) → Shown S.shows pen.old.number pen.old.history n → S.shows pen.old.number (unwrap_or word n) call }
         ensures pen { pen.new ≡ record pen.old { history = pen.old.history ++ (front.old.number, call) ∷ [] } }
         ensures front { front.new ≡ record front.old { fronts = slice_set front.old.fronts pen.old.number pen.new.history } }
         ensures seen { HasSeen front.old.number (at front.old.fronts pen.old.number) pen.old.history }
         ensures whole { at front.new.fronts pen.new.number ≡ pen.new.history }
     {
-        self.step::<Brand>(pen, front);
+        self.step::<Brand>(pen, front, word);
+    }
+
+    /// The place's word, which shows the last call of its history.
+    pub fn look(&self, look: &mut Look<E>, place: u8) -> u64
+        requires { (look.old.table ≡ self.now) × (place < PLACES) }
+        ensures same { look.new.table ≡ look.old.table }
+        ensures seen { Sees S.shows look.old.fronts place result look.new.fronts }
+    {
+        self.table
+            .shared
+            .load::<Looks<S>>(&mut look.seat, word_at(place))
+    }
+
+    /// Shows that what the look has seen of the pen's place is a beginning of the place's one history.
+    pub fn compare_look(&self, pen: &mut Pen<E>, look: &mut Look<E>)
+        requires { (pen.old.table ≡ self.now) × (look.old.table ≡ self.now) }
+        ensures same { (pen.new ≡ pen.old) × (look.new ≡ look.old) }
+        ensures begins { StartsWith pen.old.history (at look.old.fronts pen.old.number) }
+    {
+        let shared = &self.table.shared;
+        let seen = shared.split_seat::<Onlooker>(&mut look.seat);
+        shared.join_seat::<TakesIn>(&mut pen.seat, seen);
+        shared.load::<Compares>(&mut pen.seat, word_at(pen.number));
     }
 }

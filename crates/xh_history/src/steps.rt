@@ -3,12 +3,29 @@ use crate::view::View;
 use atomic_table::{Join, Play, Split, TableRule};
 use std::marker::{Brand, PhantomData};
 
-pub struct OneHistory;
+/// Which word of a place shows a call of its history.
+pub trait Shows<E> {
+    ghost use Rattle.std.specs.Prelude.{ℕ};
 
-impl<E> TableRule<(), View<E>, ()> for OneHistory {
+    /// `shows p n e`: the word `n` of the place `p` shows the call `e`.
+    ghost shows: { ℕ → ℕ → E → Type 0 };
+}
+
+/// Each word does: nobody looks.
+pub struct Nothing;
+
+impl<E> Shows<E> for Nothing {
+    ghost shows = { λ _ _ _. Unit {0} };
+}
+
+pub struct OneHistory<S> {
+    shows: PhantomData<S>,
+}
+
+impl<E, S: Shows<E>> TableRule<(), View<E>, ()> for OneHistory<S> {
     ghost use Rattle.xh_history.specs.inner.Views.{IsKept, first_view};
 
-    ghost holds = { λ _ s. IsKept s };
+    ghost holds = { λ _ s. IsKept S.shows s };
 
     ghost first = { λ _. first_view };
 }
@@ -35,7 +52,18 @@ impl<E> Split<View<E>> for FirstWorker {
     ghost right = { worker_alone };
 }
 
-/// The seat of a place takes in that of a worker.
+/// The new seat adds nothing, and has seen as much.
+pub struct Onlooker;
+
+impl<E> Split<View<E>> for Onlooker {
+    ghost use Rattle.xh_history.specs.inner.Views.{onlooker};
+
+    ghost left = { λ v. v };
+
+    ghost right = { onlooker };
+}
+
+/// The seat of a place takes in that of a worker, or what a look has seen.
 pub struct TakesIn;
 
 impl<E> Join<View<E>> for TakesIn {
@@ -60,12 +88,32 @@ impl<E> Says<E> for Brand {
 }
 
 /// The worker adds these calls to the history of the place, of which it had seen a beginning.
-pub struct Adds<S> {
-    says: PhantomData<S>,
+pub struct Adds<C> {
+    says: PhantomData<C>,
 }
 
-impl<E, S: Says<E>> Play<(), View<E>> for Adds<S> {
+impl<E, C: Says<E>> Play<(), View<E>> for Adds<C> {
     ghost use Rattle.xh_history.specs.inner.Views.{Added};
 
-    ghost then = { Added S.calls };
+    ghost then = { Added C.calls };
+}
+
+/// A place's history is seen to its end.
+pub struct Looks<S> {
+    shows: PhantomData<S>,
+}
+
+impl<E, S: Shows<E>> Play<(), View<E>> for Looks<S> {
+    ghost use Rattle.xh_history.specs.inner.Views.{Looked};
+
+    ghost then = { Looked S.shows };
+}
+
+/// Nothing changes. What was taken in is a beginning of the history.
+pub struct Compares;
+
+impl<E> Play<(), View<E>> for Compares {
+    ghost use Rattle.xh_history.specs.inner.Views.{Compared};
+
+    ghost then = { Compared };
 }

@@ -1,32 +1,35 @@
 -- Comparing what workers have seen with the pens of the places, place by place and worker by worker.
-use Rattle.xh_kernel.proofs.Common.{AccountOf, All, AreInOrder, AreKept, AreOwn, Call, IsKept, IsUnmoved, List, PartsOf, Pens, PlaceSeen, [], ap, arith, get_or, get_or-map, get_or-set_other}
+use Rattle.xh_kernel.proofs.Common.{AccountOf, All, AreInOrder, AreKept, Entry, IsKept, IsUnmoved, List, PartsOf, PenOf, PlaceSeen, [], ap, arith, get_or, get_or-map, get_or-set_other}
 use Rattle.xh_kernel.proofs.Common.{histories_of, length, map-set, refl, set, set-get_or, slice_set, subst, suc, sym, tallies_of, zero, ℕ, ◌+◌, ◌<◌, ◌∙◌, ◌∷◌, ◌≡◌, ◌≤◌}
 use borrow.Author.Count.{below_more}
 use Rattle.xh_history.specs.Histories.{HasSeen, History, at}
 
--- the pens of a place, and what they know, by its number
-pub pens_at : (parts : PartsOf) (pens : List Pens) → All (AreOwn parts) pens → AreInOrder pens → (k : ℕ) (d : Pens) → k < length pens
-    → ((get_or pens k d).history.number ≡ k) × ((get_or pens k d).history.history ≡ at (histories_of pens) k)
-pens_at parts pens own in_order k d h =
-    ((own k d h).2 ∙ in_order.1 k d (omega (arith, h, in_order.0)), sym (get_or-map (λ (p : Pens). p.history.history) pens k d [] h))
+-- the pen is of these parts
+abbrev Own : PartsOf → PenOf Entry → Type 0
+Own parts p = p.table ≡ parts.histories
+
+-- the pen of a place, and what it knows, by the place's number
+pub pens_at : (pens : List (PenOf Entry)) → AreInOrder pens → (k : ℕ) (d : PenOf Entry) → k < length pens
+    → ((get_or pens k d).number ≡ k) × ((get_or pens k d).history ≡ at (histories_of pens) k)
+pens_at pens in_order k d h = (in_order.1 k d (omega (arith, h, in_order.0)), sym (get_or-map (λ (p : PenOf Entry). p.history) pens k d [] h))
 
 -- ---- an account
 
 -- it was compared with the first k places
-pub record SeenSoFar (hs : List (History Call)) (old now_ : AccountOf) (k : ℕ) : Type 0 where
+pub record SeenSoFar (hs : List (History Entry)) (old now_ : AccountOf) (k : ℕ) : Type 0 where
   pub unmoved : IsUnmoved old now_
   pub seen : (p : ℕ) → p < k → HasSeen old.number (at old.fronts p) (at hs p)
   pub rest : (p : ℕ) → k ≤ p → at now_.fronts p ≡ at old.fronts p
 
-pub one_seen : (hs : List (History Call)) (old now_ new : AccountOf) (k n : ℕ) (h : History Call) → SeenSoFar hs old now_ k → n ≡ k → h ≡ at hs k → HasSeen now_.number (at now_.fronts n) h
+pub one_seen : (hs : List (History Entry)) (old now_ new : AccountOf) (k n : ℕ) (h : History Entry) → SeenSoFar hs old now_ k → n ≡ k → h ≡ at hs k → HasSeen now_.number (at now_.fronts n) h
     → IsUnmoved now_ new × (new.fronts ≡ slice_set now_.fronts n h) → SeenSoFar hs old new (k + 1)
 one_seen hs old now_ new k n h s same is seen m =
     let before : at now_.fronts n ≡ at old.fronts k = ap (at now_.fronts) same ∙ s.rest k (omega arith) in
     let here : HasSeen old.number (at old.fronts k) (at hs k) =
-    subst (HasSeen old.number (at old.fronts k)) is (subst (λ (j : ℕ). HasSeen j (at old.fronts k) h) s.unmoved.0 (subst (λ (f : History Call). HasSeen now_.number f h) before seen)) in record {
+    subst (HasSeen old.number (at old.fronts k)) is (subst (λ (j : ℕ). HasSeen j (at old.fronts k) h) s.unmoved.0 (subst (λ (f : History Entry). HasSeen now_.number f h) before seen)) in record {
       unmoved = (m.0.0 ∙ s.unmoved.0, m.0.1 ∙ s.unmoved.1);
       seen = below_more (λ p. HasSeen old.number (at old.fronts p) (at hs p)) k s.seen here;
-      rest = λ p le. ap (λ (fs : List (History Call)). at fs p) m.1 ∙ get_or-set_other now_.fronts n p h [] (λ e. omega (arith, e, same, le)) ∙ s.rest p (omega arith);
+      rest = λ p le. ap (λ (fs : List (History Entry)). at fs p) m.1 ∙ get_or-set_other now_.fronts n p h [] (λ e. omega (arith, e, same, le)) ∙ s.rest p (omega arith);
     }
 
 -- ---- all accounts
@@ -41,13 +44,13 @@ same_tallies all k d a e =
 
 module _ (parts : PartsOf) where
   -- some pens, the place beside them, and where they stand
-  pub kept_at : (places : List PlaceSeen) (pens : List Pens) → AreKept parts places pens → (k : ℕ) → k < length pens
-      → (p : PlaceSeen) × (own : Pens) × IsKept parts p own × ((d : Pens) → get_or pens k d ≡ own)
+  pub kept_at : (places : List PlaceSeen) (pens : List (PenOf Entry)) → AreKept parts places pens → (k : ℕ) → k < length pens
+      → (p : PlaceSeen) × (own : PenOf Entry) × IsKept parts p own × ((d : PenOf Entry) → get_or pens k d ≡ own)
   kept_at [] [] kept k h = absurd (omega arith)
   kept_at [] (own ∷ pens) kept k h = absurd kept
   kept_at (p ∷ places) [] kept k h = absurd (omega arith)
   kept_at (p ∷ places) (own ∷ pens) kept zero h = (p, own, kept.0, λ d. refl)
   kept_at (p ∷ places) (own ∷ pens) kept (suc k) h = kept_at places pens kept.1 k (omega arith)
 
-  pub kept_own : (places : List PlaceSeen) (pens : List Pens) → AreKept parts places pens → All (AreOwn parts) pens
-  kept_own places pens kept k d h = let at_k = kept_at places pens kept k h in subst (AreOwn parts) (sym (at_k.3 d)) at_k.2.own
+  pub kept_own : (places : List PlaceSeen) (pens : List (PenOf Entry)) → AreKept parts places pens → All (Own parts) pens
+  kept_own places pens kept k d h = let at_k = kept_at places pens kept k h in subst (Own parts) (sym (at_k.3 d)) at_k.2.own

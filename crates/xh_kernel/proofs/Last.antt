@@ -1,32 +1,37 @@
--- The last entry of a history, once it was told; and what is kept of each place.
-use Rattle.xh_kernel.proofs.Common.{All, All-cons, AreKept, AreOf, Call, Glance, IsHistoryOf, IsKept, IsPlaceOf, IsUnused, List, PartsOf, PenOf, Pens, PlaceSeen, Some, [], ap, arith, fresh_pen}
-use Rattle.xh_kernel.proofs.Common.{last_of, places_of, refl, subst, sym, ℕ, ◌++◌, ◌∙◌, ◌∷◌, ◌≡◌}
-use Rattle.xh_history.specs.Histories as histories
-use Rattle.xh_records.proofs.History.{starts_itself}
+-- The last call of a history, by its word; and what is kept of each place.
+use Rattle.xh_kernel.proofs.Common.{All, All-cons, AreKept, Entry, Glance, IsHistoryOf, IsKept, IsPlaceOf, IsUnused, List, PartsOf, PenOf, PlaceSeen, Some, [], add-zero, ap, arith, fresh_pen}
+use Rattle.xh_kernel.proofs.Common.{last_glance, last_of, places_of, refl, starts_itself, subst, sym, ℕ, ◌++◌, ◌∙◌, ◌∷◌, ◌≡◌}
+use Rattle.std.specs.Prelude.{MatchOption, None, Option, option_map, unwrap_or}
+use Rattle.xh_core.specs.declared.status.Status.TheVariants.{Vacant}
+use Rattle.xh_history.specs.Histories.{History, Shown}
+use Rattle.xh_history.proofs.Keeping.{last_push}
+use Rattle.xh_kernel.specs.Words.{shows, unpacked, vacant}
 
-last_push : {A : Type 0} (xs : List A) (x : A) → last_of (xs ++ x ∷ []) ≡ Some x
-last_push [] x = refl
-last_push (y ∷ []) x = refl
-last_push (y ∷ z ∷ zs) x = last_push (z ∷ zs) x
+-- what the word shows
+pub shown_last : (k : ℕ) (h : History Entry) (n : ℕ) → Shown shows k h n → last_glance k h ≡ unpacked k n
+shown_last k h n = go (last_of h) where
+  go : (o : Option (ℕ × Entry)) → MatchOption o (n ≡ 0) (λ c. shows k n c.1) → unwrap_or (option_map (λ c. c.1.glance) o) (vacant k) ≡ unpacked k n
+  go None none = (λ i. let g : Glance = record { process = sym (add-zero k) i; state = Vacant; blocks = 0; bytes = 0 } in g) ∙ ap (unpacked k) (sym none)
+  go (Some c) is = sym is
 
-pub told : (pen new : PenOf) (g h : Glance) → new ≡ record pen { history = pen.history ++ g ∷ [] } → g ≡ h → last_of new.history ≡ Some h
-told pen new g h e same = ap (λ (p : PenOf). last_of p.history) e ∙ last_push pen.history g ∙ ap Some same
+-- the last call's glance
+pub glance_push : (k : ℕ) (h : History Entry) (n : ℕ) (e : Entry) → last_glance k (h ++ (n, e) ∷ []) ≡ e.glance
+glance_push k h n e = ap (λ (o : Option (ℕ × Entry)). unwrap_or (option_map (λ c. c.1.glance) o) (vacant k)) (last_push shows h (n, e))
 
 -- a place that nobody has had yet, whose history has no call
-pub history_first : (parts : PartsOf) (p : PlaceSeen) (pens : Pens) (k : ℕ) → IsUnused parts k p.place → pens.glances ≡ fresh_pen parts.glances k
-    → pens.history ≡ histories.fresh_pen parts.histories k → AreOf parts pens p
-history_first parts p pens k unused glances history =
-    let first : IsHistoryOf parts k [] (fresh_pen parts.glances k).history p = ∣ (p, [], unused, refl, ((refl, starts_itself p.front), refl)) ∣₁ in
-    subst (λ (z : histories.PenOf Call). IsHistoryOf parts z.number z.history pens.glances.history p) (sym history) (subst (λ (z : PenOf). IsHistoryOf parts k [] z.history p) (sym glances) first)
+pub history_first : (parts : PartsOf) (p : PlaceSeen) (pen : PenOf Entry) (k : ℕ) → IsUnused parts k p.place → pen ≡ fresh_pen parts.histories k → IsHistoryOf parts pen.number pen.history p
+history_first parts p pen k unused is =
+    let first : IsHistoryOf parts k [] p = ∣ (p, unused, (refl, starts_itself p.front)) ∣₁ in subst (λ (z : PenOf Entry). IsHistoryOf parts z.number z.history p) (sym is) first
 
--- one place more, and its pens
-pub kept_push : (parts : PartsOf) (ps : List PlaceSeen) (all : List Pens) (p : PlaceSeen) (pens : Pens) → AreKept parts ps all → IsKept parts p pens → AreKept parts (ps ++ p ∷ []) (all ++ pens ∷ [])
-kept_push parts [] [] p pens are is = (is, tt)
-kept_push parts [] (q ∷ all) p pens are is = absurd are
-kept_push parts (x ∷ ps) [] p pens are is = absurd are
-kept_push parts (x ∷ ps) (q ∷ all) p pens are is = (are.0, kept_push parts ps all p pens are.1 is)
+-- one place more, and its pen
+pub kept_push : (parts : PartsOf) (ps : List PlaceSeen) (all : List (PenOf Entry)) (p : PlaceSeen) (pen : PenOf Entry) → AreKept parts ps all → IsKept parts p pen
+    → AreKept parts (ps ++ p ∷ []) (all ++ pen ∷ [])
+kept_push parts [] [] p pen are is = (is, tt)
+kept_push parts [] (q ∷ all) p pen are is = absurd are
+kept_push parts (x ∷ ps) [] p pen are is = absurd are
+kept_push parts (x ∷ ps) (q ∷ all) p pen are is = (are.0, kept_push parts ps all p pen are.1 is)
 
-pub kept_named : (parts : PartsOf) (ps : List PlaceSeen) (all : List Pens) → AreKept parts ps all → All (IsPlaceOf parts.records) (places_of ps)
+pub kept_named : (parts : PartsOf) (ps : List PlaceSeen) (all : List (PenOf Entry)) → AreKept parts ps all → All (IsPlaceOf parts.records) (places_of ps)
 kept_named parts [] all are = λ k d below. absurd (omega (arith, below))
 kept_named parts (p ∷ ps) [] are = absurd are
-kept_named parts (p ∷ ps) (pens ∷ all) are = All-cons (IsPlaceOf parts.records) p.place (places_of ps) are.0.found.0 (kept_named parts ps all are.1)
+kept_named parts (p ∷ ps) (pen ∷ all) are = All-cons (IsPlaceOf parts.records) p.place (places_of ps) are.0.found.0 (kept_named parts ps all are.1)

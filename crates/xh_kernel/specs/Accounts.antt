@@ -1,5 +1,5 @@
 -- What contracts see of an account, and what calls do to it.
-use Rattle.std.specs.Prelude.{◌≡◌, ℕ, ◌<◌, List, [], map, replicate, slice_index_or, length, Option, Some, None, Result, IfErr}
+use Rattle.std.specs.Prelude.{◌≡◌, ℕ, ◌*◌, ◌<◌, List, [], map, replicate, slice_index_or, length, Option, Some, None, Result, IfErr, MatchResult}
 use Rattle.atomic_table.specs.Seated.{TableId}
 use Rattle.xh_arena.specs.Views.{TallyOf, VaultOf}
 use Rattle.xh_calls.specs.Parts.{PartsOf}
@@ -7,8 +7,8 @@ use Rattle.xh_calls.specs.Tallies.{fresh_tally}
 use Rattle.xh_calls.specs.Vaults.{AsksVault}
 use Rattle.xh_core.specs.declared.refused.Refused.{Refused}
 use Rattle.xh_history.specs.Histories.{FrontOf, History}
-use Rattle.xh_kernel.specs.declared.call.Call.{Call}
-use Rattle.xh_model.specs.declared.limits.TheConstants.{PLACES}
+use Rattle.xh_calls.specs.declared.call.Entry.{Entry}
+use Rattle.xh_model.specs.declared.limits.TheConstants.{END_BYTES, PLACES}
 use Rattle.xh_place.specs.Ending.{HasGivenBack}
 use Rattle.xh_place.specs.Tallies.{took, gave}
 
@@ -17,7 +17,7 @@ use Rattle.xh_place.specs.Tallies.{took, gave}
 pub record AccountOf : Type 0 where
   pub number : ℕ
   pub tallies : List TallyOf
-  pub fronts : List (History Call)
+  pub fronts : List (History Entry)
   pub signs : ℕ
   pub vaults : List (History VaultOf)
 
@@ -42,6 +42,10 @@ HasGiven arena n old new = (new.number ≡ old.number) × (new.tallies ≡ gave 
 abbrev pub HasBack : ℕ → AccountOf → AccountOf → Type 0
 HasBack bytes old new = (new.number ≡ old.number) × HasGivenBack bytes old.tallies new.tallies
 
+-- where both ends of a channel came 64 bytes of the arena were taken
+abbrev pub TakesEnds : ℕ → AccountOf → AccountOf → {A : Type 0} → Result A Refused → Type 0
+TakesEnds arena old new result = MatchResult result (λ _. HasTaken arena (2 * END_BYTES) old new) (λ _. IsUnmoved old new)
+
 -- the account of the worker k, with nothing taken and nothing seen, over vaults of these names
 abbrev pub fresh : List TableId → ℕ → AccountOf
 fresh zs k = record { number = k; tallies = map (fresh_tally k) zs; fronts = replicate PLACES []; signs = k; vaults = replicate PLACES [] }
@@ -55,5 +59,5 @@ abbrev pub seen_of : PartsOf → AccountOf → FrontOf VaultOf
 seen_of parts a = record { table = parts.vaults; number = a.signs; fronts = a.vaults }
 
 -- where the answer was NoSpace or Worn, the vault of the arena refused n bytes for this reason when this call asked it
-abbrev pub Asked : PartsOf → ℕ → ℕ → AccountOf → AccountOf → {A : Type 0} → Result A Refused → Type 0
-Asked parts arena n old new result = IfErr result (AsksVault parts arena n (seen_of parts old) (seen_of parts new))
+abbrev pub VaultRefuses : PartsOf → ℕ → ℕ → AccountOf → AccountOf → {A : Type 0} → Result A Refused → Type 0
+VaultRefuses parts arena n old new result = IfErr result (AsksVault parts arena n (seen_of parts old) (seen_of parts new))

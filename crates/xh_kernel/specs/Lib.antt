@@ -1,7 +1,10 @@
+pub mod Words
 pub mod Accounts
 pub mod Places
 pub mod Histories
+pub mod Calls
 pub mod Kept
+pub mod Looks
 pub mod Waits
 pub mod Endings
 pub mod Wires

@@ -1,7 +1,10 @@
 -- What a kernel's lock knows of a place, and what it has told of it.
-use Rattle.std.specs.Prelude.{◌≡◌, ◌<◌, true, length, map, List, [], ◌∷◌, Option, Some, None}
+use Rattle.std.specs.Prelude.{◌≡◌, ℕ, ◌<◌, true, length, map, option_map, unwrap_or, List}
+use Rattle.xh_calls.specs.declared.call.Entry.{Entry}
+use Rattle.xh_core.specs.declared.glance.Glance.{Glance}
 use Rattle.xh_core.specs.Statuses.{is_over}
-use Rattle.xh_glance.specs.Pen.{PenOf}
+use Rattle.xh_history.specs.Histories.{History, PenOf, last_of}
+use Rattle.xh_kernel.specs.Words.{vacant}
 use Rattle.xh_model.specs.declared.limits.TheConstants.{GENERATIONS}
 use Rattle.xh_model.specs.Words.{generation_of, place_of}
 use Rattle.xh_place.specs.Places.{AreBlocks, IsPlaceOf, PlaceOf, glance_of}
@@ -18,15 +21,14 @@ pub record IsLawful (p : PlaceOf) : Type 0 where
 abbrev pub IsFound : PartsOf → PlaceOf → Type 0
 IsFound parts p = IsPlaceOf parts.records p × IsLawful p
 
-abbrev pub last_of : {A : Type 0} → List A → Option A
-last_of [] = None
-last_of (x ∷ []) = Some x
-last_of (x ∷ y ∷ ys) = last_of (y ∷ ys)
+-- what the place k is after the last call of its history, to those who look
+abbrev pub last_glance : ℕ → History Entry → Glance
+last_glance k h = unwrap_or (option_map (λ c. c.1.glance) (last_of h)) (vacant k)
 
--- the pen is the place's own, and the last entry of its glances is what the place is now
-pub record IsTold (p : PlaceOf) (pen : PenOf) : Type 0 where
+-- the pen is the place's own, and the last glance of its history is what the place is now
+pub record IsTold (p : PlaceOf) (pen : PenOf Entry) : Type 0 where
   pub number : place_of p.process ≡ pen.number
-  pub last : last_of pen.history ≡ Some (glance_of p)
+  pub last : last_glance pen.number pen.history ≡ glance_of p
 
 abbrev pub places_of : List PlaceSeen → List PlaceOf
 places_of = map (λ p. p.place)

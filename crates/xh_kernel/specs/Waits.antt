@@ -1,33 +1,36 @@
 -- Calls of which each is several entries of histories: those that ask one place after another, or look again and again.
-use Rattle.std.specs.Prelude.{◌≡◌, ℕ, zero, suc, ◌<◌, None, Some, Result, MatchResult}
+use Rattle.std.specs.Prelude.{◌≡◌, ℕ, zero, suc, ◌<◌, None, Some, Result, Err, MatchResult}
 use Rattle.xh_core.specs.declared.refused.Refused.{Refused}
-use Rattle.xh_calls.specs.Parts.{PartsOf}
-use Rattle.xh_kernel.specs.declared.call.Call.{Call}
-use Rattle.xh_kernel.specs.declared.call.Call.TheVariants.{Spawn}
+use Rattle.xh_core.specs.declared.refused.Refused.TheVariants.{Empty}
+use Rattle.xh_calls.specs.Calls.{Spawns}
+use Rattle.xh_calls.specs.declared.call.Call.{Call}
+use Rattle.xh_calls.specs.declared.call.Call.TheVariants.{Spawn}
+use Rattle.xh_calls.specs.Leading.{Leading}
 use Rattle.xh_kernel.specs.Accounts.{AccountOf}
-use Rattle.xh_kernel.specs.Histories.{Asks, CallsOnly}
+use Rattle.xh_kernel.specs.Calls.{Calls}
 use Rattle.xh_model.specs.declared.limits.TheConstants.{PLACES}
+use Rattle.xh_place.specs.Seen.{PlaceSeen}
 
 -- ---- spawn
 
 -- the worker asked the first k places in their order, and none could start one
-abbrev pub AskedAll : PartsOf → ℕ → AccountOf → AccountOf → Type 0
-AskedAll parts zero old new = new ≡ old
-AskedAll parts (suc k) old new = (mid : AccountOf) × AskedAll parts k old mid × Asks parts k (Spawn None) mid new
+abbrev pub AskedAll : Leading → ℕ → AccountOf → AccountOf → Type 0
+AskedAll leads zero old new = new ≡ old
+AskedAll leads (suc k) old new = (mid : AccountOf) × AskedAll leads k old mid × Calls leads k (Spawn None) (λ from to. Spawns from.place to.place None) mid new
 
 -- the answer is that of the first place that could start a process, or none of them could
-abbrev pub SpawnsAt : PartsOf → AccountOf → AccountOf → Result ℕ Refused → Type 0
-SpawnsAt parts old new result = MatchResult result
-    (λ p. (k : ℕ) × (mid : AccountOf) × (k < PLACES) × AskedAll parts k old mid × Asks parts k (Spawn (Some p)) mid new)
-    (λ _. AskedAll parts PLACES old new)
+abbrev pub SpawnsAt : Leading → AccountOf → AccountOf → Result ℕ Refused → Type 0
+SpawnsAt leads old new result = MatchResult result
+    (λ p. (k : ℕ) × (mid : AccountOf) × (k < PLACES) × AskedAll leads k old mid × Calls leads k (Spawn (Some p)) (λ from to. Spawns from.place to.place (Some p)) mid new)
+    (λ _. AskedAll leads PLACES old new)
 
 -- ---- waiting
 
--- the worker made the call n times
-abbrev pub Repeats : PartsOf → ℕ → Call → ℕ → AccountOf → AccountOf → Type 0
-Repeats parts p e zero old new = new ≡ old
-Repeats parts p e (suc n) old new = (mid : AccountOf) × Repeats parts p e n old mid × CallsOnly parts p e mid new
+-- the worker made the call n times on the place k, and each did this there
+abbrev pub Repeats : Leading → ℕ → Call → (PlaceSeen → PlaceSeen → Type 0) → ℕ → AccountOf → AccountOf → Type 0
+Repeats leads k e R zero old new = new ≡ old
+Repeats leads k e R (suc n) old new = (mid : AccountOf) × Repeats leads k e R n old mid × Calls leads k e R mid new
 
--- it made the one call as often as it looked in vain, and then the other
-abbrev pub AtLast : PartsOf → ℕ → Call → Call → AccountOf → AccountOf → Type 0
-AtLast parts p vain done old new = (n : ℕ) × (mid : AccountOf) × Repeats parts p vain n old mid × CallsOnly parts p done mid new
+-- it made the call as often as it looked in vain, and then once more, by its answer
+abbrev pub AtLast : Leading → ℕ → {A : Type 0} → (Result A Refused → Call) → (Result A Refused → PlaceSeen → PlaceSeen → Type 0) → Result A Refused → AccountOf → AccountOf → Type 0
+AtLast leads k e R result old new = (n : ℕ) × (mid : AccountOf) × Repeats leads k (e (Err Empty)) (R (Err Empty)) n old mid × Calls leads k (e result) (R result) mid new

@@ -5,12 +5,11 @@ ghost use Rattle.xh_history.specs.Histories.{HasSeen, at, fresh_front};
 ghost use Rattle.xh_kernel.specs.Accounts.{IsUnmoved, fresh, moved_of};
 ghost use Rattle.xh_place.specs.Tallies.{ids_of};
 
-use crate::call::Call;
-use crate::scribe::Pens;
+use crate::words::Glances;
 use std::marker::{Model, PhantomData};
 use xh_arena::{Tally, Vault};
-use xh_calls::{Bundle, Names, Till};
-use xh_history::{Front, Histories};
+use xh_calls::{Bundle, Entry, Names, Till};
+use xh_history::{Front, Histories, Pen};
 
 /// A worker's tally of each arena, and of each place's and each arena's history what the worker has seen. It tells how many
 /// bytes of each arena the worker ever took and gave back.
@@ -18,7 +17,7 @@ use xh_history::{Front, Histories};
 pub struct Account<N: Names> {
     number: u8,
     pub(crate) till: Till,
-    pub(crate) front: Front<Call>,
+    pub(crate) front: Front<Entry>,
     of: PhantomData<N>,
 }
 
@@ -36,7 +35,7 @@ impl<N: Names> Model for Account<N> {
 
 impl<N: Names> Account<N> {
     // The account of a bundle of the kernel's own, and of a worker who has seen nothing.
-    pub(crate) fn named(bundle: Bundle, front: Front<Call>, seen: Front<Vault>) -> Account<N>
+    pub(crate) fn named(bundle: Bundle, front: Front<Entry>, seen: Front<Vault>) -> Account<N>
         requires tallies { AreFreshTallies N.parts.records.shape.names bundle.number bundle.tallies.items }
         requires front { front ≡ fresh_front N.parts.histories bundle.number }
         requires seen { seen ≡ fresh_front N.parts.vaults bundle.number }
@@ -84,15 +83,15 @@ impl<N: Names> Account<N> {
         tallies
     }
 
-    /// Shows that what the worker has seen of the pens' place is a beginning of the place's history, in which
+    /// Shows that what the worker has seen of the pen's place is a beginning of the place's history, in which
     /// all of the worker's calls stand. The worker has seen it to its end then.
-    pub fn compare(&mut self, histories: &Histories<Call>, pens: &mut Pens)
+    pub fn compare(&mut self, histories: &Histories<Entry, Glances>, pen: &mut Pen<Entry>)
         requires table { histories.now ≡ N.parts.histories }
-        requires pens { pens.old.history.table ≡ N.parts.histories }
-        ensures pens { pens.new ≡ pens.old }
-        ensures seen { HasSeen self.old.number (at self.old.fronts pens.old.history.number) pens.old.history.history }
-        ensures account { IsUnmoved self.old self.new × (self.new.fronts ≡ slice_set self.old.fronts pens.old.history.number pens.old.history.history) }
+        requires pen { pen.old.table ≡ N.parts.histories }
+        ensures pen { pen.new ≡ pen.old }
+        ensures seen { HasSeen self.old.number (at self.old.fronts pen.old.number) pen.old.history }
+        ensures account { IsUnmoved self.old self.new × (self.new.fronts ≡ slice_set self.old.fronts pen.old.number pen.old.history) }
     {
-        histories.compare(&mut pens.history, &mut self.front);
+        histories.compare(pen, &mut self.front);
     }
 }

@@ -1,17 +1,15 @@
 //! What is left of a kernel whose workers are done, and what they have seen.
 ghost use Rattle.std.specs.Prelude.{◌≡◌, ◌↔◌, All, IfErr, IfOk, true, vec_len};
 ghost use Rattle.xh_kernel.specs.Accounts.{IsUnmoved};
-ghost use Rattle.xh_kernel.specs.Finished.{AreInOrder, AreSeen, HasLooked, HaveSeen, glances_of, histories_of, tallies_of};
-ghost use Rattle.xh_kernel.specs.Kept.{AreOwn};
+ghost use Rattle.xh_kernel.specs.Finished.{AreInOrder, AreSeen, HasLooked, HaveSeen, histories_of, tallies_of};
 
 use crate::account::Account;
-use crate::call::Call;
-use crate::scribe::Pens;
+use crate::parts::Look;
+use crate::words::Glances;
 use xh_arena::Vault;
-use xh_calls::Names;
+use xh_calls::{Entry, Names};
 use xh_core::Refused;
-use xh_glance::{Glances, Look};
-use xh_history::Histories;
+use xh_history::{Histories, Pen};
 use xh_model::limits::PLACES;
 use xh_place::{Body, Place};
 use xh_records::Records;
@@ -27,28 +25,28 @@ pub struct Finished<N: Names> {
 }
 
 // Whether these are the pens of all places, in order.
-fn are_in_order(pens: &[Pens]) -> bool
+fn are_in_order(pens: &[Pen<Entry>]) -> bool
     ensures { (result ≡ true) ↔ AreInOrder pens.now }
 {
     if pens.len() != usize::from(PLACES) {
         return false;
     }
     for place in 0..PLACES {
-        if pens[usize::from(place)].glances.number() != place {
+        if pens[usize::from(place)].number() != place {
             return false;
         }
     }
     true
 }
 
-// Compares an account with the pens of each place.
+// Compares an account with the pen of each place.
 fn compare_account<N: Names>(
-    histories: &Histories<Call>,
-    pens: &mut [Pens],
+    histories: &Histories<Entry, Glances>,
+    pens: &mut [Pen<Entry>],
     account: &mut Account<N>,
 )
     requires table { histories.now ≡ N.parts.histories }
-    requires pens { All (AreOwn N.parts) pens.old × AreInOrder pens.old }
+    requires pens { All (λ p. p.table ≡ N.parts.histories) pens.old × AreInOrder pens.old }
     ensures same { (pens.new ≡ pens.old) × IsUnmoved account.old account.new }
     ensures seen { AreSeen account.old (histories_of pens.old) }
 {
@@ -59,12 +57,12 @@ fn compare_account<N: Names>(
 
 // Compares all accounts.
 fn compare_accounts<N: Names>(
-    histories: &Histories<Call>,
-    pens: &mut [Pens],
+    histories: &Histories<Entry, Glances>,
+    pens: &mut [Pen<Entry>],
     accounts: &mut [Account<N>],
 )
     requires table { histories.now ≡ N.parts.histories }
-    requires pens { All (AreOwn N.parts) pens.old × AreInOrder pens.old }
+    requires pens { All (λ p. p.table ≡ N.parts.histories) pens.old × AreInOrder pens.old }
     ensures same { (pens.new ≡ pens.old) × (tallies_of accounts.new ≡ tallies_of accounts.old) }
     ensures seen { All (λ a. AreSeen a (histories_of pens.old)) accounts.old }
 {
@@ -73,41 +71,40 @@ fn compare_accounts<N: Names>(
     }
 }
 
-// Compares a look with the pen of each place's glances.
-fn compare_look(glances: &Glances, pens: &mut [Pens], look: &mut Look)
-    requires pens { All (λ p. p.glances.glances ≡ glances.now) pens.old × AreInOrder pens.old }
-    requires look { look.old.glances ≡ glances.now }
+// Compares a look with the pen of each place.
+fn compare_look(histories: &Histories<Entry, Glances>, pens: &mut [Pen<Entry>], look: &mut Look)
+    requires pens { All (λ p. p.table ≡ histories.now) pens.old × AreInOrder pens.old }
+    requires look { look.old.table ≡ histories.now }
     ensures same { (pens.new ≡ pens.old) × (look.new ≡ look.old) }
-    ensures looked { HasLooked (glances_of pens.old) look.old }
+    ensures looked { HasLooked (histories_of pens.old) look.old }
 {
     for place in 0..pens.len() {
-        glances.compare(&mut pens[place].glances, look);
+        histories.compare_look(&mut pens[place], look);
     }
 }
 
 // Compares all looks.
-fn compare_looks(glances: &Glances, pens: &mut [Pens], looks: Vec<Look>)
-    requires pens { All (λ p. p.glances.glances ≡ glances.now) pens.old × AreInOrder pens.old }
-    requires looks { All (λ l. l.glances ≡ glances.now) looks.items }
-    ensures looked { All (HasLooked (glances_of pens.old)) looks.items }
+fn compare_looks(histories: &Histories<Entry, Glances>, pens: &mut [Pen<Entry>], looks: Vec<Look>)
+    requires pens { All (λ p. p.table ≡ histories.now) pens.old × AreInOrder pens.old }
+    requires looks { All (λ l. l.table ≡ histories.now) looks.items }
+    ensures looked { All (HasLooked (histories_of pens.old)) looks.items }
 {
     for mut look in looks {
-        compare_look(glances, pens, &mut look);
+        compare_look(histories, pens, &mut look);
     }
 }
 
-// The accounts, once each was compared with the pens of each place, as each look was. A kernel keeps its places in
+// The accounts, once each was compared with the pen of each place, as each look was. A kernel keeps its places in
 // order; since no lock tells which place is behind it, that is looked at here, and without it nothing is closed.
 pub(crate) fn compare<N: Names>(
-    glances: &Glances,
-    histories: &Histories<Call>,
-    mut pens: Vec<Pens>,
+    histories: &Histories<Entry, Glances>,
+    mut pens: Vec<Pen<Entry>>,
     mut accounts: Vec<Account<N>>,
     looks: Vec<Look>,
 ) -> Result<Vec<Account<N>>, Refused>
-    requires tables { (glances.now ≡ N.parts.glances) × (histories.now ≡ N.parts.histories) }
-    requires pens { All (AreOwn N.parts) pens.items }
-    requires looks { All (λ l. l.glances ≡ N.parts.glances) looks.items }
+    requires table { histories.now ≡ N.parts.histories }
+    requires pens { All (λ p. p.table ≡ N.parts.histories) pens.items }
+    requires looks { All (λ l. l.table ≡ N.parts.histories) looks.items }
     ensures count { IfOk result (λ r. vec_len r ≡ vec_len accounts) }
     ensures same { IfOk result (λ r. tallies_of r.items ≡ tallies_of accounts.items) }
     ensures seen { IfOk result (λ _. HaveSeen accounts.items looks.items pens.items) }
@@ -117,6 +114,6 @@ pub(crate) fn compare<N: Names>(
         return Err(Refused::OutOfMemory);
     }
     compare_accounts(histories, pens.as_mut_slice(), accounts.as_mut_slice());
-    compare_looks(glances, pens.as_mut_slice(), looks);
+    compare_looks(histories, pens.as_mut_slice(), looks);
     Ok(accounts)
 }

@@ -2,18 +2,20 @@
 ghost use Rattle.std.specs.Prelude.{◌≡◌};
 ghost use Rattle.std.proofs.Props.{props};
 ghost use Rattle.xh_kernel.specs.inner.Lawful.{Distinct-prop, Fits-prop};
-ghost use Rattle.xh_kernel.specs.Kept.{AreOf, AreOwn, IsKept};
+ghost use Rattle.xh_kernel.specs.Histories.{IsHistoryOf};
+ghost use Rattle.xh_kernel.specs.Kept.{IsKept};
 ghost use Rattle.xh_kernel.specs.Places.{IsLawful, IsTold};
 ghost use Rattle.xh_place.specs.Places.{IsPlaceOf};
 
 use crate::looking::Waits;
-use crate::scribe::{Pens, Scribe};
+use crate::scribe::Scribe;
 use std::marker::PhantomData;
-use xh_calls::Names;
+use xh_calls::{Entry, Names};
+use xh_history::Pen;
 use xh_place::Place;
 
 /// A place, what is written down of it, and where its process waits. Whenever the lock is free, the place's
-/// history is lawful and leads to what the place is, and the last of its glances is what the place is.
+/// history is lawful and leads to what the place is, and its last glance is what the place is.
 #[derive(Drop)]
 pub(crate) struct Held<N: Names> {
     pub(crate) place: Place,
@@ -21,15 +23,15 @@ pub(crate) struct Held<N: Names> {
     pub(crate) waits: Waits,
     pub(crate) of: PhantomData<N>,
     ghost named: { IsPlaceOf N.parts.records place.place },
-    ghost own: { AreOwn N.parts scribe.pens },
-    ghost told: { IsTold place.place scribe.pens.glances },
+    ghost own: { scribe.pen.table ≡ N.parts.histories },
+    ghost told: { IsTold place.place scribe.pen },
     ghost lawful: { IsLawful place.place } by { Prim.hlevel (props, Distinct-prop, Fits-prop) },
-    ghost history: { AreOf N.parts scribe.pens place },
+    ghost history: { IsHistoryOf N.parts scribe.pen.number scribe.pen.history place },
 }
 
 impl<N: Names> Held<N> {
-    // The place, and its pens.
-    pub(crate) fn into_parts(self) -> (Place, Pens)
+    // The place, and the pen of its history.
+    pub(crate) fn into_parts(self) -> (Place, Pen<Entry>)
         ensures { IsKept N.parts result.0 result.1 }
     {
         let Held {
@@ -38,6 +40,7 @@ impl<N: Names> Held<N> {
             waits: _,
             of: _,
         } = self;
-        (place, scribe.into_pens())
+        let Scribe { pen, last: _ } = scribe;
+        (place, pen)
     }
 }

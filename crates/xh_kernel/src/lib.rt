@@ -2,7 +2,6 @@
 #![tactic(auto)]
 
 mod account;
-mod call;
 mod finishing;
 mod held;
 mod kernel;
@@ -10,14 +9,13 @@ mod looking;
 mod parts;
 mod scribe;
 mod shared;
+mod words;
 
 pub use account::Account;
-pub use call::Call;
 pub use finishing::Finished;
 pub use kernel::{Kernel, Settled};
-pub use parts::Parts;
-pub use scribe::Pens;
-pub use xh_calls::{Answered, MAX_ENDS, Names};
+pub use parts::{Look, Parts};
+pub use words::Glances;
+pub use xh_calls::{Answered, Call, Entry, MAX_ENDS, Names};
 pub use xh_core::Block;
-pub use xh_glance::Look;
 pub use xh_place::{Gate, Got, OpenGate, Point, Taken};

@@ -1,9 +1,11 @@
 //! Looks for a message, and where a process waits.
 ghost use Rattle.std.specs.Prelude.{◌≡◌, ◌<◌, IfErr, MatchOption, None};
+ghost use Rattle.xh_calls.specs.Messages.{Takes};
 ghost use Rattle.xh_calls.specs.Places.{start};
+ghost use Rattle.xh_calls.specs.Several.{TakesAny};
 ghost use Rattle.xh_core.specs.Refusing.{first_refusal};
-ghost use Rattle.xh_kernel.specs.declared.call.Call.TheVariants.{Take, TakeAny};
-ghost use Rattle.xh_kernel.specs.Histories.{Asks};
+ghost use Rattle.xh_calls.specs.declared.call.Call.TheVariants.{Take, TakeAny};
+ghost use Rattle.xh_kernel.specs.Calls.{Calls};
 ghost use Rattle.xh_kernel.specs.inner.Looking.{CanTake, LooksFor, Searches};
 ghost use Rattle.xh_model.specs.declared.limits.TheConstants.{PLACES};
 
@@ -71,7 +73,7 @@ impl<N: Names> Held<N> {
         account: &mut Account<N>,
         gate: &G,
     ) -> Result<Taken, Refused>
-        ensures call { Asks N.parts self.old.scribe.pens.history.number (Take p e result) account.old account.new }
+        ensures call { Calls N.leads self.old.scribe.pen.number (Take p e result) (λ old new. Takes p e old new result) account.old account.new }
         ensures empty { IfErr result (λ why. why ≡ Refused.Empty → CanTake p e self.old.place.place) }
     {
         let answer = shared.heap.take(rt, &mut self.place, p, e, gate);
@@ -101,7 +103,7 @@ impl<N: Names> Held<N> {
         account: &mut Account<N>,
         gate: &G,
     ) -> Look
-        ensures { LooksFor N.parts self.old.scribe.pens.history.number p e account.old account.new result }
+        ensures { LooksFor N.leads self.old.scribe.pen.number p e account.old account.new result }
     {
         match self.spot_of(shared, p, e) {
             Some(spot) => self.look_at(rt, shared, p, e, spot, account, gate),
@@ -122,7 +124,7 @@ impl<N: Names> Held<N> {
         account: &mut Account<N>,
         gate: &G,
     ) -> Look
-        ensures { LooksFor N.parts self.old.scribe.pens.history.number p e account.old account.new result }
+        ensures { LooksFor N.leads self.old.scribe.pen.number p e account.old account.new result }
     {
         let seen = shared.heap.channels.turn(rt, spot);
         match self.take(rt, shared, p, e, account, gate) {
@@ -144,7 +146,7 @@ impl<N: Names> Held<N> {
         account: &mut Account<N>,
         gate: &G,
     ) -> Result<Answered, Refused>
-        ensures call { Asks N.parts self.old.scribe.pens.history.number (TakeAny p ends.now result) account.old account.new }
+        ensures call { Calls N.leads self.old.scribe.pen.number (TakeAny p ends.now result) (λ old new. TakesAny p ends.now old new result) account.old account.new }
         ensures empty { IfErr result (λ why. why ≡ Refused.Empty → first_refusal (start p self.old.place.place) ≡ None) }
     {
         let answer = shared.heap.take_any(rt, &mut self.place, p, ends, gate);
@@ -176,7 +178,7 @@ impl<N: Names> Held<N> {
         account: &mut Account<N>,
         gate: &G,
     ) -> Search
-        ensures { Searches N.parts self.old.scribe.pens.history.number p ends.now account.old account.new result }
+        ensures { Searches N.leads self.old.scribe.pen.number p ends.now account.old account.new result }
     {
         if ends.is_empty() || check_start(&self.place, p).is_err() {
             return Search::Done(self.take_any(rt, shared, p, ends, account, gate));

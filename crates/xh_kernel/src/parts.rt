@@ -2,18 +2,20 @@
 ghost use Rattle.std.specs.Prelude.{◌≡◌, ◌⊎◌, ◌↔◌, Err, IfErr, IfOk, OnOk};
 ghost use Rattle.xh_calls.specs.Parts.{AreMadeBy, ArePartsLimits};
 
-use crate::call::Call;
+use crate::words::Glances;
 use std::alloc::Global;
 use std::marker::Model;
 use xh_arena::Vault;
-use xh_calls::{Bundle, Makings, make_vaults};
+use xh_calls::{Bundle, Entry, Makings, make_vaults};
 use xh_channel::Channels;
 use xh_core::{Config, Refused};
-use xh_glance::{Glances, Look, Pen};
-use xh_history::{Front, Histories};
+use xh_history::{Front, Histories, Nothing, Pen};
 use xh_model::limits::{MAX_WORKERS, PLACES};
 use xh_place::Body;
 use xh_records::{Records, Seat};
+
+/// What someone has seen of the places who makes no calls.
+pub type Look = xh_history::Look<Entry>;
 
 /// All that a kernel is made of, not yet behind locks.
 #[derive(Drop)]
@@ -22,15 +24,13 @@ pub struct Parts {
     pub(crate) records: Records<Body>,
     pub(crate) seats: Vec<Seat<Body>>,
     pub(crate) channels: Channels,
-    pub(crate) glances: Glances,
-    pub(crate) pens: Vec<Pen>,
     pub(crate) bundles: Vec<Bundle>,
+    pub(crate) histories: Histories<Entry, Glances>,
+    pub(crate) pens: Vec<Pen<Entry>>,
+    pub(crate) fronts: Vec<Front<Entry>>,
     pub(crate) looks: Vec<Look>,
-    pub(crate) histories: Histories<Call>,
-    pub(crate) unwritten: Vec<xh_history::Pen<Call>>,
-    pub(crate) fronts: Vec<Front<Call>>,
-    pub(crate) vault_histories: Histories<Vault>,
-    pub(crate) vault_pens: Vec<xh_history::Pen<Vault>>,
+    pub(crate) vault_histories: Histories<Vault, Nothing>,
+    pub(crate) vault_pens: Vec<Pen<Vault>>,
     pub(crate) seen: Vec<Front<Vault>>,
     pub(crate) config: Config,
 }
@@ -42,10 +42,10 @@ impl Model for Parts {
 
     ghost Value = { PartsOf };
 
-    ghost view = { λ p. parts_of p.records (vec_len p.bundles) p.config p.channels.depth p.glances p.histories p.vault_histories };
+    ghost view = { λ p. parts_of p.records (vec_len p.bundles) p.config p.channels.depth p.histories p.vault_histories };
 
-    ghost invariant = { λ p. AreParts (parts_of p.records (vec_len p.bundles) p.config p.channels.depth p.glances p.histories p.vault_histories)
-        p.vaults.items p.seats.items p.pens.items p.bundles.items p.looks.items p.unwritten.items p.fronts.items p.vault_pens.items p.seen.items };
+    ghost invariant = { λ p. AreParts (parts_of p.records (vec_len p.bundles) p.config p.channels.depth p.histories p.vault_histories)
+        p.vaults.items p.seats.items p.bundles.items p.pens.items p.fronts.items p.looks.items p.vault_pens.items p.seen.items };
 }
 
 // The parts of a kernel within its limits.
@@ -65,21 +65,18 @@ fn make_parts(alloc: Global, config: Config, workers: u8) -> Result<Parts, Refus
         return Err(Refused::OutOfMemory);
     };
     let channels = Channels::new(alloc, config.depth)?;
-    let (glances, pens, looks) = Glances::new(alloc, workers)?;
-    let (histories, unwritten, fronts) = Histories::new(alloc, workers)?;
-    let (vault_histories, vault_pens, seen) = Histories::new(alloc, workers)?;
+    let (histories, pens, fronts, looks) = Histories::new(alloc, workers, workers)?;
+    let (vault_histories, vault_pens, seen, _looks) = Histories::new(alloc, workers, 0)?;
     Ok(Parts {
         vaults,
         records,
         seats,
         channels,
-        glances,
-        pens,
         bundles,
-        looks,
         histories,
-        unwritten,
+        pens,
         fronts,
+        looks,
         vault_histories,
         vault_pens,
         seen,

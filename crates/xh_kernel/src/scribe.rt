@@ -1,38 +1,30 @@
-//! What is written down of a place: what looks see without its lock, and its history.
-ghost use Rattle.std.specs.Prelude.{◌≡◌, ◌↔◌, ◌<◌, ◌^◌, ◌++◌, List, Some, length, true};
-ghost use Rattle.xh_core.specs.declared.glance.Glance.{Glance};
+//! What is written down of a place: its history, and by the history's word what looks see without its lock.
+ghost use Rattle.std.specs.Prelude.{◌≡◌, ◌↔◌, ◌<◌, ◌^◌, length, true};
+ghost use Rattle.xh_calls.specs.declared.call.Call.{Call};
 ghost use Rattle.xh_core.specs.Statuses.{is_over};
-ghost use Rattle.xh_glance.specs.Words.{IsPackable};
-ghost use Rattle.xh_kernel.specs.declared.call.Call.{Call};
-ghost use Rattle.xh_kernel.specs.Histories.{Does, Made, Tells};
-ghost use Rattle.xh_kernel.specs.Kept.{AreOf, AreOwn, IsNext};
-ghost use Rattle.xh_kernel.specs.Places.{IsLawful, IsTold, last_of};
+ghost use Rattle.xh_history.specs.Histories.{at};
+ghost use Rattle.xh_kernel.specs.Calls.{Noted, Steps};
+ghost use Rattle.xh_kernel.specs.Histories.{Does, IsHistoryOf};
+ghost use Rattle.xh_kernel.specs.Places.{IsLawful, IsTold, last_glance};
+ghost use Rattle.xh_kernel.specs.Words.{IsPackable};
 ghost use Rattle.xh_model.specs.declared.limits.TheConstants.{GENERATIONS};
 ghost use Rattle.xh_model.specs.Words.{generation_of, place_of};
-ghost use Rattle.xh_place.specs.Places.{AreBlocks, IsPlaceOf, PlaceOf, glance_of};
+ghost use Rattle.xh_place.specs.Places.{AreBlocks, IsPlaceOf, glance_of};
 ghost use Rattle.xh_place.specs.Seen.{PlaceSeen, SeesMore, Stays};
 
-use crate::call::Call;
 use crate::shared::Shared;
-use xh_calls::Names;
+use crate::words::pack;
+use xh_calls::{Entry, Names};
 use xh_core::Glance;
-use xh_glance::{Glances, Pen};
-use xh_history::Front;
+use xh_history::{Front, Pen};
 use xh_place::Place;
 
-/// The pens of a place: that of its glances, and that of its history.
-#[derive(Drop)]
-pub struct Pens {
-    pub glances: Pen,
-    pub history: xh_history::Pen<Call>,
-}
-
-/// The pens of a place, and the last glance that was told of it.
+/// The pen of a place's history, and what the place was after the last call.
 #[derive(Drop)]
 pub(crate) struct Scribe {
-    pub(crate) pens: Pens,
-    last: Glance,
-    ghost told: { last_of pens.glances.history ≡ Some last },
+    pub(crate) pen: Pen<Entry>,
+    pub(crate) last: Glance,
+    ghost told: { last_glance pen.number pen.history ≡ last },
 }
 
 // How many blocks a place has.
@@ -71,88 +63,50 @@ fn is_same(one: Glance, other: Glance) -> bool
 }
 
 impl Scribe {
-    // Pens of which the last glance is what the place is.
-    pub(crate) fn new(pens: Pens, place: &Place) -> Scribe
-        requires told { IsTold place.now.place pens.glances }
+    // The pen of a history of which the last glance is what the place is.
+    pub(crate) fn new(pen: Pen<Entry>, place: &Place) -> Scribe
+        requires told { IsTold place.now.place pen }
         requires process { generation_of place.now.place.process < GENERATIONS }
-        ensures same { result.pens ≡ pens }
+        ensures same { result.pen ≡ pen }
         ensures lawful { IsLawful place.now.place }
     {
         let last = shown(place);
-        Scribe { pens, last }
+        Scribe { pen, last }
     }
 
-    pub(crate) fn into_pens(self) -> Pens
-        ensures { result ≡ self.pens }
-    {
-        let Scribe { pens, last: _ } = self;
-        pens
-    }
-
-    // What the place is now is the last of its glances: one more, where a look would see another.
-    fn tell(&mut self, glances: &Glances, place: &Place)
-        requires pen { (self.old.pens.glances.glances ≡ glances.now) × (place_of place.now.place.process ≡ self.old.pens.glances.number) }
-        requires process { generation_of place.now.place.process < GENERATIONS }
-        ensures same { (self.new.pens.glances.glances ≡ self.old.pens.glances.glances) × (self.new.pens.glances.number ≡ self.old.pens.glances.number)
-            × (self.new.pens.history ≡ self.old.pens.history) }
-        ensures told { IsTold place.now.place self.new.pens.glances }
-        ensures more { (old : PlaceOf) → IsTold old self.old.pens.glances → (told : List Glance)
-            × (self.new.pens.glances.history ≡ self.old.pens.glances.history ++ told) × Tells old place.now.place told }
-        ensures lawful { IsLawful place.now.place }
-    {
-        let glance = shown(place);
-        if is_same(glance, self.last) {
-            return;
-        }
-        glances.store(&mut self.pens.glances, glance);
-        self.last = glance;
-    }
-
-    // Writes down a call that a worker made on the place, of which all is told. Which call it was the caller's
-    // proof says, by what is shown here. It is inlined, so that what is shown costs nothing.
-    #[inline(always)]
-    pub(crate) fn write_down<N: Names, A>(
-        &mut self,
-        shared: &Shared<N>,
-        _place: &Place,
-        front: &mut Front<Call>,
-        about: &A,
-    )
-        ghost call: { Call }
-        requires pens { AreOwn N.parts self.old.pens }
-        requires front { front.old.table ≡ N.parts.histories }
-        requires next { IsNext N.parts (front.old.number, call) self.old.pens _place.now }
-        ensures same { AreOwn N.parts self.new.pens × (self.new.pens.glances ≡ self.old.pens.glances) }
-        ensures history { AreOf N.parts self.new.pens _place.now }
-        ensures front { (front.new.table ≡ front.old.table) × (front.new.number ≡ front.old.number) }
-        ensures made { Made N.parts self.old.pens.history.number call front.old.number front.old.fronts front.new.fronts }
-    {
-        shared.histories.add(&mut self.pens.history, front, about);
-    }
-
-    // The same, and tells what the place is now.
+    // Writes down a call that a worker made on the place, and tells what the place is now. Which call it was the
+    // caller's proof says, by what is shown here. It is inlined, so that what is shown costs nothing.
     #[inline(always)]
     pub(crate) fn note<N: Names, A>(
         &mut self,
         shared: &Shared<N>,
         place: &Place,
-        front: &mut Front<Call>,
+        front: &mut Front<Entry>,
         about: &A,
     )
         ghost call: { Call }
-        requires pens { AreOwn N.parts self.old.pens }
+        requires pen { self.old.pen.table ≡ N.parts.histories }
         requires front { (front.old.table ≡ N.parts.histories) × (front.old.number < N.parts.workers) }
-        requires place { IsPlaceOf N.parts.records place.now.place × (place_of place.now.place.process ≡ self.old.pens.glances.number) × (generation_of place.now.place.process < GENERATIONS) }
-        requires does { (old : PlaceSeen) × (from : PlaceSeen) × IsTold old.place self.old.pens.glances × AreOf N.parts self.old.pens old × Stays old from
+        requires place { IsPlaceOf N.parts.records place.now.place × (place_of place.now.place.process ≡ self.old.pen.number) × (generation_of place.now.place.process < GENERATIONS) }
+        requires does { (old : PlaceSeen) × (from : PlaceSeen) × IsHistoryOf N.parts self.old.pen.number self.old.pen.history old × Stays old from
             × Does N.parts call from place.now × SeesMore from place.now }
-        ensures pens { AreOwn N.parts self.new.pens × (self.new.pens.glances.number ≡ self.old.pens.glances.number) }
-        ensures told { IsTold place.now.place self.new.pens.glances }
+        ensures pen { (self.new.pen.table ≡ N.parts.histories) × (self.new.pen.number ≡ self.old.pen.number) }
+        ensures told { IsTold place.now.place self.new.pen }
         ensures lawful { IsLawful place.now.place }
-        ensures history { AreOf N.parts self.new.pens place.now }
+        ensures history { IsHistoryOf N.parts self.new.pen.number self.new.pen.history place.now }
         ensures front { (front.new.table ≡ front.old.table) × (front.new.number ≡ front.old.number) }
-        ensures made { Made N.parts self.old.pens.history.number call front.old.number front.old.fronts front.new.fronts }
+        ensures noted { Noted self.old.pen.number call front.old.number front.old.fronts front.new.fronts }
+        ensures step { Steps N.leads self.old.pen.number (at front.new.fronts self.old.pen.number) (Does N.parts call) }
     {
-        self.tell(&shared.glances, place);
-        self.write_down(shared, place, front, about);
+        let glance = shown(place);
+        let word = if is_same(glance, self.last) {
+            None
+        } else {
+            Some(pack(glance))
+        };
+        shared
+            .histories
+            .add(&mut self.pen, front, word, &(about, glance));
+        self.last = glance;
     }
 }

@@ -1,17 +1,16 @@
 //! What the calls of all places share.
 ghost use Rattle.std.specs.Prelude.{◌≡◌};
+ghost use Rattle.xh_kernel.specs.Histories.{IsLaw};
 
-use crate::call::Call;
-use xh_calls::{Heap, Names};
-use xh_glance::Glances;
+use crate::words::Glances;
+use xh_calls::{Entry, Heap, Names};
 use xh_history::Histories;
 
-/// What the calls work on, the glances and the histories. A call reaches them with the lock of its place
-/// in hand.
+/// What the calls work on, and the histories. A call reaches them with the lock of its place in hand.
 #[derive(Drop)]
 pub(crate) struct Shared<N: Names> {
     pub(crate) heap: Heap<N>,
-    pub(crate) glances: Glances,
-    pub(crate) histories: Histories<Call>,
-    ghost named: { (glances ≡ N.parts.glances) × (histories ≡ N.parts.histories) },
+    pub(crate) histories: Histories<Entry, Glances>,
+    ghost named: { histories ≡ N.parts.histories },
+    ghost law: { IsLaw N.parts N.leads },
 }

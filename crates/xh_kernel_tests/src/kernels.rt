@@ -1,5 +1,6 @@
 //! A kernel on threads, by calls.
 ghost use Rattle.std.specs.Prelude.{◌≡◌, vec_len};
+ghost use Rattle.xh_kernel.specs.Histories.{IsLaw};
 
 mod passing;
 mod serving;
@@ -96,7 +97,8 @@ fn on_parts<N: Names + Send + Sync, R: Threads + Wait + Clock + Abort + Sync>(
     parts: Parts,
     case: Case,
 ) -> Result<Books, Refused>
-    requires { parts ≡ N.parts }
+    requires names { parts ≡ N.parts }
+    requires law { IsLaw N.parts N.leads }
 {
     let (kernel, mut accounts, looks) = match Kernel::<N>::new(alloc, parts) {
         Ok(made) => made,

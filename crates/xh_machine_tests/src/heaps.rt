@@ -1,5 +1,6 @@
 //! Both machines: a serial one, and a kernel by one worker, made, lent to what is tried, and let go.
 ghost use Rattle.std.specs.Prelude.{◌≡◌, All, IfOk, vec_len};
+ghost use Rattle.xh_kernel.specs.Histories.{IsLaw};
 
 use crate::answers::{Answer, Call, assert_answers};
 use crate::growths::assert_again;
@@ -10,8 +11,7 @@ use std::process::Abort;
 use std::sync::Wait;
 use xh_books::close_kernel;
 use xh_core::{ArenaLine, Config, Ledger, PlaceLine, Refused, State};
-use xh_glance::Look;
-use xh_kernel::{Account, Kernel, Names, Parts};
+use xh_kernel::{Account, Kernel, Look, Names, Parts};
 use xh_runner::{Gate, Machine, OpenGate, Worker, hire, leave_all};
 use xh_serial::Serial;
 
@@ -92,9 +92,9 @@ fn by_worker<N: Names, R: Wait + Abort>(
     trial: Trial,
 ) -> Result<(Vec<Account<N>>, Vec<Look>), AllocError>
     requires count { (vec_len accounts ≡ 1) × (vec_len looks ≡ 1) }
-    requires own { All (λ l. l.glances ≡ N.parts.glances) looks.items }
+    requires own { All (λ l. l.table ≡ N.parts.histories) looks.items }
     ensures count { IfOk result (λ r. vec_len r.0 ≡ 1) }
-    ensures own { IfOk result (λ r. All (λ l. l.glances ≡ N.parts.glances) r.1.items) }
+    ensures own { IfOk result (λ r. All (λ l. l.table ≡ N.parts.histories) r.1.items) }
 {
     let mut workers = hire(rt, alloc, kernel, &OpenGate, accounts, looks)?;
     try_on(rt, alloc, &mut workers[0], trial);
@@ -108,7 +108,9 @@ fn on_parts<N: Names, R: Wait + Abort>(
     parts: Parts,
     trial: Trial,
 ) -> Result<Ledger, Refused>
-    requires { (parts ≡ N.parts) × (parts.workers ≡ 1) }
+    requires names { parts ≡ N.parts }
+    requires law { IsLaw N.parts N.leads }
+    requires workers { parts.workers ≡ 1 }
 {
     let (kernel, accounts, looks) = match Kernel::<N>::new(alloc, parts) {
         Ok(made) => made,

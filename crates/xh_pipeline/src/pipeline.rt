@@ -1,5 +1,6 @@
 //! The run: a kernel, a thread for each process, and the ledger at the end.
 ghost use Rattle.std.specs.Prelude.{◌≡◌, IfOk, vec_len};
+ghost use Rattle.xh_kernel.specs.Histories.{IsLaw};
 ghost use Rattle.xh_books.specs.Ledgers.{IsBalanced};
 
 use crate::player::Player;
@@ -110,6 +111,7 @@ fn run_named<N: Names + Send + Sync, R: Threads + Wait + Sync>(
     parts: Parts,
 ) -> Result<(u8, Ledger), Refused>
     requires names { parts ≡ N.parts }
+    requires law { IsLaw N.parts N.leads }
     ensures balanced { IfOk result (λ r. IsBalanced r.1) }
 {
     let (kernel, mut accounts, looks) = Kernel::<N>::new(alloc, parts)?;

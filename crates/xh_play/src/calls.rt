@@ -1,5 +1,6 @@
 //! All lines of a script by the calls of one worker of a kernel.
 ghost use Rattle.std.specs.Prelude.{◌≡◌, ◌<◌, All, IfOk, length, vec_len};
+ghost use Rattle.xh_kernel.specs.Histories.{IsLaw};
 ghost use Rattle.xh_model.specs.declared.limits.TheConstants.{PLACES};
 
 use std::alloc::{AllocError, Global};
@@ -7,8 +8,7 @@ use std::marker::Brand;
 use std::sync::Wait;
 use xh_books::close_kernel;
 use xh_core::Config;
-use xh_glance::Look;
-use xh_kernel::{Account, Kernel, Names, Parts};
+use xh_kernel::{Account, Kernel, Look, Names, Parts};
 use xh_runner::{Machine, OpenGate, Report, hire, leave_all};
 use xh_script::{Answered, Fault, Name, Script};
 use xh_session::{Names as Bindings, Session};
@@ -83,9 +83,9 @@ fn play_by_worker<N: Names, R: Wait>(
     script: &Script,
 ) -> Result<Ended<N>, AllocError>
     requires count { (vec_len accounts ≡ 1) × (vec_len looks ≡ 1) }
-    requires own { All (λ l. l.glances ≡ N.parts.glances) looks.items }
+    requires own { All (λ l. l.table ≡ N.parts.histories) looks.items }
     ensures count { IfOk result (λ e. (vec_len e.accounts ≡ 1) × (length e.names.items ≡ PLACES)) }
-    ensures own { IfOk result (λ e. All (λ l. l.glances ≡ N.parts.glances) e.looks.items) }
+    ensures own { IfOk result (λ e. All (λ l. l.table ≡ N.parts.histories) e.looks.items) }
 {
     let mut workers = hire(rt, alloc, kernel, &OpenGate, accounts, looks)?;
     let Played {
@@ -106,7 +106,7 @@ fn play_by_worker<N: Names, R: Wait>(
 // Closes the books of the kernel.
 fn report_of<N: Names>(alloc: Global, kernel: Kernel<N>, ended: Ended<N>) -> Result<Report, Fault>
     requires count { (vec_len ended.accounts ≡ N.parts.workers) × (length ended.names.items ≡ PLACES) }
-    requires looks { All (λ l. l.glances ≡ N.parts.glances) ended.looks.items }
+    requires looks { All (λ l. l.table ≡ N.parts.histories) ended.looks.items }
     ensures { IfOk result (λ r. All (λ line. line.place < length r.names.items) r.ledger.places.items) }
 {
     let Ended {
@@ -133,7 +133,9 @@ fn play_parts<N: Names, R: Wait>(
     parts: Parts,
     script: &Script,
 ) -> Result<Report, Fault>
-    requires { (parts ≡ N.parts) × (parts.workers ≡ 1) }
+    requires names { parts ≡ N.parts }
+    requires law { IsLaw N.parts N.leads }
+    requires workers { parts.workers ≡ 1 }
     ensures { IfOk result (λ r. All (λ line. line.place < length r.names.items) r.ledger.places.items) }
 {
     let (kernel, accounts, looks) = match Kernel::<N>::new(alloc, parts) {

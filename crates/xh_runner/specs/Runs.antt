@@ -1,9 +1,12 @@
 -- What a report tells: a run of its script by the workers of a kernel, and the kernel's closed books.
 use Rattle.std.specs.Prelude.{◌≡◌, List, All, length, map}
 use Rattle.xh_books.specs.Closing.{IsClosed}
+use Rattle.xh_calls.specs.Leading.{Leading}
 use Rattle.xh_calls.specs.Parts.{PartsOf, AreMadeBy}
-use Rattle.xh_glance.specs.Look.{LookOf, fresh_look}
+use Rattle.xh_calls.specs.declared.call.Entry.{Entry}
+use Rattle.xh_history.specs.Histories.{LookOf, fresh_look}
 use Rattle.xh_kernel.specs.Accounts.{AccountOf, AreFresh}
+use Rattle.xh_kernel.specs.Histories.{IsLaw}
 use Rattle.xh_model.specs.declared.config.Config.{Config}
 use Rattle.xh_model.specs.declared.limits.TheConstants.{MAX_WORKERS}
 use Rattle.xh_crew.specs.Plays.{ArePlayed, HasNames}
@@ -14,23 +17,25 @@ use Rattle.xh_session.specs.declared.report.Report.{Report}
 abbrev pub accounts_of : List WorkerState → List AccountOf
 accounts_of = map (λ w. w.account)
 
-abbrev pub looks_of : List WorkerState → List LookOf
+abbrev pub looks_of : List WorkerState → List (LookOf Entry)
 looks_of = map (λ w. w.look)
 
 -- the workers of a kernel of these parts, before they did anything
 pub record AreNew (parts : PartsOf) (workers : List WorkerState) : Type 0 where
   pub accounts : AreFresh parts.records.shape.names (accounts_of workers)
-  pub looks : All (λ l. l ≡ fresh_look parts.glances) (looks_of workers)
+  pub looks : All (λ l. l ≡ fresh_look parts.histories) (looks_of workers)
   pub count : length workers ≡ MAX_WORKERS
 
--- A report tells a run of a script: workers of a kernel that was made by the configuration played its lines with the replies of the report; and the
--- report's ledger and its lines of what is in flight are those with which the books of this kernel were closed, over what these workers left.
+-- A report tells a run of a script: workers of a kernel that was made by the configuration, whose histories lead where the law says, played its lines with the replies of
+-- the report; and the report's ledger and its lines of what is in flight are those with which the books of this kernel were closed, over what these workers left.
 pub record HasRun (config : Config) (script : Listing) (report : Report) : Type 0 where
   pub parts : PartsOf
   pub made : AreMadeBy config MAX_WORKERS parts
+  pub leads : Leading
+  pub law : IsLaw parts leads
   pub workers : List WorkerState
   pub left : List WorkerState
   pub are_new : AreNew parts workers
-  pub played : ArePlayed (did parts) script.contracts script.lines report.answers.items workers left
+  pub played : ArePlayed (did parts leads) script.contracts script.lines report.answers.items workers left
   pub closed : IsClosed parts (accounts_of left) (looks_of left) report.ledger report.flight.items
   pub named : HasNames script.processes script.lines report.answers.items report.names.items

@@ -5,8 +5,9 @@ ghost use Rattle.xh_books.specs.Ledgers.{IsBalanced};
 ghost use Rattle.xh_calls.specs.Parts.{AreMadeBy};
 ghost use Rattle.xh_crew.specs.Plays.{AreAnswersTo};
 ghost use Rattle.xh_crew.specs.Stops.{Stops};
-ghost use Rattle.xh_glance.specs.Look.{fresh_look};
+ghost use Rattle.xh_history.specs.Histories.{fresh_look};
 ghost use Rattle.xh_kernel.specs.Accounts.{AreFresh};
+ghost use Rattle.xh_kernel.specs.Histories.{IsLaw};
 ghost use Rattle.xh_model.specs.Config.{IsConfig};
 ghost use Rattle.xh_model.specs.declared.limits.TheConstants.{MAX_WORKERS, PLACES};
 ghost use Rattle.xh_runner.specs.Reports.{HasArenas};
@@ -22,8 +23,7 @@ use std::thread::Threads;
 use xh_books::close_kernel;
 use xh_core::Config;
 use xh_crew::{Outcome, run_on};
-use xh_glance::Look;
-use xh_kernel::{Account, Kernel, Names, Parts};
+use xh_kernel::{Account, Kernel, Look, Names, Parts};
 use xh_model::limits::MAX_WORKERS;
 use xh_place::Gate;
 use xh_script::{Answered, Fault, Name, Script};
@@ -50,10 +50,10 @@ fn run_script<N: Names + Send + Sync, R: Threads + Wait + Sync, G: Gate + Sync>(
     gate: &G,
 ) -> Result<Ended<N>, Fault>
     requires accounts { (vec_len accounts ≡ MAX_WORKERS) × AreFresh N.parts.records.shape.names accounts.items }
-    requires looks { (vec_len looks ≡ MAX_WORKERS) × All (λ l. l ≡ fresh_look N.parts.glances) looks.items }
-    ensures played { IfOk result (λ e. HasPlayed N.parts (listing_of script.now) e.answers.items e.names.items e.accounts.items e.looks.items) }
+    requires looks { (vec_len looks ≡ MAX_WORKERS) × All (λ l. l ≡ fresh_look N.parts.histories) looks.items }
+    ensures played { IfOk result (λ e. HasPlayed N.parts N.leads (listing_of script.now) e.answers.items e.names.items e.accounts.items e.looks.items) }
     ensures count { IfOk result (λ e. (vec_len e.accounts ≡ MAX_WORKERS) × (length e.names.items ≡ PLACES)) }
-    ensures own { IfOk result (λ e. All (λ l. l.glances ≡ N.parts.glances) e.looks.items) }
+    ensures own { IfOk result (λ e. All (λ l. l.table ≡ N.parts.histories) e.looks.items) }
     ensures answers { IfOk result (λ e. AreAnswersTo script.now.lines.items e.answers.items) }
     ensures stopped { IfErr result (Stops G.always) }
 {
@@ -75,9 +75,9 @@ fn run_script<N: Names + Send + Sync, R: Threads + Wait + Sync, G: Gate + Sync>(
 // Settles a kernel whose workers are done, and closes its books.
 fn report_of<N: Names>(alloc: Global, kernel: Kernel<N>, ended: Ended<N>) -> Result<Report, Fault>
     requires count { (vec_len ended.accounts ≡ N.parts.workers) × (length ended.names.items ≡ PLACES) }
-    requires looks { All (λ l. l.glances ≡ N.parts.glances) ended.looks.items }
-    ensures run { IfOk result (λ r. (config : _) (script : _) → AreMadeBy config MAX_WORKERS N.parts
-        → HasPlayed N.parts script ended.answers.items ended.names.items ended.accounts.items ended.looks.items → HasRun config script r) }
+    requires looks { All (λ l. l.table ≡ N.parts.histories) ended.looks.items }
+    ensures run { IfOk result (λ r. (config : _) (script : _) → AreMadeBy config MAX_WORKERS N.parts → IsLaw N.parts N.leads
+        → HasPlayed N.parts N.leads script ended.answers.items ended.names.items ended.accounts.items ended.looks.items → HasRun config script r) }
     ensures same { IfOk result (λ r. r.answers.items ≡ ended.answers.items) }
     ensures arenas { IfOk result (λ r. (length r.ledger.arenas.items ≡ length N.parts.records.shape.names) × All (λ a. a.size ≡ N.parts.size) r.ledger.arenas.items) }
     ensures flight { IfOk result (λ r. AreFlightLines r.ledger.flight r.flight.items) }
@@ -112,6 +112,7 @@ fn run_named<N: Names + Send + Sync, R: Threads + Wait + Sync, G: Gate + Sync>(
 ) -> Result<Report, Fault>
     requires names { parts ≡ N.parts }
     requires made { AreMadeBy config MAX_WORKERS parts }
+    requires law { IsLaw N.parts N.leads }
     ensures run { IfOk result (HasRun config (listing_of script.now)) }
     ensures answers { IfOk result (λ r. AreAnswersTo script.now.lines.items r.answers.items) }
     ensures arenas { IfOk result (λ r. HasArenas config r.ledger) }

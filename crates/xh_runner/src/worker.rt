@@ -7,8 +7,7 @@ use arrayvec::ArrayVec;
 use std::alloc::{AllocError, Global};
 use std::sync::Wait;
 use xh_core::{Block, Contract, Glance, Refused};
-use xh_glance::Look;
-use xh_kernel::{Account, Kernel, Names};
+use xh_kernel::{Account, Kernel, Look, Names};
 use xh_model::limits::{MAX_BLOCKS, MAX_BUDGET};
 use xh_place::{Gate, Got, Taken};
 use xh_session::{Machine, Received};
@@ -22,7 +21,7 @@ pub struct Worker<'a, N: Names, R, G> {
     pub gate: &'a G,
     pub account: Account<N>,
     pub look: Look,
-    ghost own: { look.glances ≡ N.parts.glances },
+    ghost own: { look.table ≡ N.parts.histories },
 }
 
 fn block_of(got: &Got) -> Option<Block>
@@ -71,7 +70,7 @@ impl<'a, N: Names, R: Wait, G: Gate> Machine for Worker<'a, N, R, G> {
 
     ghost state = { λ w. record { account = w.account; look = w.look } };
 
-    ghost did = { did N.parts };
+    ghost did = { did N.parts N.leads };
 
     fn spawn(&mut self) -> Result<u16, Refused> {
         self.kernel.spawn(self.rt, &mut self.account, self.gate)
@@ -257,7 +256,7 @@ pub fn hire<'a, N: Names, R, G>(
     looks: Vec<Look>,
 ) -> Result<Vec<Worker<'a, N, R, G>>, AllocError>
     requires count { vec_len looks ≡ vec_len accounts }
-    requires own { All (λ l. l.glances ≡ N.parts.glances) looks.items }
+    requires own { All (λ l. l.table ≡ N.parts.histories) looks.items }
     ensures count { IfOk result (λ workers. vec_len workers ≡ vec_len accounts) }
     ensures accounts { IfOk result (λ workers. map (λ w. w.account) workers.items ≡ accounts.items) }
     ensures looks { IfOk result (λ workers. map (λ w. w.look) workers.items ≡ looks.items) }
@@ -287,7 +286,7 @@ pub fn leave_all<N: Names, R, G>(
     ensures count { IfOk result (λ r. (vec_len r.0 ≡ vec_len workers.entry) × (vec_len r.1 ≡ vec_len workers.entry)) }
     ensures accounts { IfOk result (λ r. r.0.items ≡ map (λ w. w.account) workers.entry.items) }
     ensures looks { IfOk result (λ r. r.1.items ≡ map (λ w. w.look) workers.entry.items) }
-    ensures own { IfOk result (λ r. All (λ l. l.glances ≡ N.parts.glances) r.1.items) }
+    ensures own { IfOk result (λ r. All (λ l. l.table ≡ N.parts.histories) r.1.items) }
 {
     let mut accounts = Vec::with_capacity(alloc, workers.len())?;
     let mut looks = Vec::with_capacity(alloc, workers.len())?;

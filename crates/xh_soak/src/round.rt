@@ -1,5 +1,6 @@
 //! A round: a kernel, workers on threads of their own, and the closed books.
 ghost use Rattle.std.specs.Prelude.{◌≡◌, All, IfOk, Ok, vec_len};
+ghost use Rattle.xh_kernel.specs.Histories.{IsLaw};
 
 use crate::actor::Actor;
 use crate::board::Board;
@@ -13,8 +14,7 @@ use std::sync::Wait;
 use std::thread::{self, Threads};
 use xh_books::close_books;
 use xh_core::{Ledger, Refused};
-use xh_glance::Look;
-use xh_kernel::{Account, Finished, Kernel, Names, Parts};
+use xh_kernel::{Account, Finished, Kernel, Look, Names, Parts};
 use xh_runner::{Machine, OpenGate, hire, leave_all};
 
 /// What the workers of a round did: how many blocks they took, and how often one waited for a message.
@@ -153,9 +153,9 @@ fn run_on<N: Names + Send + Sync, R: Threads + Wait + Sync>(
     looks: Vec<Look>,
 ) -> Result<(Done, Vec<Account<N>>, Vec<Look>), Wrong>
     requires count { vec_len looks ≡ vec_len accounts }
-    requires own { All (λ l. l.glances ≡ N.parts.glances) looks.items }
+    requires own { All (λ l. l.table ≡ N.parts.histories) looks.items }
     ensures count { IfOk result (λ r. vec_len r.1 ≡ vec_len accounts) }
-    ensures own { IfOk result (λ r. All (λ l. l.glances ≡ N.parts.glances) r.2.items) }
+    ensures own { IfOk result (λ r. All (λ l. l.table ≡ N.parts.histories) r.2.items) }
 {
     let machines = hire(rt, alloc, kernel, &OpenGate, accounts, looks)?;
     let (done, machines) = run_by(rt, alloc, board, plan, machines)?;
@@ -203,7 +203,7 @@ fn close<N: Names>(
     looks: Vec<Look>,
 ) -> Result<(), Wrong>
     requires count { vec_len accounts ≡ N.parts.workers }
-    requires own { All (λ l. l.glances ≡ N.parts.glances) looks.items }
+    requires own { All (λ l. l.table ≡ N.parts.histories) looks.items }
 {
     match kernel.finish(alloc, accounts, looks) {
         Ok(
@@ -231,7 +231,8 @@ fn run_named<N: Names + Send + Sync, R: Threads + Wait + Sync>(
     board: &Board,
     plan: Plan,
 ) -> Result<Done, Wrong>
-    requires { parts ≡ N.parts }
+    requires names { parts ≡ N.parts }
+    requires law { IsLaw N.parts N.leads }
 {
     let (kernel, accounts, looks) = match Kernel::<N>::new(alloc, parts) {
         Ok(made) => made,

@@ -1,12 +1,25 @@
--- What a seat knows, and the rule: there is one history a place, which the seat that writes it knows whole, and of which each worker has seen a beginning that has all of its own calls.
-use Rattle.std.specs.Prelude.{◌≡◌, ℕ, suc, ◌<◌, ◌≤◌, List, [], ◌∷◌, ◌++◌, length, map, replicate, slice_set}
+-- What a seat knows, and the rule: there is one history a place, which the seat that writes it knows whole, of which each seat has seen a beginning, a worker one that has all of its own calls, and
+-- of which the place's word shows the last call.
+use Rattle.std.specs.Prelude.{◌≡◌, ℕ, suc, ◌*◌, ◌/◌, ◌<◌, ◌≤◌, List, [], ◌∷◌, ◌++◌, length, map, replicate, slice_index, slice_set}
 use mathlib.Core.Option.{some}
 use lib.ListN.{get_elem?}
 use Rattle.atomic_table.specs.Table.{State, Step, Me}
 use Rattle.xh_history.specs.declared.view.View.{View}
 use Rattle.xh_model.specs.declared.limits.TheConstants.{PLACES}
-use Rattle.xh_history.specs.Histories.{FrontOf, History, HasSeen, at, no_front}
+use Rattle.xh_history.specs.Histories.{FrontOf, History, HasSeen, Shown, StartsWith, at, no_front}
 use Rattle.atomic_table.specs.Seated.{TableId}
+
+-- how many words lie from one place's word to the next's: those of a cache line, so that threads that store the words of their places don't wait for each other
+abbrev pub stride : ℕ
+stride = 8
+
+-- how many words there are, of which those between the places' stay 0
+abbrev pub all_words : ℕ
+all_words = 256
+
+-- the place that a word belongs to
+abbrev pub place_of : ℕ → ℕ
+place_of w = w / stride
 
 module _ {E : Type 0} where
   -- the seat writes the history of the place
@@ -21,14 +34,19 @@ module _ {E : Type 0} where
   pub record Fits (h : ℕ → History E) (writer_of server_of : ℕ → ℕ) (id : ℕ) (v : View E) : Type 0 where
     pub whole : (p : ℕ) → Writes v p → v.history ≡ h p
     pub writer : (p : ℕ) → Writes v p → id ≡ writer_of p
+    pub begun : (p : ℕ) → StartsWith (h p) (at v.fronts p)
     pub seen : (k : ℕ) → Serves v k → (p : ℕ) → HasSeen k (at v.fronts p) (h p)
     pub server : (k : ℕ) → Serves v k → id ≡ server_of k
 
   abbrev pub AllFit : (ℕ → History E) → (ℕ → ℕ) → (ℕ → ℕ) → List (View E) → Type 0
   AllFit h writer_of server_of views = (id : ℕ) (v : View E) → get_elem? views id ≡ some v → Fits h writer_of server_of id v
 
-  abbrev pub IsKept : {S : Type 0} → State S (View E) → Type 0
-  IsKept s = (h : ℕ → History E) × (writer_of : ℕ → ℕ) × (server_of : ℕ → ℕ) × AllFit h writer_of server_of s.views
+  -- each place's word shows the last call of its history
+  abbrev pub AreShown : (ℕ → ℕ → E → Type 0) → (ℕ → History E) → List ℕ → Type 0
+  AreShown shows h words = (length words ≡ all_words) × ((p : ℕ) → p < PLACES → Shown shows p (h p) (slice_index words (stride * p)))
+
+  abbrev pub IsKept : (ℕ → ℕ → E → Type 0) → {S : Type 0} → State S (View E) → Type 0
+  IsKept shows s = (h : ℕ → History E) × (writer_of : ℕ → ℕ) × (server_of : ℕ → ℕ) × AreShown shows h s.words × AllFit h writer_of server_of s.views
 
   -- the seat of all places from p on and of all workers from k on, on which nothing was called yet
   abbrev pub view_from : ℕ → ℕ → View E
@@ -51,7 +69,11 @@ module _ {E : Type 0} where
   abbrev pub worker_alone : View E → View E
   worker_alone v = record { place = 0; places_end = 0; history = []; worker = v.worker; workers_end = suc v.worker; fronts = v.fronts }
 
-  -- the seat of a place takes in that of a worker
+  -- a seat that writes no history and serves no worker, and has seen what this one has
+  abbrev pub onlooker : View E → View E
+  onlooker v = record { place = 0; places_end = 0; history = []; worker = 0; workers_end = 0; fronts = v.fronts }
+
+  -- the seat of a place takes in that of a worker, or what a look has seen
   abbrev pub both : View E → View E → View E
   both v w = record v { worker = w.worker; workers_end = w.workers_end; fronts = w.fronts }
 
@@ -66,15 +88,30 @@ module _ {E : Type 0} where
   abbrev pub with_calls : List E → View E → View E
   with_calls es v = record v { history = v.history ++ signed v.worker es; fronts = slice_set v.fronts v.place (v.history ++ signed v.worker es) }
 
-  -- a load: the calls were added, and what the worker had seen was a beginning of the history
+  -- the calls were added, and what the worker had seen was a beginning of the history
   abbrev pub Added : List E → {S : Type 0} → Step S → Me S (View E) → ℕ → Me S (View E) → Type 0
   Added es s v n w = (w ≡ (with_calls es v.0, v.1)) × HasSeen v.0.worker (at v.0.fronts v.0.place) v.0.history
 
-  -- a seat that writes the history of one place, and serves no worker
-  pub record IsPen (v : View E) : Type 0 where
-    pub place : v.place < PLACES
-    pub alone : v.places_end ≡ suc v.place
+  -- a load: the history was seen to its end, of which the word shows the last call
+  abbrev pub Looked : (ℕ → ℕ → E → Type 0) → {S : Type 0} → Step S → Me S (View E) → ℕ → Me S (View E) → Type 0
+  Looked shows s v n w = (later : History E) × (w ≡ (record v.0 { fronts = slice_set v.0.fronts (place_of s.word) (at v.0.fronts (place_of s.word) ++ later) }, v.1))
+      × Shown shows (place_of s.word) (at v.0.fronts (place_of s.word) ++ later) n
+
+  -- a load that changes nothing: what was taken in was a beginning of the history
+  abbrev pub Compared : {S : Type 0} → Step S → Me S (View E) → ℕ → Me S (View E) → Type 0
+  Compared s v n w = (w ≡ v) × StartsWith v.0.history (at v.0.fronts v.0.place)
+
+  -- the seat that writes the history of this one place, and serves no worker
+  pub record IsPen (number : ℕ) (v : View E) : Type 0 where
+    pub place : number < PLACES
+    pub is : v.place ≡ number
+    pub alone : v.places_end ≡ suc number
     pub none : v.workers_end ≤ v.worker
+
+  -- a seat that serves no worker, and has seen of each place a beginning
+  pub record IsOnlooker (v : View E) : Type 0 where
+    pub none : v.workers_end ≡ 0
+    pub fronts : length v.fronts ≡ PLACES
 
   abbrev pub view_in : List (View E) → View E
   view_in [] = spent

@@ -3,27 +3,30 @@ use Rattle.std.specs.Prelude.{◌≡◌, ◌≢◌, ℕ, true, List, [], None, I
 use Rattle.xh_core.specs.Headers.{has_end}
 use Rattle.xh_core.specs.Refusing.{first_refusal}
 use Rattle.xh_core.specs.declared.refused.Refused.TheVariants.{Empty}
-use Rattle.xh_calls.specs.Parts.{PartsOf}
+use Rattle.xh_calls.specs.declared.call.Call.TheVariants as call
+use Rattle.xh_calls.specs.Leading.{Leading}
+use Rattle.xh_calls.specs.Messages.{Takes}
 use Rattle.xh_calls.specs.Places.{start}
+use Rattle.xh_calls.specs.Several.{TakesAny}
 use Rattle.xh_place.specs.Places.{PlaceOf, found}
-use Rattle.xh_kernel.specs.declared.call.Call.TheVariants as call
 use Rattle.xh_kernel.specs.declared.looking.Look.{Look}
 use Rattle.xh_kernel.specs.declared.looking.Look.TheVariants as look
 use Rattle.xh_kernel.specs.declared.looking.Search.{Search}
 use Rattle.xh_kernel.specs.declared.looking.Search.TheVariants as search_
 use Rattle.xh_kernel.specs.Accounts.{AccountOf}
-use Rattle.xh_kernel.specs.Histories.{Asks}
+use Rattle.xh_kernel.specs.Calls.{Calls}
 
 -- the process runs at the place, and has the endpoint
 abbrev pub CanTake : ℕ → ℕ → PlaceOf → Type 0
 CanTake p e place = (first_refusal (start p place) ≡ None) × (has_end (found place e) ≡ true)
 
 -- a look that is done took a message, or was refused, and not since none waits yet
-abbrev pub LooksFor : PartsOf → ℕ → ℕ → ℕ → AccountOf → AccountOf → Look → Type 0
-LooksFor parts k p e old new (look.Done result) = Asks parts k (call.Take p e result) old new × IfErr result (λ refused. refused ≢ Empty)
-LooksFor parts k p e old new (look.Later spot seen) = Asks parts k (call.Take p e (Err Empty)) old new
+abbrev pub LooksFor : Leading → ℕ → ℕ → ℕ → AccountOf → AccountOf → Look → Type 0
+LooksFor leads k p e old new (look.Done result) = Calls leads k (call.Take p e result) (λ from to. Takes p e from to result) old new × IfErr result (λ refused. refused ≢ Empty)
+LooksFor leads k p e old new (look.Later spot seen) = Calls leads k (call.Take p e (Err Empty)) (λ from to. Takes p e from to (Err Empty)) old new
 
 -- the same at several endpoints; of no endpoints a look is done
-abbrev pub Searches : PartsOf → ℕ → ℕ → List ℕ → AccountOf → AccountOf → Search → Type 0
-Searches parts k p ends old new (search_.Done result) = Asks parts k (call.TakeAny p ends result) old new × IfErr result (λ refused. refused ≡ Empty → ends ≡ [])
-Searches parts k p ends old new (search_.Later seen) = Asks parts k (call.TakeAny p ends (Err Empty)) old new
+abbrev pub Searches : Leading → ℕ → ℕ → List ℕ → AccountOf → AccountOf → Search → Type 0
+Searches leads k p ends old new (search_.Done result) = Calls leads k (call.TakeAny p ends result) (λ from to. TakesAny p ends from to result) old new
+    × IfErr result (λ refused. refused ≡ Empty → ends ≡ [])
+Searches leads k p ends old new (search_.Later seen) = Calls leads k (call.TakeAny p ends (Err Empty)) (λ from to. TakesAny p ends from to (Err Empty)) old new

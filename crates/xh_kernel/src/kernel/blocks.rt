@@ -1,10 +1,11 @@
 //! The calls of a process on its data blocks.
-ghost use Rattle.std.specs.Prelude.{◌≡◌, ◌/◌, MatchResult, OnErr};
+ghost use Rattle.std.specs.Prelude.{◌≡◌, OnErr};
+ghost use Rattle.xh_calls.specs.Calls.{Allocates, Frees, Reads, Splits, Writes};
 ghost use Rattle.xh_core.specs.Space.{rounded};
-ghost use Rattle.xh_kernel.specs.declared.call.Call.TheVariants as call;
-ghost use Rattle.xh_kernel.specs.Accounts.{Asked, HasGiven, HasTaken, IsUnmoved};
-ghost use Rattle.xh_kernel.specs.Histories.{Calls, CallsOnly};
-ghost use Rattle.xh_model.specs.declared.limits.TheConstants.{MAX_RECORDS};
+ghost use Rattle.xh_calls.specs.declared.call.Call.TheVariants as call;
+ghost use Rattle.xh_kernel.specs.Accounts.{VaultRefuses};
+ghost use Rattle.xh_kernel.specs.Calls.{Calls};
+ghost use Rattle.xh_model.specs.Words.{place_of};
 
 use crate::account::Account;
 use crate::held::Held;
@@ -30,9 +31,8 @@ impl<N: Names> Kernel<N> {
         account: &mut Account<N>,
         gate: &G,
     ) -> Result<Block, Refused>
-        ensures account { MatchResult result (λ b. HasTaken arena b.len account.old account.new) (λ _. IsUnmoved account.old account.new) }
-        ensures call { Calls N.parts p (call.Alloc p n arena result) account.old account.new }
-        ensures vault { Asked N.parts arena (rounded n) account.old account.new result }
+        ensures call { Calls N.leads (place_of p) (call.Alloc p n arena result) (λ old new. Allocates N.parts p n arena old new result) account.old account.new }
+        ensures vault { VaultRefuses N.parts arena (rounded n) account.old account.new result }
     {
         let mut guard = self.held(rt, p);
         let held: &mut Held<N> = &mut guard;
@@ -68,7 +68,7 @@ impl<N: Names> Kernel<N> {
         account: &mut Account<N>,
         gate: &G,
     ) -> Result<(Block, Block), Refused>
-        ensures { CallsOnly N.parts p (call.Split p r k result) account.old account.new }
+        ensures { Calls N.leads (place_of p) (call.Split p r k result) (λ old new. Splits p r k old new result) account.old account.new }
     {
         let mut guard = self.held(rt, p);
         let held: &mut Held<N> = &mut guard;
@@ -94,7 +94,7 @@ impl<N: Names> Kernel<N> {
         account: &mut Account<N>,
         _gate: &G,
     ) -> Result<(), Refused>
-        ensures call { CallsOnly N.parts p (call.Read p r at out.new result) account.old account.new }
+        ensures call { Calls N.leads (place_of p) (call.Read p r at out.new result) (λ old new. (new.place ≡ old.place) × Reads p r at old.place out.new result) account.old account.new }
         ensures refused { OnErr result (out.new ≡ out.old) }
     {
         let mut guard = self.held(rt, p);
@@ -102,7 +102,7 @@ impl<N: Names> Kernel<N> {
         let answer = self.shared.heap.read(&mut held.place, p, r, at, out);
         let about = (p, r, at, &*out, &answer);
         held.scribe
-            .write_down(&self.shared, &held.place, &mut account.front, &about);
+            .note(&self.shared, &held.place, &mut account.front, &about);
         answer
     }
 
@@ -119,7 +119,7 @@ impl<N: Names> Kernel<N> {
         account: &mut Account<N>,
         _gate: &G,
     ) -> Result<(), Refused>
-        ensures { CallsOnly N.parts p (call.Write p r at bytes.now result) account.old account.new }
+        ensures { Calls N.leads (place_of p) (call.Write p r at bytes.now result) (λ old new. Writes p r at bytes.now old.place new.place result) account.old account.new }
     {
         let mut guard = self.held(rt, p);
         let held: &mut Held<N> = &mut guard;
@@ -141,8 +141,7 @@ impl<N: Names> Kernel<N> {
         account: &mut Account<N>,
         gate: &G,
     ) -> Result<u32, Refused>
-        ensures account { MatchResult result (λ n. HasGiven (r / MAX_RECORDS) n account.old account.new) (λ _. IsUnmoved account.old account.new) }
-        ensures call { Calls N.parts p (call.Free p r result) account.old account.new }
+        ensures { Calls N.leads (place_of p) (call.Free p r result) (λ old new. Frees p r old.place new.place result) account.old account.new }
     {
         let mut guard = self.held(rt, p);
         let held: &mut Held<N> = &mut guard;

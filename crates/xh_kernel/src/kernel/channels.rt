@@ -1,10 +1,11 @@
 //! Channels are opened, for one process or between two.
-ghost use Rattle.std.specs.Prelude.{◌≡◌, ◌*◌, ◌<◌, IfOk, MatchResult, None, Option, Some, List, ℕ};
-ghost use Rattle.xh_kernel.specs.declared.call.Call.TheVariants as call;
-ghost use Rattle.xh_kernel.specs.Accounts.{Asked};
-ghost use Rattle.xh_kernel.specs.Endings.{GivesBack};
-ghost use Rattle.xh_kernel.specs.Histories.{Calls};
-ghost use Rattle.xh_kernel.specs.Wires.{HandsOver, Opens, TakesEnds, Wires};
+ghost use Rattle.std.specs.Prelude.{◌≡◌, ◌*◌, ◌<◌, IfOk, None, Option, Some, List, ℕ};
+ghost use Rattle.xh_calls.specs.declared.call.Call.TheVariants as call;
+ghost use Rattle.xh_calls.specs.Wires.{ClosesAgain, OpensToward, ReceivesOr, toward_high};
+ghost use Rattle.xh_kernel.specs.Accounts.{VaultRefuses};
+ghost use Rattle.xh_kernel.specs.Calls.{Calls};
+ghost use Rattle.xh_kernel.specs.Wires.{HandsOver, OpensBoth, Wires};
+ghost use Rattle.xh_model.specs.Words.{place_of};
 ghost use Rattle.xh_model.specs.declared.limits.TheConstants.{CHANNELS, END_BYTES};
 ghost use Rattle.xh_model.specs.declared.row.Row.{Row};
 ghost use Rattle.xh_place.specs.Ending.{back_of};
@@ -31,7 +32,7 @@ impl<N: Names> Kernel<N> {
         account: &mut Account<N>,
         gate: &G,
     ) -> Result<(Block, Block), Refused>
-        ensures { Opens N.parts p arena None account.old account.new result }
+        ensures { OpensBoth N.parts N.leads p arena None account.old account.new result }
     {
         self.open_by(rt, p, arena, None, account, gate)
     }
@@ -46,7 +47,7 @@ impl<N: Names> Kernel<N> {
         account: &mut Account<N>,
         gate: &G,
     ) -> Result<(Block, Block), Refused>
-        ensures { Opens N.parts p arena (Some contract) account.old account.new result }
+        ensures { OpensBoth N.parts N.leads p arena (Some contract) account.old account.new result }
     {
         self.open_by(rt, p, arena, Some(contract), account, gate)
     }
@@ -64,7 +65,7 @@ impl<N: Names> Kernel<N> {
         account: &mut Account<N>,
         gate: &G,
     ) -> Result<(Block, Block), Refused>
-        ensures { Wires N.parts p q arena None account.old account.new result }
+        ensures { Wires N.parts N.leads p q arena None account.old account.new result }
     {
         self.connect(rt, p, q, arena, None, account, gate)
     }
@@ -80,7 +81,7 @@ impl<N: Names> Kernel<N> {
         account: &mut Account<N>,
         gate: &G,
     ) -> Result<(Block, Block), Refused>
-        ensures { Wires N.parts p q arena (Some contract) account.old account.new result }
+        ensures { Wires N.parts N.leads p q arena (Some contract) account.old account.new result }
     {
         self.connect(rt, p, q, arena, Some(contract), account, gate)
     }
@@ -97,7 +98,7 @@ impl<N: Names> Kernel<N> {
     ) -> Result<(Block, Block), Refused>
         ghost by: { Option (List Row) }
         requires { contract ≡ by }
-        ensures { Opens N.parts p arena by account.old account.new result }
+        ensures { OpensBoth N.parts N.leads p arena by account.old account.new result }
     {
         let mut guard = self.held(rt, p);
         let held: &mut Held<N> = &mut guard;
@@ -128,7 +129,7 @@ impl<N: Names> Kernel<N> {
         account: &mut Account<N>,
         gate: &G,
     ) -> Result<(Block, Block), Refused>
-        ensures { Wires N.parts p q arena contract account.old account.new result }
+        ensures { Wires N.parts N.leads p q arena contract account.old account.new result }
     {
         self.look_at(rt, p, account)?;
         self.look_at(rt, q, account)?;
@@ -151,9 +152,8 @@ impl<N: Names> Kernel<N> {
     ) -> Result<Wired, Refused>
         ghost by: { Option (List Row) }
         requires { contract ≡ by }
-        ensures call { Calls N.parts p (call.OpenToward p arena by result) account.old account.new }
-        ensures account { TakesEnds arena account.old account.new result }
-        ensures vault { Asked N.parts arena (2 * END_BYTES) account.old account.new result }
+        ensures call { Calls N.leads (place_of p) (call.OpenToward p arena by result) (λ old new. OpensToward N.parts p arena by old new result) account.old account.new }
+        ensures vault { VaultRefuses N.parts arena (2 * END_BYTES) account.old account.new result }
         ensures exists { IfOk result (λ w. IsRecord N.parts.records.shape w.high.rec) }
     {
         let mut guard = self.held(rt, p);
@@ -185,7 +185,7 @@ impl<N: Names> Kernel<N> {
         gate: &G,
     ) -> Result<(Block, Block), Refused>
         requires { IsRecord N.parts.records.shape wired.high.rec }
-        ensures { HandsOver N.parts p q wired account.old account.new result }
+        ensures { HandsOver N.leads p q wired account.old account.new result }
     {
         let Wired { low, high, channel } = wired;
         let Err(_ended) = self.receive(rt, q, high.rec, channel, account, gate) else {
@@ -208,7 +208,7 @@ impl<N: Names> Kernel<N> {
         ghost before: { ℕ }
         requires there { IsRecord N.parts.records.shape r × (channel < CHANNELS) }
         requires before { before ≡ back_of account.old.tallies }
-        ensures { GivesBack N.parts q (λ bytes. call.Receive q r channel bytes result) account.old account.new }
+        ensures { (bytes : ℕ) × Calls N.leads (place_of q) (call.Receive q r channel bytes result) (λ old new. ReceivesOr q (toward_high channel) r bytes old new result) account.old account.new }
     {
         let mut guard = self.held(rt, q);
         let held: &mut Held<N> = &mut guard;
@@ -232,7 +232,7 @@ impl<N: Names> Kernel<N> {
     )
         ghost before: { ℕ }
         requires { before ≡ back_of account.old.tallies }
-        ensures { GivesBack N.parts p (λ bytes. call.CloseAgain p r channel bytes) account.old account.new }
+        ensures { (bytes : ℕ) × Calls N.leads (place_of p) (call.CloseAgain p r channel bytes) (λ old new. ClosesAgain p channel r old new bytes) account.old account.new }
     {
         let mut guard = self.held(rt, p);
         let held: &mut Held<N> = &mut guard;

@@ -1,8 +1,11 @@
 //! The ends of endpoints and of processes.
 ghost use Rattle.std.specs.Prelude.{◌≡◌, ℕ};
-ghost use Rattle.xh_kernel.specs.declared.call.Call.TheVariants as call;
-ghost use Rattle.xh_kernel.specs.Endings.{Closes, Exits, Kills};
-ghost use Rattle.xh_kernel.specs.Histories.{CallsOnly};
+ghost use Rattle.xh_calls.specs.declared.call.Call.TheVariants as call;
+ghost use Rattle.xh_calls.specs.Calls.{Looks};
+ghost use Rattle.xh_calls.specs.Endings.{Closes};
+ghost use Rattle.xh_kernel.specs.Calls.{Calls};
+ghost use Rattle.xh_kernel.specs.Endings.{Exits, Kills};
+ghost use Rattle.xh_model.specs.Words.{place_of};
 ghost use Rattle.xh_place.specs.Ending.{back_of};
 
 use crate::account::Account;
@@ -26,7 +29,7 @@ impl<N: Names> Kernel<N> {
         account: &mut Account<N>,
         gate: &G,
     ) -> Result<u64, Refused>
-        ensures { Closes N.parts p e account.old account.new result }
+        ensures { (bytes : ℕ) × Calls N.leads (place_of p) (call.Close p e bytes result) (λ old new. Closes p e bytes old new result) account.old account.new }
     {
         self.close_with(rt, p, e, account, gate)
     }
@@ -42,7 +45,7 @@ impl<N: Names> Kernel<N> {
     ) -> Result<u64, Refused>
         ghost before: { ℕ }
         requires { before ≡ back_of account.old.tallies }
-        ensures { Closes N.parts p e account.old account.new result }
+        ensures { (bytes : ℕ) × Calls N.leads (place_of p) (call.Close p e bytes result) (λ old new. Closes p e bytes old new result) account.old account.new }
     {
         let mut guard = self.held(rt, p);
         let held: &mut Held<N> = &mut guard;
@@ -69,7 +72,7 @@ impl<N: Names> Kernel<N> {
         account: &mut Account<N>,
         gate: &G,
     ) -> Result<u64, Refused>
-        ensures { Exits N.parts p budget account.old account.new result }
+        ensures { Exits N.leads p budget account.old account.new result }
     {
         self.stop(rt, p, budget, account, gate)
     }
@@ -86,7 +89,7 @@ impl<N: Names> Kernel<N> {
         account: &mut Account<N>,
         gate: &G,
     ) -> Result<u64, Refused>
-        ensures { Kills N.parts by victim budget account.old account.new result }
+        ensures { Kills N.leads by victim budget account.old account.new result }
     {
         self.look_at(rt, by, account)?;
         self.exit(rt, victim, budget, account, gate)
@@ -103,7 +106,7 @@ impl<N: Names> Kernel<N> {
     ) -> Result<u64, Refused>
         ghost before: { ℕ }
         requires { before ≡ back_of account.old.tallies }
-        ensures { Exits N.parts p budget account.old account.new result }
+        ensures { Exits N.leads p budget account.old account.new result }
     {
         let mut guard = self.held(rt, p);
         let held: &mut Held<N> = &mut guard;
@@ -125,14 +128,14 @@ impl<N: Names> Kernel<N> {
         p: u16,
         account: &mut Account<N>,
     ) -> Result<(), Refused>
-        ensures { CallsOnly N.parts p (call.Look p result) account.old account.new }
+        ensures { Calls N.leads (place_of p) (call.Look p result) (λ old new. Looks p old.place new.place result) account.old account.new }
     {
         let mut guard = self.held(rt, p);
         let held: &mut Held<N> = &mut guard;
         let answer = check_start(&held.place, p);
         let about = (p, &answer);
         held.scribe
-            .write_down(&self.shared, &held.place, &mut account.front, &about);
+            .note(&self.shared, &held.place, &mut account.front, &about);
         answer
     }
 }

@@ -1,9 +1,11 @@
 //! Messages of a process.
-ghost use Rattle.std.specs.Prelude.{◌≢◌, Err, IfErr};
+ghost use Rattle.std.specs.Prelude.{◌≢◌, IfErr};
+ghost use Rattle.xh_calls.specs.Messages.{Gives, Takes};
 ghost use Rattle.xh_core.specs.declared.refused.Refused.TheVariants as refused;
-ghost use Rattle.xh_kernel.specs.declared.call.Call.TheVariants as call;
-ghost use Rattle.xh_kernel.specs.Histories.{CallsOnly};
+ghost use Rattle.xh_calls.specs.declared.call.Call.TheVariants as call;
+ghost use Rattle.xh_kernel.specs.Calls.{Calls};
 ghost use Rattle.xh_kernel.specs.Waits.{AtLast};
+ghost use Rattle.xh_model.specs.Words.{place_of};
 
 use crate::account::Account;
 use crate::held::Held;
@@ -31,7 +33,7 @@ impl<N: Names> Kernel<N> {
         account: &mut Account<N>,
         gate: &G,
     ) -> Result<u64, Refused>
-        ensures { CallsOnly N.parts p (call.Give p e tag blocks.now result) account.old account.new }
+        ensures { Calls N.leads (place_of p) (call.Give p e tag blocks.now result) (λ old new. Gives p e tag blocks.now old new result) account.old account.new }
     {
         let mut guard = self.held(rt, p);
         let held: &mut Held<N> = &mut guard;
@@ -59,7 +61,7 @@ impl<N: Names> Kernel<N> {
         account: &mut Account<N>,
         gate: &G,
     ) -> Result<Taken, Refused>
-        ensures { CallsOnly N.parts p (call.Take p e result) account.old account.new }
+        ensures { Calls N.leads (place_of p) (call.Take p e result) (λ old new. Takes p e old new result) account.old account.new }
     {
         let mut guard = self.held(rt, p);
         let held: &mut Held<N> = &mut guard;
@@ -84,7 +86,7 @@ impl<N: Names> Kernel<N> {
         account: &mut Account<N>,
         gate: &G,
     ) -> Result<Taken, Refused>
-        ensures calls { AtLast N.parts p (call.Take p e (Err refused.Empty)) (call.Take p e result) account.old account.new }
+        ensures calls { AtLast N.leads (place_of p) (call.Take p e) (λ answer old new. Takes p e old new answer) result account.old account.new }
         ensures waits { IfErr result (λ why. why ≢ refused.Empty) }
     {
         for _ in rt.forever() {

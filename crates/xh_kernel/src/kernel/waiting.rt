@@ -1,9 +1,12 @@
 //! Messages at any of several endpoints of a process, and until a time.
-ghost use Rattle.std.specs.Prelude.{◌≡◌, [], Err, IfErr};
+ghost use Rattle.std.specs.Prelude.{◌≡◌, [], IfErr};
+ghost use Rattle.xh_calls.specs.Messages.{Takes};
+ghost use Rattle.xh_calls.specs.Several.{TakesAny};
 ghost use Rattle.xh_core.specs.declared.refused.Refused.TheVariants as refused;
-ghost use Rattle.xh_kernel.specs.declared.call.Call.TheVariants as call;
-ghost use Rattle.xh_kernel.specs.Histories.{CallsOnly};
+ghost use Rattle.xh_calls.specs.declared.call.Call.TheVariants as call;
+ghost use Rattle.xh_kernel.specs.Calls.{Calls};
 ghost use Rattle.xh_kernel.specs.Waits.{AtLast};
+ghost use Rattle.xh_model.specs.Words.{place_of};
 
 use crate::account::Account;
 use crate::kernel::Kernel;
@@ -36,7 +39,7 @@ impl<N: Names> Kernel<N> {
         account: &mut Account<N>,
         gate: &G,
     ) -> Result<Taken, Refused>
-        ensures { AtLast N.parts p (call.Take p e (Err refused.Empty)) (call.Take p e result) account.old account.new }
+        ensures { AtLast N.leads (place_of p) (call.Take p e) (λ answer old new. Takes p e old new answer) result account.old account.new }
     {
         for _ in rt.forever() {
             let past = is_past(rt, deadline);
@@ -71,7 +74,7 @@ impl<N: Names> Kernel<N> {
         account: &mut Account<N>,
         gate: &G,
     ) -> Result<Answered, Refused>
-        ensures { CallsOnly N.parts p (call.TakeAny p ends.now result) account.old account.new }
+        ensures { Calls N.leads (place_of p) (call.TakeAny p ends.now result) (λ old new. TakesAny p ends.now old new result) account.old account.new }
     {
         let mut held = self.held(rt, p);
         held.take_any(rt, &self.shared, p, ends, account, gate)
@@ -90,7 +93,7 @@ impl<N: Names> Kernel<N> {
         account: &mut Account<N>,
         gate: &G,
     ) -> Result<Answered, Refused>
-        ensures calls { AtLast N.parts p (call.TakeAny p ends.now (Err refused.Empty)) (call.TakeAny p ends.now result) account.old account.new }
+        ensures calls { AtLast N.leads (place_of p) (call.TakeAny p ends.now) (λ answer old new. TakesAny p ends.now old new answer) result account.old account.new }
         ensures waits { IfErr result (λ why. why ≡ refused.Empty → ends.now ≡ []) }
     {
         for _ in rt.forever() {
@@ -118,7 +121,7 @@ impl<N: Names> Kernel<N> {
         account: &mut Account<N>,
         gate: &G,
     ) -> Result<Answered, Refused>
-        ensures { AtLast N.parts p (call.TakeAny p ends.now (Err refused.Empty)) (call.TakeAny p ends.now result) account.old account.new }
+        ensures { AtLast N.leads (place_of p) (call.TakeAny p ends.now) (λ answer old new. TakesAny p ends.now old new answer) result account.old account.new }
     {
         for _ in rt.forever() {
             let past = is_past(rt, deadline);

@@ -1,4 +1,4 @@
-use Rattle.xh_kernel.proofs.Common.{AccountOf, AreSeen, List, Pens, arith, get_or, get_or-set_other, get_or_default, histories_of, length, rules, subst, ◌<◌, ◌∙◌, ◌≡◌, ◌≤◌}
+use Rattle.xh_kernel.proofs.Common.{AccountOf, AreSeen, Entry, List, PenOf, arith, get_or, get_or-set_other, get_or_default, histories_of, length, rules, subst, ◌<◌, ◌∙◌, ◌≡◌, ◌≤◌}
 use borrow.Author.Count.{below_more}
 use Rattle.xh_kernel.proofs.Compared.{same_tallies}
 use Rattle.xh_kernel.proofs.finishing.compare_accounts.Goals as goal
@@ -11,7 +11,7 @@ loop-worker-preserved g c =
     let here : get_or l.accounts l.worker X ≡ get_or all l.worker X = l.invariant.3 l.worker X (omega arith) in
     let seen : AreSeen (get_or all l.worker X) (histories_of c.args.pens.now) =
     subst (λ (a : AccountOf). AreSeen a (histories_of c.args.pens.now)) here
-    (subst (λ (ps : List Pens). AreSeen (get_or l.accounts l.worker X) (histories_of ps)) l.invariant.0 c.compare_account.ensures.seen) in (
+    (subst (λ (ps : List (PenOf Entry)). AreSeen (get_or l.accounts l.worker X) (histories_of ps)) l.invariant.0 c.compare_account.ensures.seen) in (
       c.compare_account.ensures.same.0 ∙ l.invariant.0,
       same_tallies l.accounts l.worker X new c.compare_account.ensures.same.1.1 ∙ l.invariant.1,
       below_more (λ k. (d : AccountOf) → AreSeen (get_or all k d) (histories_of c.args.pens.now)) l.worker l.invariant.2

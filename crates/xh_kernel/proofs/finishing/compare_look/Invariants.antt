@@ -1,8 +1,8 @@
-use Rattle.xh_kernel.proofs.Common.{glances_of, ℕ, ◌<◌, ◌≡◌}
-use Rattle.xh_glance.specs.Histories.{StartsWith, at}
+use Rattle.xh_kernel.proofs.Common.{histories_of, ℕ, ◌<◌, ◌≡◌}
+use Rattle.xh_history.specs.Histories.{StartsWith, at}
 use Rattle.xh_kernel.proofs.finishing.compare_look.Given as goal
 
 abbrev pub invariant-loop-place : goal.invariant-loop-place
 invariant-loop-place l =
     (l.pens ≡ l.fn.pens) × (l.look ≡ l.fn.look)
-    × ((p : ℕ) → p < l.place → StartsWith (at (glances_of l.fn.pens) p) (at l.fn.look.fronts p))
+    × ((p : ℕ) → p < l.place → StartsWith (at (histories_of l.fn.pens) p) (at l.fn.look.fronts p))

@@ -6,4 +6,4 @@ pub invariant_of-new-clause-history : goal.invariant_of-new-clause-history
 invariant_of-new-clause-history g c =
     let parts = g.N.Names.parts in let place = c.in_ok-place.place in
     let unused : IsUnused parts c.args.seat.process place.place = search rules in
-    history_first parts place c.new-2.result.pens c.args.seat.process unused (search rules) (search rules)
+    history_first parts place c.new-2.result.pen c.args.seat.process unused (search rules)

@@ -1,4 +1,4 @@
-use Rattle.xh_kernel.proofs.Common.{AccountOf, Call, FrontOf, IsBundle, VaultOf, ap, arith, each_push, first_of, fresh_front, into_iter_len, length, rest_of, rules, sym, vec_len, ℕ, ◌<◌, ◌∙◌, ◌≡◌}
+use Rattle.xh_kernel.proofs.Common.{AccountOf, Entry, FrontOf, IsBundle, VaultOf, ap, arith, each_push, first_of, fresh_front, into_iter_len, length, rest_of, rules, sym, vec_len, ℕ, ◌<◌, ◌∙◌, ◌≡◌}
 use Rattle.xh_kernel.specs.Accounts.{fresh}
 use Rattle.xh_kernel.proofs.kernel.name_accounts.Goals as goal
 
@@ -7,7 +7,7 @@ named-requires-clause-front g c =
     let was = c.loop-bundle.invariant in let step = c.in-Some.ensures.steps in let parts = g.N.Names.parts in let done = vec_len c.loop-bundle.accounts in
     let some : 0 < into_iter_len c.loop-bundle.bundle-iterator = omega (arith, step.1) in
     let here = first_of (IsBundle parts.records.shape.names) done _ _ c.in-Some.bundle step.0 _ was.2 some in
-    first_of (λ k (x : FrontOf Call). x ≡ fresh_front parts.histories k) done _ _ c.in-Some-Some.front c.in-Some-Some.ensures.items _ was.3 (omega (arith, was.1, some))
+    first_of (λ k (x : FrontOf Entry). x ≡ fresh_front parts.histories k) done _ _ c.in-Some-Some.front c.in-Some-Some.ensures.items _ was.3 (omega (arith, was.1, some))
     ∙ ap (fresh_front parts.histories) (sym here.0)
 
 pub named-requires-clause-seen : goal.named-requires-clause-seen
@@ -33,7 +33,7 @@ loop-bundle-preserved g c =
       search rules,
       search rules,
       rest_of (IsBundle parts.records.shape.names) done _ _ c.in-Some.bundle step.0 _ was.2 _ _ step.1 (search rules),
-      rest_of (λ k (x : FrontOf Call). x ≡ fresh_front parts.histories k) done _ _ c.in-Some-Some.front c.in-Some-Some.ensures.items _ was.3 _ _ (search rules) (search rules),
+      rest_of (λ k (x : FrontOf Entry). x ≡ fresh_front parts.histories k) done _ _ c.in-Some-Some.front c.in-Some-Some.ensures.items _ was.3 _ _ (search rules) (search rules),
       search rules,
       rest_of (λ k (x : FrontOf VaultOf). x ≡ fresh_front parts.vaults k) done _ _ c.in-Some-Some.seen c.in-Some-Some.ensures'.items _ was.5 _ _ (search rules) (search rules),
       rw c.in_ok-push.ensures.items (each_push P _ _ was.6 (c.named.ensures ∙ ap (fresh parts.records.shape.names) here)),

@@ -11,10 +11,9 @@ invariant_of-result c =
       size = search rules;
       places = search rules;
       seats = (search rules, λ k x e. let h = c.in-Ok.ensures.seats.1 k x e in (h.0, h.1, h.2));
-      pens_are = (search rules, c.in_ok-glances.ensures.pens.1);
       bundles = search rules;
+      pens_are = (search rules, c.in_ok-histories.ensures.pens.1);
       looks_are = search rules;
-      unwritten_are = (search rules, c.in_ok-histories.ensures.pens.1);
       fronts_are = (search rules, λ k d below. unseen.1 k d (let few = unseen.0 in search rules));
       vault_pens_are = (search rules, λ k d below. pens.1 k d (let few = pens.0 in search rules) ∙ ap (fresh_pen c.in_ok-vault_histories.vault_histories) (let e : k ≡ 0 + k = omega arith in e));
       seen_are = (search rules, λ k d below. unasked.1 k d (let few = unasked.0 in search rules));

@@ -1,6 +1,6 @@
 use Rattle.std.proofs.Common.{◌≡◌, ◌∙◌, All, ap, arith, map, subst, sym, vec_len}
 use Rattle.std.proofs.lemmas.List.{length-map}
-use Rattle.xh_glance.specs.Look.{fresh_look}
+use Rattle.xh_history.specs.Histories.{fresh_look}
 use Rattle.xh_kernel.specs.Accounts.{AreFresh}
 use Rattle.xh_crew.proofs.Wholes.{played_count}
 use Rattle.xh_runner.proofs.Workers.{map_twice}
@@ -18,7 +18,7 @@ returns-clause-played g c =
       left = map (λ w. record { account = w.account; look = w.look }) machines;
       are_new = record {
         accounts = subst (AreFresh parts.records.shape.names) (sym accounts) c.requires.accounts.1;
-        looks = subst (All (λ l. l ≡ fresh_look parts.glances)) (sym looks) c.requires.looks.1;
+        looks = subst (All (λ l. l ≡ fresh_look parts.histories)) (sym looks) c.requires.looks.1;
         count = length-map {B = WorkerState} workers (λ w. record { account = w.account; look = w.look })
             ∙ omega (arith, c.in_ok-workers.workers.ok, c.in_ok-workers.ensures.count, c.requires.accounts.0);
       };
@@ -30,7 +30,7 @@ returns-clause-played g c =
 
 pub returns-clause-count : goal.returns-clause-count
 returns-clause-count g c =
-    let count = played_count (did g.N.Names.parts) c.args.script.now.contracts.items c.args.script.now.lines.items c.in_ok-machines.field-0.answers.items _ _ c.in_ok-machines.ensures.played in
+    let count = played_count (did g.N.Names.parts g.N.Names.leads) c.args.script.now.contracts.items c.args.script.now.lines.items c.in_ok-machines.field-0.answers.items _ _ c.in_ok-machines.ensures.played in
     let olds = length-map {B = WorkerState} c.in_ok-workers.workers.items (λ w. record { account = w.account; look = w.look }) in
     let news = length-map {B = WorkerState} c.in_ok-machines.field-0.machines.items (λ w. record { account = w.account; look = w.look }) in (
       omega (

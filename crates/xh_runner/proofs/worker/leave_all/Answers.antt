@@ -1,17 +1,18 @@
 use Rattle.std.proofs.Common.{◌≡◌, All, arith, subst, sym}
 use Rattle.std.proofs.lemmas.List.Elements.{All-push}
-use Rattle.xh_glance.specs.Look.{LookOf}
+use Rattle.xh_calls.specs.declared.call.Entry.{Entry}
+use Rattle.xh_history.specs.Histories.{LookOf}
 use Rattle.xh_crew.proofs.Plays.{left_more}
 use Rattle.xh_runner.proofs.worker.leave_all.Goals as goal
 
 pub loop-worker-preserved : goal.loop-worker-preserved
 loop-worker-preserved g c =
     let past = c.loop-worker.invariant in
-    let own : All (λ (x : LookOf). x.glances ≡ g.N.Names.parts.glances) _ = All-push
-    (λ (x : LookOf). x.glances ≡ g.N.Names.parts.glances) c.loop-worker.looks.items _ past.own c.in-Some.worker.own in record {
+    let own : All (λ (x : LookOf Entry). x.table ≡ g.N.Names.parts.histories) _ = All-push
+    (λ (x : LookOf Entry). x.table ≡ g.N.Names.parts.histories) c.loop-worker.looks.items _ past.own c.in-Some.worker.own in record {
       accounts_are = left_more (λ w. w.account) _ _ c.in-Some.worker _ _ _ c.push_reserved.ensures.items c.in-Some.ensures.steps.0 past.accounts_are;
       looks_are = left_more (λ w. w.look) _ _ c.in-Some.worker _ _ _ c.push_reserved-in-loop-worker.ensures.items c.in-Some.ensures.steps.0 past.looks_are;
-      own = subst (All (λ (x : LookOf). x.glances ≡ g.N.Names.parts.glances)) (sym c.push_reserved-in-loop-worker.ensures.items) own;
+      own = subst (All (λ (x : LookOf Entry). x.table ≡ g.N.Names.parts.histories)) (sym c.push_reserved-in-loop-worker.ensures.items) own;
       accounts_room = omega (arith, c.push_reserved.ensures.capacity, past.accounts_room);
       looks_room = omega (arith, c.push_reserved-in-loop-worker.ensures.capacity, past.looks_room);
       accounts_count = omega (arith, c.push_reserved.ensures.len, c.in-Some.ensures.steps.1, past.accounts_count);

@@ -1,4 +1,5 @@
+use Rattle.xh_kernel.specs.Histories.{LeadsTo}
 use Rattle.xh_bench.proofs.kernels.Timing.time.Given as goal
 
 abbrev pub ghosts-over : goal.ghosts-over
-ghosts-over g a = record { parts = a.parts }
+ghosts-over g a = record { parts = a.parts; leads = LeadsTo a.parts }

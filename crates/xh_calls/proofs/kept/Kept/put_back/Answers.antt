@@ -1,7 +1,16 @@
-use Rattle.xh_calls.proofs.Common.{All-push, IsOpen, VaultOf, [], ap, map_push, ◌++◌, ◌∙◌, ◌∷◌}
+use Rattle.xh_calls.proofs.Common.{All-push, IsOpen, VaultOf, [], ap, arith, length, map_push, sym, ◌++◌, ◌∙◌, ◌∷◌}
+use Rattle.std.proofs.lemmas.List.{length-map, length-take-le}
+use Rattle.xh_calls.proofs.Lists.{below_get}
 use Rattle.xh_calls.proofs.Taking.{take_more}
 use Rattle.xh_calls.proofs.Vaulted.{known}
 use Rattle.xh_calls.proofs.kept.Kept.put_back.Goals as goal
+
+pub push_reserved-requires : goal.push_reserved-requires
+push_reserved-requires g c =
+    let is = (known g.N.Names.parts g.row.A _ c.self.inside.pen c.in-Some.vault c.in-Some.is c.self.invariant).0 in
+    let below = below_get g.N.Names.parts.records.shape.names g.row.A c.in-Some.vault.id is.0 in
+    let long = sym (length-map c.args.vaults.now.items (λ (v : VaultOf). v.id)) ∙ ap length c.requires.names in
+    omega (arith, long, below, length-take-le g.row.A g.N.Names.parts.records.shape.names, c.requires.room, c.args.vaults.now.ok)
 
 pub returns-in-Some-clause-names : goal.returns-in-Some-clause-names
 returns-in-Some-clause-names g c =

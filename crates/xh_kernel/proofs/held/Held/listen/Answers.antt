@@ -3,5 +3,5 @@ use Rattle.xh_kernel.proofs.held.Held.listen.Goals as goal
 
 pub invariant_of-self-clause-history : goal.invariant_of-self-clause-history
 invariant_of-self-clause-history g c =
-    let self = c.loop-e.self in let pens = self.scribe.pens in
-    rests g.N.Names.parts pens.history.number pens.history.history pens.glances.history self.place c.spot.new.self self.history c.spot.ensures.same
+    let self = c.loop-e.self in let pen = self.scribe.pen in
+    rests g.N.Names.parts pen.number pen.history self.place c.spot.new.self self.history c.spot.ensures.same

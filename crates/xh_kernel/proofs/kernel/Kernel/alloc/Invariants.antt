@@ -1,4 +1,4 @@
-use Rattle.xh_kernel.specs.declared.call.Call.TheVariants.{Alloc}
+use Rattle.xh_calls.specs.declared.call.Call.TheVariants.{Alloc}
 use Rattle.xh_kernel.proofs.kernel.Kernel.alloc.Given as goal
 
 abbrev pub ghost-note : goal.ghost-note

@@ -1,6 +1,7 @@
 use Rattle.xh_calls.specs.Wires.{ClosesAgain}
-use Rattle.xh_kernel.proofs.Common.{back_of, refl, rules, ℕ, ◌-◌}
+use Rattle.xh_kernel.proofs.Common.{ap, back_of, refl, rules, ℕ, ◌-◌, ◌∙◌}
 use Rattle.xh_kernel.proofs.Back.{came_back}
+use Rattle.xh_kernel.proofs.Recorded.{stepped}
 use Rattle.xh_kernel.proofs.kernel.Kernel.close_again.Goals as goal
 
 pub note-requires : goal.note-requires
@@ -8,10 +9,11 @@ note-requires g c κs within =
     let held = c.deref_mut-held.result.now in let d = c.close_again.ensures.closed in
     let closes = λ (bytes : ℕ). ClosesAgain c.args.p c.args.channel c.args.r d.0 c.close_again.new.place bytes in
     let came = came_back {P = closes} g.before (search rules) c.account.view_is refl refl (d.3, d.4, d.5) in
-    (search rules, (search rules, (search rules, (search rules, (search rules, (held.place, d.0, held.told, held.history, d.1, came.0, d.2))))))
+    (search rules, (search rules, (search rules, (search rules, (search rules, (held.place, d.0, held.history, d.1, came.0, d.2))))))
 
 pub returns : goal.returns
 returns g c =
+    let place = ap (λ h. h.scribe.pen.number) c.deref_mut-held.ensures.value ∙ c.held-guard.ensures in
     let d = c.close_again.ensures.closed in
     let came = came_back {P = λ _. Unit {0}} g.before (search rules) c.account.view_is refl refl (d.3, tt, d.5) in
-    (back_of c.close_again.new.till.tallies.items - g.before, search rules, (search rules, came.1))
+    (back_of c.close_again.new.till.tallies.items - g.before, ((search rules, (search rules, came.1)), stepped g.N.Names.leads _ _ c.note.new.front.fronts _ place c.note.ensures.step))

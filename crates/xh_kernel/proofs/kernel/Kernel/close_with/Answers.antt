@@ -1,14 +1,16 @@
-use Rattle.xh_kernel.proofs.Common.{back_of, refl, rules, stays_itself, ◌-◌}
+use Rattle.xh_kernel.proofs.Common.{ap, back_of, refl, rules, stays_itself, ◌-◌, ◌∙◌}
 use Rattle.xh_kernel.proofs.Back.{came_back}
+use Rattle.xh_kernel.proofs.Recorded.{stepped}
 use Rattle.xh_kernel.proofs.kernel.Kernel.close_with.Goals as goal
 
 pub note-requires : goal.note-requires
 note-requires g c κs within =
     let held = c.deref_mut-held.result.now in let e = c.close-answer.ensures in
     let came = came_back g.before (search rules) c.account.view_is refl refl e.closed in
-    (search rules, (search rules, (search rules, (search rules, (search rules, (held.place, held.place, held.told, held.history, stays_itself held.place, came.0, e.same.0.3))))))
+    (search rules, (search rules, (search rules, (search rules, (search rules, (held.place, held.place, held.history, stays_itself held.place, came.0, e.same.0.3))))))
 
 pub returns : goal.returns
 returns g c =
+    let place = ap (λ h. h.scribe.pen.number) c.deref_mut-held.ensures.value ∙ c.held-guard.ensures in
     let came = came_back g.before (search rules) c.account.view_is refl refl c.close-answer.ensures.closed in
-    (back_of c.close-answer.new.till.tallies.items - g.before, search rules, (search rules, came.1))
+    (back_of c.close-answer.new.till.tallies.items - g.before, ((search rules, (search rules, came.1)), stepped g.N.Names.leads _ _ c.note.new.front.fronts _ place c.note.ensures.step))

@@ -1,4 +1,4 @@
-use Rattle.xh_kernel.specs.declared.call.Call.TheVariants.{Free}
+use Rattle.xh_calls.specs.declared.call.Call.TheVariants.{Free}
 use Rattle.xh_kernel.proofs.kernel.Kernel.free.Given as goal
 
 abbrev pub ghost-note : goal.ghost-note

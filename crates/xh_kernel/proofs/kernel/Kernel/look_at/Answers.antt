@@ -1,16 +1,13 @@
-use Rattle.xh_kernel.proofs.Common.{refl, rules, stays_itself}
-use Rattle.xh_kernel.proofs.Recorded.{untold}
+use Rattle.xh_kernel.proofs.Common.{ap, refl, rules, starts_itself, stays_itself, ◌∙◌}
+use Rattle.xh_kernel.proofs.Recorded.{stepped}
 use Rattle.xh_kernel.proofs.kernel.Kernel.look_at.Goals as goal
 
-pub write_down-requires : goal.write_down-requires
-write_down-requires g c κs within =
-    let held = c.deref_mut-held.result.now in let e = c.check_start-answer.ensures in (
-      search rules,
-      (
-        search rules,
-        (
-          search rules,
-          (search rules, untold g.N.Names.parts _ held.scribe.pens held.place _ held.history (held.named, held.lawful) (stays_itself held.place) (search rules) (refl, search rules)),
-        ),
-      ),
-    )
+pub note-requires : goal.note-requires
+note-requires g c κs within =
+    let held = c.deref_mut-held.result.now in
+    (search rules, (search rules, (search rules, (search rules, (search rules, (held.place, held.place, held.history, stays_itself held.place, (refl, search rules), starts_itself held.place.front))))))
+
+pub returns : goal.returns
+returns g c =
+    let place = ap (λ h. h.scribe.pen.number) c.deref_mut-held.ensures.value ∙ c.held-guard.ensures in
+    ((search rules, search rules), stepped g.N.Names.leads _ _ c.note.new.front.fronts _ place c.note.ensures.step)

@@ -1,4 +1,4 @@
-use Rattle.xh_kernel.specs.declared.call.Call.TheVariants.{Open}
+use Rattle.xh_calls.specs.declared.call.Call.TheVariants.{Open}
 use Rattle.xh_kernel.proofs.kernel.Kernel.open_by.Given as goal
 
 abbrev pub ghost-note : goal.ghost-note

@@ -1,29 +1,22 @@
-use Rattle.xh_kernel.proofs.Common.{Call, IsHistoryOf, rules, subst, sym}
-use Rattle.xh_history.specs.Histories.{PenOf}
+use Rattle.xh_kernel.proofs.Common.{last_glance, subst, sym, ◌≡◌}
+use Rattle.xh_kernel.proofs.Last.{glance_push}
+use Rattle.xh_kernel.proofs.Recorded.{noted}
 use Rattle.xh_kernel.proofs.scribe.Scribe.note.Goals as goal
 
-pub write_down-requires : goal.write_down-requires
-write_down-requires g c κs within =
-    let gs = c.args.self.now.pens.glances.history in let d = c.requires.1.1.1.1.1 in let t = c.tell.ensures.more d.0.place d.2 in
-    let was = subst (λ (p : PenOf Call). IsHistoryOf g.N.Names.parts p.number p.history gs d.0) (sym c.tell.ensures.same.2) d.3 in (
-      search rules,
-      (
-        search rules,
-        (
-          search rules,
-          (
-            search rules,
-            (
-              d.0,
-              d.1,
-              gs,
-              t.0,
-              was,
-              d.4,
-              record { worker = c.requires.1.1.1.0.1; does = d.5; found = (c.requires.1.1.1.1.0.0, c.tell.ensures.lawful); seen = d.6; tells = rw d.4.0 t.2 },
-              t.1,
-            ),
-          ),
-        ),
-      ),
-    )
+pub invariant_of-self : goal.invariant_of-self
+invariant_of-self g c =
+    let glance = c.shown-glance.result in let pen = c.args.self.now.pen in record {
+      told = subst (λ p. last_glance p.number p.history ≡ glance) (sym c.add.ensures.pen) (glance_push pen.number pen.history c.args.front.now.number (record { call = g.call; glance = glance }));
+    }
+
+pub returns-clause-history : goal.returns-clause-history
+returns-clause-history g c =
+    let d = c.requires.1.1.1.1.1 in let e = c.add.ensures in let s = c.shown-glance.ensures in
+    (noted g.N.Names.parts g.N.Names.leads c.args.shared.now.law g.call c.shown-glance.result d.0 d.1 c.args.place.now c.args.self.now.pen c.add.new.pen c.args.front.now c.add.new.front d.2 d.3
+    (record { worker = c.requires.1.1.1.0.1; does = d.4; found = (c.requires.1.1.1.1.0.0, s.lawful); seen = d.5; glance = s.shown }) e.pen e.front e.seen e.whole).0
+
+pub returns-clause-step : goal.returns-clause-step
+returns-clause-step g c =
+    let d = c.requires.1.1.1.1.1 in let e = c.add.ensures in let s = c.shown-glance.ensures in
+    (noted g.N.Names.parts g.N.Names.leads c.args.shared.now.law g.call c.shown-glance.result d.0 d.1 c.args.place.now c.args.self.now.pen c.add.new.pen c.args.front.now c.add.new.front d.2 d.3
+    (record { worker = c.requires.1.1.1.0.1; does = d.4; found = (c.requires.1.1.1.1.0.0, s.lawful); seen = d.5; glance = s.shown }) e.pen e.front e.seen e.whole).2

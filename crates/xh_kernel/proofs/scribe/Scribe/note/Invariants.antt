@@ -1,4 +1,4 @@
 use Rattle.xh_kernel.proofs.scribe.Scribe.note.Given as goal
 
-abbrev pub ghost-write_down : goal.ghost-write_down
-ghost-write_down g a = g.call
+abbrev pub ghost-add : goal.ghost-add
+ghost-add g a = record { call = g.call; glance = a._about.now.1 }

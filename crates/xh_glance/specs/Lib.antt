@@ -1,4 +1,0 @@
-pub mod Words
-pub mod Histories
-pub mod Pen
-pub mod Look

@@ -1,0 +1,6 @@
+use Rattle.std.proofs.Common.{subst, sym}
+use Rattle.xh_history.proofs.Keeping.{shown_push}
+use Rattle.xh_history.proofs.histories.Histories.add.Goals as goal
+
+pub step-requires : goal.step-requires
+step-requires g c = record { tables = c.requires.1.1.1.0; shown = λ n is. shown_push g.S.Shows.shows c.args.pen.now.number c.args.pen.now.history c.args.front.now.number g.call _ (c.requires.1.1.1.1 n is) }
