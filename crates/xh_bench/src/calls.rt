@@ -1,121 +1,256 @@
-//! Calls of one process, and kills of others.
-use crate::failure::{Failure, unless_refused};
-use crate::player::{BUDGET, Player, TAG, Taking};
-use crate::timer::{Host, Pace, Way, Work};
-use arrayvec::ArrayVec;
-use std::sync::Wait;
-use std::time::Clock;
-use xh_core::Refused;
-use xh_model::limits::{CHANNELS, MAX_ARENAS, MAX_BLOCKS};
+//! What a process does over and over, by the calls of a kernel.
+ghost use Rattle.std.specs.Prelude.{◌≡◌, All};
+ghost use Rattle.xh_kernel.specs.Histories.{IsLaw};
 
-/// What a process does over and over.
-#[derive(Drop)]
-pub(crate) enum Deed {
-    /// It makes a block of so many bytes of an arena, and frees it.
-    AllocFree(u32, u32),
-    /// It gives blocks by one end of a channel, and takes them by the other.
-    GiveTake(u16, u16, ArrayVec<u16, MAX_BLOCKS>),
-    /// It reads the first 16 bytes of a block.
-    Read(u16),
+use crate::measures::Trial;
+use crate::turns::{Host, Step, Times};
+use std::alloc::Global;
+use std::marker::Brand;
+use std::sync::Wait;
+use std::thread;
+use xh_core::{Config, Refused};
+use xh_kernel::{Account, Kernel, Look, Names, Parts};
+use xh_model::limits::{MAX_ARENAS, MAX_BUDGET, MAX_DEPTH, MAX_RECORDS, MAX_WEAR, PLACES};
+use xh_place::OpenGate;
+
+pub(crate) const CONFIG: Config = Config {
+    arenas: MAX_ARENAS,
+    bytes: 65_536,
+    records: MAX_RECORDS,
+    depth: MAX_DEPTH,
+    wear: MAX_WEAR,
+};
+
+/// What a process does.
+#[derive(Clone, Copy)]
+pub(crate) enum Call {
+    /// It makes a block of so many bytes and frees it, while it has so many others.
+    AllocFree(u32, u8),
+    /// It gives so many blocks by one end of a channel and takes them by the other.
+    GiveTake(u8),
+    /// It reads or writes all bytes of a block.
+    Read(u32),
+    Write(u32),
+    /// It makes a channel and closes both ends.
+    OpenClose,
+    /// It kills a process that has so many blocks.
+    Kill(u16),
     /// It looks at a place.
     Glance,
+    /// The first of two processes gives a message without blocks, and the second takes it.
+    Give,
+    /// The first gives a block and waits for it; the second waits for it and gives it back.
+    PingPong,
 }
 
-/// A process that does so.
+impl Call {
+    // How many blocks the process has, and of how many bytes.
+    fn blocks(self) -> (u8, u32) {
+        match self {
+            Call::AllocFree(_, others) => (others, 16),
+            Call::GiveTake(count) => (count, 64),
+            Call::Read(bytes) | Call::Write(bytes) => (1, bytes),
+            Call::PingPong => (1, 64),
+            _ => (0, 0),
+        }
+    }
+}
+
+/// How many processes are made at once that are to be killed.
+const VICTIMS: usize = 7;
+
+/// A process: the ends by which it gives and takes, and its blocks, or the processes that it is to kill.
 #[derive(Drop)]
-pub(crate) struct Doing<M> {
-    pub(crate) player: Player<M>,
-    pub(crate) deed: Deed,
+struct Player<'a, N: Names, R> {
+    rt: &'a R,
+    alloc: Global,
+    heap: &'a Kernel<N>,
+    account: &'a mut Account<N>,
+    look: Look,
+    call: Call,
+    is_first: bool,
+    process: u16,
+    ends: (u16, u16),
+    blocks: Vec<u16>,
+    bytes: Vec<u8>,
+    ghost own: { look.glances ≡ N.parts.glances },
 }
 
-impl<M: Taking> Work for Doing<M> {
-    fn round<R: Wait + Clock>(&mut self, _rt: &R) -> Result<(), Failure> {
-        let player = &mut self.player;
-        match &self.deed {
-            Deed::AllocFree(bytes, arena) => {
-                let block = player.alloc(player.process, *bytes, *arena)?;
-                player.free(block)
-            }
-            Deed::GiveTake(low, high, blocks) => player.pass(*low, *high, blocks.as_slice()),
-            Deed::Read(block) => {
-                let mut room = [0u8; 16];
-                unless_refused(player.machine.read(player.process, *block, 0, &mut room))
-            }
-            Deed::Glance => {
-                unless_refused(player.machine.glance(0))?;
-                Ok(())
-            }
-        }
-    }
-}
-
-impl<M: Taking> Player<M> {
-    /// The process has so many blocks of 16 bytes, which are of all arenas, the first record of which stays free.
-    pub(crate) fn crowd(&mut self, blocks: u32) -> Result<(), Failure> {
-        let first = self.alloc(self.process, 16, 0)?;
-        for block in 0..blocks {
-            self.alloc(self.process, 16, block % u32::from(MAX_ARENAS))?;
-        }
-        self.free(first)
+impl<'a, N: Names, R: Wait> Player<'a, N, R> {
+    // An end for this process and one for another. Endpoints are of arena 0.
+    fn wire(&mut self, q: u16) -> Option<(u16, u16)> {
+        let (rt, heap, p) = (self.rt, self.heap, self.process);
+        let (low, high) = heap.wire(rt, p, q, 0, self.account, &OpenGate).ok()?;
+        Some((low.rec, high.rec))
     }
 
-    /// That it gives and takes so many new blocks, but no more than a message may have.
-    pub(crate) fn give_take(&mut self, count: u32) -> Result<Deed, Failure> {
-        let (low, high) = unless_refused(self.machine.open(self.process, 1, None))?;
-        let mut blocks = ArrayVec::new();
+    // A block of a process. Seven places have arenas of their own.
+    fn alloc(&mut self, p: u16, bytes: u32) -> Option<u16> {
+        let (rt, heap, gate) = (self.rt, self.heap, &OpenGate);
+        let arena = 1 + u32::from(p) % u32::from(PLACES) % 7;
+        let answer = heap.alloc(rt, self.alloc, p, bytes, arena, self.account, gate);
+        Some(answer.ok()?.rec)
+    }
+
+    fn start(&mut self) -> Option<()> {
+        self.process = self.heap.spawn(self.rt, self.account, &OpenGate).ok()?;
+        self.ends = self.wire(self.process)?;
+        let (count, size) = self.call.blocks();
         for _ in 0..count {
-            let block = self.alloc(self.process, 64, 0)?;
-            if blocks.try_push(block).is_err() {
-                return Err(Failure::Astray);
+            let block = self.alloc(self.process, size)?;
+            self.blocks.push(block).ok()?;
+        }
+        self.bytes = vec![in self.alloc; 0u8; size as usize].ok()?;
+        Some(())
+    }
+
+    // A channel between two, by which they pass the blocks of the first.
+    fn connect(&mut self, second: &mut Player<'a, N, R>) -> Option<()> {
+        let (low, high) = self.wire(second.process)?;
+        self.ends = (low, low);
+        second.ends = (high, high);
+        second.is_first = false;
+        second.blocks = self.blocks.clone().ok()?;
+        Some(())
+    }
+
+    fn alloc_free(&mut self, bytes: u32) -> Option<()> {
+        let (rt, p) = (self.rt, self.process);
+        let block = self.alloc(p, bytes)?;
+        let freed = self.heap.free(rt, p, block, self.account, &OpenGate);
+        freed.ok().map(drop)
+    }
+
+    fn open_close(&mut self) -> Option<()> {
+        let (rt, heap, p) = (self.rt, self.heap, self.process);
+        let (low, high) = self.wire(p)?;
+        heap.close(rt, p, low, self.account, &OpenGate).ok()?;
+        heap.close(rt, p, high, self.account, &OpenGate).ok()?;
+        Some(())
+    }
+
+    // Gives the blocks, once there is room.
+    fn give(&mut self) -> Option<()> {
+        let (rt, heap, p, end) = (self.rt, self.heap, self.process, self.ends.0);
+        for _ in rt.forever() {
+            match heap.give(rt, p, end, 1, &self.blocks, self.account, &OpenGate) {
+                Ok(_number) => return Some(()),
+                Err(Refused::Full { back: _ }) => thread::yield_now(),
+                Err(_refused) => return None,
             }
         }
-        Ok(Deed::GiveTake(low.rec, high.rec, blocks))
+        unreachable!()
     }
 
-    // It gives blocks by one end and takes them by the other.
-    fn pass(&mut self, low: u16, high: u16, blocks: &[u16]) -> Result<(), Failure> {
-        let given = self.machine.give(self.process, low, TAG, blocks);
-        let taken = self.machine.taken(self.process, high, false);
-        if given.is_ok() && taken.is_ok() {
-            Ok(())
+    fn take(&mut self, waits: bool) -> Option<()> {
+        let (rt, heap, p, end) = (self.rt, self.heap, self.process, self.ends.1);
+        let taken = if waits {
+            heap.take_wait(rt, p, end, self.account, &OpenGate)
         } else {
-            Err(Failure::Refused)
-        }
+            heap.take(rt, p, end, self.account, &OpenGate)
+        };
+        taken.ok().map(drop)
     }
 
-    // A process that has so many blocks and an endpoint, and its peer's end.
-    fn victim(&mut self, blocks: u32) -> Result<(u16, u16), Failure> {
-        let victim = unless_refused(self.machine.spawn())?;
+    // Another process, which has so many blocks.
+    fn victim(&mut self, blocks: u16) -> Option<u16> {
+        let victim = self.heap.spawn(self.rt, self.account, &OpenGate).ok()?;
         for _ in 0..blocks {
-            self.alloc(victim, 16, 0)?;
+            self.alloc(victim, 16)?;
         }
-        let (end, _others) = self.wire(victim)?;
-        Ok((victim, end))
+        Some(victim)
+    }
+}
+
+impl<'a, N: Names, R: Wait> Step for Player<'a, N, R> {
+    fn step<W: Wait>(&mut self, _rt: &W) -> Option<()> {
+        let (rt, heap, p, gate) = (self.rt, self.heap, self.process, &OpenGate);
+        let (account, bytes) = (&mut *self.account, &mut self.bytes);
+        let block = self.blocks.first().copied();
+        match self.call {
+            Call::AllocFree(bytes, _) => self.alloc_free(bytes),
+            Call::GiveTake(_) => self.give().and(self.take(false)),
+            Call::Read(_) => heap.read(rt, p, block?, 0, bytes, account, gate).ok(),
+            Call::Write(_) => heap.write(rt, p, block?, 0, bytes, account, gate).ok(),
+            Call::OpenClose => self.open_close(),
+            Call::Kill(_) => {
+                let victim = self.blocks.pop()?;
+                let killed = heap.kill(rt, p, victim, MAX_BUDGET, account, gate);
+                killed.ok().map(drop)
+            }
+            Call::Glance => heap.glance(0, &mut self.look).ok().map(drop),
+            Call::Give if self.is_first => self.give(),
+            Call::Give => self.take(true),
+            Call::PingPong if self.is_first => self.give().and(self.take(true)),
+            Call::PingPong => self.take(true).and(self.give()),
+        }
     }
 
-    // One kill: how many nanoseconds it took until the peer knew that nobody has the other end any more.
-    fn kill_one<R: Host>(&mut self, rt: &R, blocks: u32) -> Result<u64, Failure> {
-        let (victim, end) = self.victim(blocks)?;
-        let clock = Way::Best(1);
-        let start = clock.now(rt)?;
-        unless_refused(self.machine.kill(self.process, victim, BUDGET))?;
-        let notice = self.machine.taken(self.process, end, false);
-        let taken = clock.now(rt)?.saturating_sub(start);
-        unless_refused(self.machine.close(self.process, end))?;
-        match notice {
-            Err(Refused::PeerClosed { back: _ }) => Ok(taken),
-            _ => Err(Failure::Astray),
+    fn ready(&mut self) -> Option<u64> {
+        if let Call::Kill(blocks) = self.call {
+            for _ in self.blocks.len()..VICTIMS {
+                let victim = self.victim(blocks)?;
+                self.blocks.push(victim).ok()?;
+            }
+            return Some(VICTIMS as u64);
         }
+        Some(u64::MAX)
+    }
+}
+
+impl<'a, R: Host> Trial<'a, R> {
+    // A process for each account; each two have a channel between them.
+    fn on<N: Names + Send + Sync>(
+        &self,
+        heap: &Kernel<N>,
+        accounts: &mut [Account<N>],
+        looks: Vec<Look>,
+        call: Call,
+    ) -> Option<Times>
+        requires { All (λ l. l.table ≡ N.parts.histories) looks.items }
+    {
+        let (rt, alloc) = (self.rt, self.alloc);
+        let mut players = Vec::new(alloc);
+        let mut accounts = accounts.iter_mut();
+        for look in looks {
+            let mut player = Player {
+                rt,
+                alloc,
+                heap,
+                account: accounts.next()?,
+                look,
+                call,
+                is_first: true,
+                process: 0,
+                ends: (0, 0),
+                blocks: Vec::new(alloc),
+                bytes: Vec::new(alloc),
+            };
+            player.start()?;
+            if players.len() % 2 == 1 {
+                let first: &mut Player<'_, N, R> = players.last_mut()?;
+                first.connect(&mut player)?;
+            }
+            players.push(player).ok()?;
+        }
+        self.of(&mut players)
     }
 
-    /// The pace of as many kills as a kernel has channels, of processes with so many blocks. What is done before and
-    /// after is not timed: a victim is made, and the peer closes its end.
-    pub(crate) fn kill_all<R: Host>(&mut self, rt: &R, blocks: u32) -> Result<Pace, Failure> {
-        let mut nanos = 0u64;
-        for _ in 0..CHANNELS {
-            nanos = nanos.saturating_add(self.kill_one(rt, blocks)?);
-        }
-        let operations = u64::from(CHANNELS);
-        Ok(Pace { nanos, operations })
+    // On the kernel of the parts.
+    fn over<N: Names + Send + Sync>(&self, parts: Parts, call: Call) -> Option<Times>
+        requires names { parts ≡ N.parts }
+        requires law { IsLaw N.parts N.leads }
+    {
+        let (heap, mut accounts, looks) = Kernel::<N>::new(self.alloc, parts).ok()?;
+        let times = self.on(&heap, &mut accounts, looks, call);
+        heap.discard();
+        drop(accounts);
+        times
+    }
+
+    /// A process for each thread, which does this.
+    pub(crate) fn of_call(&self, call: Call) -> Option<Times> {
+        let parts = Parts::new(self.alloc, CONFIG, self.threads).ok()?;
+        self.over::<Brand>(parts, call)
     }
 }

@@ -1,78 +1,67 @@
-//! The benchmark: what the calls of each layer cost, beside what their parts cost by themselves.
+//! The benchmark: what calls cost, each beside its parts or beside what a user would take instead.
 //!
-//! With `all` it times every measure of the table, and with names of measures those; for each it prints the name and
-//! the nanoseconds of one operation, the best of five runs. With no words it says how it is used.
+//! `xh_bench all|MEASURE [ROUNDS]` prints for each measure a line with tabs: its name, how many threads do it, the picoseconds
+//! of a step, those of a step of what stands beside it, the first in hundredths of the second, the most that these may be,
+//! and what stands beside it, part by part. With ROUNDS it does so many steps of the measure and nothing else, and prints its
+//! name. docs/PERFORMANCE.md tells of the measures.
 #![tactic(auto)]
 
-mod arenas;
 mod calls;
-mod channels;
-mod failure;
-mod kernels;
-mod lines;
 mod measures;
-mod player;
-mod records;
-mod scripts;
-mod talks;
-mod timer;
-mod yardsticks;
+mod parts;
+mod turns;
 
-use crate::failure::Failure;
-use crate::measures::MEASURES;
-use crate::timer::Host;
+use crate::measures::{MEASURES, Row, Trial, Whole};
+use crate::turns::{Host, percent};
 use std::alloc::Global;
 use std::env;
 use std::process::ExitCode;
 
-const USAGE: &str =
-    "usage: xh_bench all, or the names of measures, of which docs/PERFORMANCE.md tells";
-
-// Prints the line of a measure.
-fn print_line<R: Print>(rt: &R, name: &str, tenths: u64) -> Result<(), Failure> {
-    match println!(rt; "{name} {}.{}", tenths / 10, tenths % 10) {
-        Ok(()) => Ok(()),
-        Err(_error) => Err(Failure::Io),
+// Tells a measure.
+fn tell<R: Host + Print>(rt: &R, alloc: Global, row: &Row, rounds: Option<u64>) -> Option<()> {
+    let (name, threads, whole, limit, beside) = *row;
+    let trial = Trial {
+        rt,
+        alloc,
+        threads,
+        beside,
+        rounds,
+    };
+    let times = match whole {
+        Whole::Of(call) => trial.of_call(call)?,
+        Whole::By(parts) => trial.of(&mut trial.workers(parts)?)?,
+    };
+    if rounds.is_some() {
+        return println!(rt; "{name}").ok();
     }
+    let (own, other, ratio) = (times.0, times.1, percent(times));
+    println!(rt; "{name}\t{threads}\t{own}\t{other}\t{ratio}\t{limit}\t{beside:?}").ok()
 }
 
-// Tells the measures that the word names: one, or all.
-fn tell<R: Host + Print>(rt: &R, alloc: Global, word: &str) -> Result<(), Failure> {
-    let mut told = Err(Failure::NoMeasure);
-    for (name, measure, number) in MEASURES {
-        if word == "all" || word == *name {
-            let pace = measure.time(rt, alloc, *number)?;
-            print_line(rt, name, pace.tenths())?;
-            told = Ok(());
+// Tells the measures that the words name; whether there are any, and none was refused.
+fn tell_all<R: Host + Print>(rt: &R, alloc: Global, word: &str, rounds: Option<u64>) -> bool {
+    let mut told = false;
+    for row in MEASURES {
+        if word == "all" || word == row.0 {
+            if tell(rt, alloc, row, rounds).is_none() {
+                return false;
+            }
+            told = true;
         }
     }
     told
-}
-
-// Tells why a word has no figure.
-fn complain<R: Eprint>(rt: &R, word: &str, failure: Failure) {
-    let _ = eprintln!(rt; "xh_bench: {word}: {}", failure.text());
-}
-
-// How the program is used.
-fn print_usage<R: Print>(rt: &R) -> bool {
-    println!(rt; "{USAGE}").is_ok()
 }
 
 fn main(rt: HostRuntime) -> ExitCode {
     let Some(words) = env::args(&rt).ok() else {
         return ExitCode::FAILURE;
     };
-    let mut count = 0u32;
-    for word in words.skip(1) {
-        count = count.saturating_add(1);
-        if let Err(failure) = tell(&rt, rt.alloc(), &word) {
-            complain(&rt, &word, failure);
-            return ExitCode::FAILURE;
-        }
+    let mut words = words.skip(1);
+    let word = words.next().unwrap_or_else(|| String::new(rt.alloc()));
+    let rounds = words.next().and_then(|word| word.parse::<u64>().ok());
+    if tell_all(&rt, rt.alloc(), &word, rounds) {
+        return ExitCode::SUCCESS;
     }
-    if count == 0 && !print_usage(&rt) {
-        return ExitCode::FAILURE;
-    }
-    ExitCode::SUCCESS
+    let _ = eprintln!(rt; "xh_bench: {word}: no measure, or something was refused");
+    ExitCode::FAILURE
 }

@@ -1,125 +1,85 @@
 //! The table of measures.
-use crate::arenas::VaultCarving;
-use crate::channels::{self, Traffic};
-use crate::failure::Failure;
-use crate::kernels::{Call, Timing};
-use crate::lines::{self, By};
-use crate::records::{Claiming, Passing};
-use crate::scripts::{Kind, Script};
-use crate::talks::Talk;
-use crate::timer::{Host, Pace, alone};
-use crate::yardsticks::{Part, Yardstick};
+use crate::calls::Call;
+use crate::calls::Call::{
+    AllocFree, Give, GiveTake, Glance, Kill, OpenClose, PingPong, Read, Write,
+};
+use crate::parts::Part::{
+    Channel, Copied, Exchange, Load, Lock, Pass, PushPop, PutTake, Script, ToAndFro, Zeroed,
+};
+use crate::parts::Parts;
+use crate::turns::{Host, Step, Times, by_turns, slice};
 use std::alloc::Global;
+use std::marker::Send;
 
-/// What is measured, each for a number.
+/// What is measured: a call of a kernel, or parts by themselves.
 #[derive(Clone, Copy)]
-pub(crate) enum Measure {
-    /// Bytes of a vault.
-    Vault,
-    /// A record is claimed and vacated, or passed and accepted, by a seat that has so many others.
-    Claim,
-    Pass,
-    /// Messages are put on channels and taken.
-    Put(Traffic),
-    /// A call of the kernel.
-    Call(Call),
-    /// Processes with so many blocks are killed.
-    Kill,
-    /// A script of so many commands.
-    Run(Kind),
-    /// A part of a call by itself.
-    Part(Part),
-    /// Two threads talk by lines.
-    PingPong(By),
-    Stream(By),
+pub(crate) enum Whole {
+    Of(Call),
+    By(Parts),
 }
 
-/// A measure: its name, what is measured, and the number.
-pub(crate) type Row = (&'static str, Measure, u32);
+use Whole::{By, Of};
+
+/// A measure: its name, by how many threads, what is measured, the most that it may be in hundredths of what stands
+/// beside it, and that.
+pub(crate) type Row = (&'static str, u8, Whole, u64, Parts);
+
+const ALLOC: Parts = &[(4, Lock), (4, Exchange), (1, Zeroed(64))];
+
+const LAST: Parts = &[(4, Lock), (4, Exchange), (1, Zeroed(64)), (255, Load)];
+
+const COPY_16: Parts = &[(1, Lock), (1, Copied(16))];
+
+const COPY_4K: Parts = &[(1, Lock), (1, Copied(4096))];
+
+const KILL_16: Parts = &[(16, Lock), (16, Exchange), (8, Zeroed(64))];
+
+const KILL_256: Parts = &[(256, Lock), (256, Exchange), (128, Zeroed(64))];
+
+const PUT_TAKE: Parts = &[(1, PutTake)];
+
+const SCRIPT: Parts = &[(1, Script(4096))];
 
 pub(crate) const MEASURES: &[Row] = &[
-    ("vault_carve_give_back", Measure::Vault, 0),
-    ("claim_vacate_0", Measure::Claim, 0),
-    ("claim_vacate_255", Measure::Claim, 255),
-    ("pass_accept_0", Measure::Pass, 0),
-    ("pass_accept_255", Measure::Pass, 255),
-    ("put_take", Measure::Put(Traffic::Beside), 0),
-    ("put_take_beside_31", Measure::Put(Traffic::Beside), 31),
-    ("put_take_beside_63", Measure::Put(Traffic::Beside), 63),
-    ("put_take_apart_1", Measure::Put(Traffic::Apart), 1),
-    ("put_take_apart_2", Measure::Put(Traffic::Apart), 2),
-    ("put_take_apart_4", Measure::Put(Traffic::Apart), 4),
-    ("put_take_pairs_1", Measure::Put(Traffic::Pairs), 1),
-    ("put_take_pairs_2", Measure::Put(Traffic::Pairs), 2),
-    ("put_take_pairs_4", Measure::Put(Traffic::Pairs), 4),
-    ("alloc_free_16", Measure::Call(Call::AllocFree), 16),
-    ("alloc_free_4k", Measure::Call(Call::AllocFree), 4096),
-    ("alloc_free_64k", Measure::Call(Call::AllocFree), 65_536),
-    ("alloc_beside_0", Measure::Call(Call::AllocBeside), 0),
-    ("alloc_beside_1000", Measure::Call(Call::AllocBeside), 1000),
-    ("alloc_beside_2000", Measure::Call(Call::AllocBeside), 2000),
-    ("allocs_apart_1", Measure::Call(Call::Apart), 1),
-    ("allocs_apart_2", Measure::Call(Call::Apart), 2),
-    ("allocs_apart_4", Measure::Call(Call::Apart), 4),
-    ("allocs_together_1", Measure::Call(Call::Together), 1),
-    ("allocs_together_2", Measure::Call(Call::Together), 2),
-    ("allocs_together_4", Measure::Call(Call::Together), 4),
-    ("give_take_1", Measure::Call(Call::GiveTake), 1),
-    ("give_take_8", Measure::Call(Call::GiveTake), 8),
-    ("give_beside_0", Measure::Call(Call::GiveBeside), 0),
-    ("give_beside_1000", Measure::Call(Call::GiveBeside), 1000),
-    ("give_beside_2000", Measure::Call(Call::GiveBeside), 2000),
-    ("read_beside_0", Measure::Call(Call::ReadBeside), 0),
-    ("read_beside_1000", Measure::Call(Call::ReadBeside), 1000),
-    ("read_beside_2000", Measure::Call(Call::ReadBeside), 2000),
-    ("glance", Measure::Call(Call::Glance), 0),
-    ("ping_pong_64", Measure::Call(Call::PingPong), 64),
-    ("ping_pong_64k", Measure::Call(Call::PingPong), 65_536),
-    ("ping_pong_1m", Measure::Call(Call::PingPong), 1_048_576),
-    ("idle_taker", Measure::Call(Call::Idle), 10),
-    ("stream_16", Measure::Call(Call::Stream), 64),
-    ("kill_1", Measure::Kill, 1),
-    ("kill_16", Measure::Kill, 16),
-    ("kill_256", Measure::Kill, 256),
-    ("script_alloc_free_1024", Measure::Run(Kind::Alloc), 1024),
-    ("script_alloc_free_2048", Measure::Run(Kind::Alloc), 2048),
-    ("script_alloc_free_4096", Measure::Run(Kind::Alloc), 4096),
-    ("script_write_read_1024", Measure::Run(Kind::Write), 1024),
-    ("script_write_read_2048", Measure::Run(Kind::Write), 2048),
-    ("script_write_read_4096", Measure::Run(Kind::Write), 4096),
-    ("script_give_take_1024", Measure::Run(Kind::Give), 1024),
-    ("script_give_take_2048", Measure::Run(Kind::Give), 2048),
-    ("script_give_take_4096", Measure::Run(Kind::Give), 4096),
-    ("script_eight_blocks_1024", Measure::Run(Kind::Eight), 1024),
-    ("script_eight_blocks_2048", Measure::Run(Kind::Eight), 2048),
-    ("script_eight_blocks_4096", Measure::Run(Kind::Eight), 4096),
-    ("lock", Measure::Part(Part::Lock), 0),
-    ("compare_exchange", Measure::Part(Part::Exchange), 0),
-    ("queue_push_pop", Measure::Part(Part::Queue), 0),
-    ("zeroed_16", Measure::Part(Part::Zeroed), 16),
-    ("zeroed_4k", Measure::Part(Part::Zeroed), 4096),
-    ("zeroed_64k", Measure::Part(Part::Zeroed), 65_536),
-    ("boxed_64", Measure::Part(Part::Boxed), 0),
-    ("crossbeam_ping_pong", Measure::PingPong(By::Crossbeam), 0),
-    ("crossbeam_stream", Measure::Stream(By::Crossbeam), 0),
-    ("condvar_ping_pong", Measure::PingPong(By::Locked), 0),
-    ("queue_ping_pong", Measure::PingPong(By::Bare), 0),
+    ("alloc_free_16", 1, Of(AllocFree(16, 0)), 175, ALLOC),
+    ("alloc_free_64", 1, Of(AllocFree(64, 0)), 175, ALLOC),
+    ("alloc_free_last", 1, Of(AllocFree(16, 255)), 175, LAST),
+    ("allocs_apart_4", 4, Of(AllocFree(64, 0)), 175, ALLOC),
+    ("give_take_1", 1, Of(GiveTake(1)), 300, &[(13, Exchange)]),
+    ("give_take_8", 1, Of(GiveTake(8)), 300, &[(27, Exchange)]),
+    ("put_take", 1, By(PUT_TAKE), 130, &[(1, PushPop), (1, Lock)]),
+    ("read_16", 1, Of(Read(16)), 200, COPY_16),
+    ("read_4096", 1, Of(Read(4096)), 200, COPY_4K),
+    ("write_16", 1, Of(Write(16)), 200, COPY_16),
+    ("write_4096", 1, Of(Write(4096)), 200, COPY_4K),
+    ("open_close", 1, Of(OpenClose), 200, &[(2, Channel)]),
+    ("kill_16", 1, Of(Kill(16)), 250, KILL_16),
+    ("kill_256", 1, Of(Kill(256)), 250, KILL_256),
+    ("glance", 1, Of(Glance), 200, &[(1, Load)]),
+    ("ping_pong", 2, Of(PingPong), 130, &[(1, ToAndFro)]),
+    ("pairs_4", 4, Of(Give), 200, &[(1, Pass)]),
+    ("script_4096", 1, By(SCRIPT), 110, &[(4, Script(1024))]),
 ];
 
-impl Measure {
-    /// The time of one operation.
-    pub(crate) fn time<R: Host>(self, rt: &R, alloc: Global, number: u32) -> Result<Pace, Failure> {
-        match self {
-            Measure::Vault => alone(rt, alloc, VaultCarving::new(alloc), 1),
-            Measure::Claim => alone(rt, alloc, Claiming::new(alloc, number), 1),
-            Measure::Pass => alone(rt, alloc, Passing::new(alloc, number), 1),
-            Measure::Put(traffic) => channels::time(rt, alloc, traffic, number),
-            Measure::Call(call) => Timing::new(alloc, call, number).time(rt),
-            Measure::Kill => Timing::new(alloc, Call::Kill, number).time_kills(rt),
-            Measure::Run(kind) => alone(rt, alloc, Script::new(alloc, kind, number), number),
-            Measure::Part(part) => alone(rt, alloc, Yardstick::new(alloc, part, number), 1),
-            Measure::PingPong(by) => lines::time(rt, alloc, by, Talk::PingPong),
-            Measure::Stream(by) => lines::time(rt, alloc, by, Talk::Stream),
+/// A measure that is tried: by turns with what stands beside it, or so many rounds of it and nothing else.
+#[derive(Drop)]
+pub(crate) struct Trial<'a, R> {
+    pub(crate) rt: &'a R,
+    pub(crate) alloc: Global,
+    pub(crate) threads: u8,
+    pub(crate) beside: Parts,
+    pub(crate) rounds: Option<u64>,
+}
+
+impl<'a, R: Host> Trial<'a, R> {
+    /// The times of these; None where a call, the clock or a growth of memory was refused.
+    pub(crate) fn of<S: Step + Send>(&self, own: &mut [S]) -> Option<Times> {
+        if let Some(rounds) = self.rounds {
+            return slice(self.rt, own, rounds).map(|time| (time, 0));
         }
+        let mut beside = self.workers(self.beside)?;
+        let times = by_turns(self.rt, self.alloc, own, &mut beside);
+        drop(beside);
+        times
     }
 }

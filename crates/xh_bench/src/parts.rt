@@ -1,0 +1,177 @@
+//! What a call is made of, or what a user would take instead.
+use crate::calls::CONFIG;
+use crate::measures::Trial;
+use crate::turns::{Host, Step};
+use arrayvec::ArrayVec;
+use crossbeam_channel::{Receiver, Sender, bounded};
+use crossbeam_queue::ArrayQueue;
+use std::alloc::Global;
+use std::sync::atomic::AtomicU64;
+use std::sync::atomic::Ordering::SeqCst;
+use std::sync::{Mutex, Wait};
+use std::{io, mem};
+use xh_channel::{Channels, Endpoint};
+use xh_script::Watched;
+use xh_session::run_serial;
+
+#[derive(Clone, Copy, Debug)]
+pub(crate) enum Part {
+    /// A lock that nobody else wants is taken and let go.
+    Lock,
+    /// A word is exchanged, by a locked instruction.
+    Exchange,
+    Load,
+    /// So many zeros are allocated and dropped.
+    Zeroed(usize),
+    /// So many bytes are copied.
+    Copied(usize),
+    /// A message is pushed to a queue of `crossbeam_queue` and popped.
+    PushPop,
+    /// A channel of `crossbeam_channel` is made and dropped.
+    Channel,
+    /// The first of two threads sends a message by such a channel, and the second receives it.
+    Pass,
+    /// The first sends a message and waits for one; the second waits for it and sends one.
+    ToAndFro,
+    /// A message is put on a channel of the heap and taken.
+    PutTake,
+    /// A script of so many commands, or up to seven less, is run on the serial machine.
+    Script(u32),
+}
+
+/// What is done in a step, each part so often.
+pub(crate) type Parts = &'static [(u32, Part)];
+
+/// As many bytes as a message of the heap has.
+type Message = [u64; 4];
+
+const MESSAGE: Message = [7; 4];
+
+const PAGE: &[u8] = &[1; 4096];
+
+/// The three commands at the beginning of a script, and the eight that follow over and over.
+const HEAD: &str = "process a\nprocess b\nwire a e b f 0\n";
+
+const BODY: &str = "a alloc x 64 0\na write x 0 0011223344556677\na read x 0 16\na give e 1 x\n\
+    b take f y\nb split y 32 z\nb free y\nb free z\n";
+
+/// A thread, and what its parts need.
+#[derive(Drop)]
+pub(crate) struct Worker {
+    alloc: Global,
+    parts: Parts,
+    is_first: bool,
+    count: Mutex<u64>,
+    word: AtomicU64,
+    page: Vec<u8>,
+    queue: ArrayQueue<Message, Global>,
+    sender: Sender<Message>,
+    receiver: Receiver<Message>,
+    channels: Channels,
+    ends: (Endpoint, Endpoint),
+    script: String,
+}
+
+fn script_of(alloc: Global, parts: Parts) -> Option<String> {
+    let mut text = String::new(alloc);
+    if let Some((_, Part::Script(commands))) = parts.first() {
+        text.push_str(HEAD).ok()?;
+        for _ in 0..commands.saturating_sub(3) / 8 {
+            text.push_str(BODY).ok()?;
+        }
+    }
+    Some(text)
+}
+
+impl Worker {
+    fn pass<R: Wait>(&self, rt: &R, sends: bool) -> Option<()> {
+        if sends {
+            self.sender.send(rt, MESSAGE).ok()
+        } else {
+            self.receiver.recv(rt).ok().map(drop)
+        }
+    }
+
+    fn put_take<R: Wait>(&mut self, rt: &R) -> Option<()> {
+        let (low, high) = (&mut self.ends.0, &mut self.ends.1);
+        self.channels.put(rt, low, 1, ArrayVec::new()).ok()?;
+        self.channels.take(rt, high).ok()?;
+        Some(())
+    }
+
+    fn run(&self) -> Option<()> {
+        let mut reader = Watched::new(self.script.as_bytes());
+        let mut sink = Watched::new(io::sink());
+        run_serial(self.alloc, &mut reader, &mut sink, CONFIG).ok()
+    }
+
+    fn do_once<R: Wait>(&mut self, rt: &R, part: Part) -> Option<()> {
+        let first = self.is_first;
+        match part {
+            Part::Zeroed(bytes) => drop(vec![in self.alloc; 0u8; bytes].ok()?),
+            Part::Copied(bytes) => {
+                let room = self.page.as_mut_slice().get_mut(..bytes)?;
+                room.copy_from_slice(PAGE.get(..bytes)?);
+            }
+            Part::PushPop => {
+                self.queue.push(rt, MESSAGE).ok()?;
+                self.queue.pop(rt)?;
+            }
+            Part::Channel => drop(bounded::<Message, Global>(self.alloc, 16).ok()?),
+            Part::Pass => return self.pass(rt, first),
+            Part::ToAndFro => return self.pass(rt, first).and(self.pass(rt, !first)),
+            Part::PutTake => return self.put_take(rt),
+            Part::Script(_) => return self.run(),
+            Part::Lock | Part::Exchange | Part::Load => return None,
+        }
+        Some(())
+    }
+}
+
+impl Step for Worker {
+    fn step<R: Wait>(&mut self, rt: &R) -> Option<()> {
+        for (times, part) in self.parts {
+            // three take so little time that a look at which part it is would count
+            match part {
+                Part::Lock => (0..*times).for_each(|_| *self.count.lock(rt) = 1),
+                Part::Exchange => (0..*times).for_each(|_| drop(self.word.swap(1, SeqCst))),
+                Part::Load => (0..*times).for_each(|_| drop(self.word.load(SeqCst))),
+                _ => (0..*times).try_for_each(|_| self.do_once(rt, *part))?,
+            }
+        }
+        Some(())
+    }
+}
+
+impl<'a, R: Host> Trial<'a, R> {
+    /// As many threads as the measure has; each two send to each other.
+    pub(crate) fn workers(&self, parts: Parts) -> Option<Vec<Worker>> {
+        let alloc = self.alloc;
+        let mut workers = Vec::new(alloc);
+        for number in 0..self.threads {
+            let is_first = number % 2 == 0;
+            let (sender, receiver) = bounded(alloc, 16).ok()?;
+            let channels = Channels::new(alloc, 16).ok()?;
+            let mut worker = Worker {
+                alloc,
+                parts,
+                is_first,
+                count: Mutex::new(0),
+                word: AtomicU64::new(0),
+                page: vec![in alloc; 0u8; 4096].ok()?,
+                queue: ArrayQueue::new(alloc, 16).ok()?,
+                sender,
+                receiver,
+                ends: channels.open(self.rt).ok()?,
+                channels,
+                script: script_of(alloc, parts)?,
+            };
+            if !is_first {
+                let first: &mut Worker = workers.last_mut()?;
+                mem::swap(&mut first.receiver, &mut worker.receiver);
+            }
+            workers.push(worker).ok()?;
+        }
+        Some(workers)
+    }
+}
