@@ -1,6 +1,5 @@
-"""What a script answers, by docs/SCRIPT.md and by nothing of the program: a heap that does commands one by one (`serial`);
-what is so of a run on threads whatever its schedule was (`follow`); and the search for an order in which a run on threads
-answers as the heap does (`has_order`)."""
+"""What a script answers, by docs/SCRIPT.md and by nothing of the program: a heap that does commands one by one (`serial`), and
+what is so of a run on threads whatever its schedule was (`follow`)."""
 import soak_reader
 
 REFUSALS = """OutOfMemory BadSize NoArena NoSpace NoRecord NotOwned NotData NotEndpoint BadCut BadRange NoProcess Ended
@@ -21,6 +20,11 @@ class Later(Exception):
 
 class Unsure(Exception):
     """It isn't said which of a message's blocks came back."""
+
+
+def need(is_so, *words):
+    if not is_so:
+        raise Refused(*words)
 
 
 def claim(is_so, text):
@@ -72,6 +76,12 @@ class Process:
         self.held.append(block)
         self.names[name] = block
 
+    def block(self, name, is_end=None):
+        """The block of the name, which has to be an endpoint, or data, or is any."""
+        need(name in self.names, "NotOwned")
+        need(is_end in (None, bool(self.names[name].channel)), "NotEndpoint" if is_end else "NotData")
+        return self.names[name]
+
 
 def size_of(blocks):
     return sum(map(len, blocks))
@@ -97,13 +107,12 @@ class Heap:
             words = ["no", REFUSALS.index(refused.args[0]) + 1, *refused.args]
         return " ".join(map(str, words))
 
-    def refuse_if(self, is_so, *words):
-        if self.said[2:3] == [words[0]] if self.said else is_so:
-            raise Refused(*words)
+    def ask(self, is_so, *words):
+        """Where it isn't so that is the refusal; on threads, where that was said."""
+        need(words[0] not in self.said[2:3] if self.said else is_so, *words)
 
     def process(self, name):
-        if name not in self.processes:
-            raise Refused("NoProcess")
+        need(name in self.processes, "NoProcess")
         return self.processes[name]
 
     def is_replaced(self, process):
@@ -112,40 +121,26 @@ class Heap:
     def is_gone(self, process):
         return process.state == "ended" or self.is_replaced(process)
 
-    def lives(self, process, is_so):
-        """Whether the process still may do this. On threads one that has ended says so until it starts again."""
-        if self.said and "Ended" in self.said:
-            claim(process.name in self.mortal, f"{process.name} has ended, and nobody ended it")
-            process.state = "ending" if process.state == "running" else process.state
-        self.refuse_if(not is_so, "Ended")
-        claim(is_so, f"{process.name} goes on after its end: {self.said}")
-
-    def running(self, name):
+    def running(self, name, *states):
+        """A process that runs, or is in one of these states. On threads one that has ended says so until it starts again."""
         process = self.process(name)
-        self.lives(process, process.state == "running")
+        if self.said and "Ended" in self.said:
+            claim(name in self.mortal, f"{name} has ended, and nobody ended it")
+            process.state = "ending" if process.state == "running" else process.state
+        lives = process.state in ("running", *states)
+        self.ask(lives, "Ended")
+        claim(lives, f"{name} goes on after its end: {self.said}")
         return process
 
-    def block(self, process, name, is_end):
-        block = self.any_block(process, name)
-        if is_end != bool(block.channel):
-            raise Refused("NotEndpoint" if is_end else "NotData")
-        return block
-
-    def any_block(self, process, name):
-        if name not in process.names:
-            raise Refused("NotOwned")
-        return process.names[name]
-
     def arena(self, number):
-        if number >= len(self.arenas):
-            raise Refused("NoArena")
+        need(number < len(self.arenas), "NoArena")
         return self.arenas[number]
 
     def carve(self, arena, length, records):
-        self.refuse_if(arena.records + records > self.options["--records"], "NoRecord")
+        self.ask(arena.records + records <= self.options["--records"], "NoRecord")
         start = 16 * arena.units.find(b"." * (length // 16))
-        self.refuse_if(start < 0, "NoSpace")
-        self.refuse_if(arena.taken + length > self.options["--wear"], "Worn")
+        self.ask(start >= 0, "NoSpace")
+        self.ask(arena.taken + length <= self.options["--wear"], "Worn")
         arena.records += records
         arena.taken += length
         if not self.said:
@@ -160,61 +155,50 @@ class Heap:
             arena.fill(block.start, len(block), b".")
         return len(block)
 
-    def channel(self, number, contract):
-        """Both endpoints of a new channel."""
-        arena = self.arena(number)
-        self.refuse_if(len(self.channels) == 64, "NoChannel")
-        start = self.carve(arena, 64, 2)
-        channel = Channel(self.contracts.get(contract))
-        self.channels.append(channel)
-        return [Block(number, start + 32 * side, bytearray(32), channel, side) for side in (0, 1)]
-
     def new_process(self, name):
         at = next((at for at, it in enumerate(self.places) if it.state == "ended" and it.number < 4064), len(self.places))
-        self.refuse_if(at == 32, "NoPlace")
-        if self.said:
-            self.processes[name] = Process(name, int(self.said[1]))
-            claim(self.processes[name].number < 4096, f"no process: {self.said}")
-        else:
-            number = self.places[at].number + 32 if at < len(self.places) else at
-            self.processes[name] = Process(name, number)
+        self.ask(at < 32, "NoPlace")
+        number = int(self.said[1]) if self.said else self.places[at].number + 32 if at < len(self.places) else at
+        claim(number < 4096, f"no process: {self.said}")
+        self.processes[name] = Process(name, number)
+        if not self.said:
             self.places[at : at + 1] = [self.processes[name]]
-        return [self.processes[name].number]
+        return [number]
 
     def do_process(self, _, name):
-        if name in self.processes:
-            raise Refused("Twice")
+        need(name not in self.processes, "Twice")
         return self.new_process(name)
 
     def do_contract(self, _, name, *rows):
         self.contracts[name] = rows
 
-    def do_wire(self, _, p, e, q, f, arena, contract=None):
+    def do_wire(self, _, p, e, q, f, number, contract=None):
         p, q = self.running(p), self.running(q)
-        low, high = self.channel(arena, contract)
-        p.bind(e, low)
-        q.bind(f, high)
+        arena, channel = self.arena(number), Channel(self.contracts.get(contract))
+        self.ask(len(self.channels) < 64, "NoChannel")
+        start = self.carve(arena, 64, 2)
+        self.channels.append(channel)
+        p.bind(e, Block(number, start, bytearray(32), channel, 0))
+        q.bind(f, Block(number, start + 32, bytearray(32), channel, 1))
 
-    def do_open(self, by, e, f, arena, contract=None):
-        self.do_wire(by, by, e, by, f, arena, contract)
+    def do_open(self, by, e, f, *rest):
+        self.do_wire(by, by, e, by, f, *rest)
 
     def do_alloc(self, by, x, count, number):
         process, arena = self.running(by), self.arena(number)
-        if not 0 < count <= arena.size:
-            raise Refused("BadSize")
-        self.refuse_if(False, "OutOfMemory")
+        need(0 < count <= arena.size, "BadSize")
+        self.ask(True, "OutOfMemory")
         data = bytearray(-(-count // 16) * 16)
         process.bind(x, Block(number, self.carve(arena, len(data), 1), data))
         return [len(data)]
 
     def do_split(self, by, x, at, t):
         process = self.running(by)
-        block = self.block(process, x, False)
-        if at % 16 or not 0 < at < len(block):
-            raise Refused("BadCut")
-        self.refuse_if(False, "OutOfMemory")
+        block = process.block(x, False)
+        need(at % 16 == 0 and 0 < at < len(block), "BadCut")
+        self.ask(True, "OutOfMemory")
         arena = self.arenas[block.arena]
-        self.refuse_if(arena.records == self.options["--records"], "NoRecord")
+        self.ask(arena.records < self.options["--records"], "NoRecord")
         arena.records += 1
         tail = Block(block.arena, block.start + at, block.data[at:])
         del block.data[at:]
@@ -222,48 +206,43 @@ class Heap:
         return [len(block), len(tail)]
 
     def bytes_of(self, by, x, at, count):
-        block = self.block(self.running(by), x, False)
-        if at + count > len(block):
-            raise Refused("BadRange")
-        return block
+        block = self.running(by).block(x, False)
+        need(at + count <= len(block), "BadRange")
+        return block.data
 
     def do_read(self, by, x, at, count):
-        return [self.bytes_of(by, x, at, count).data[at : at + count].hex()]
+        return [self.bytes_of(by, x, at, count)[at : at + count].hex()]
 
     def do_write(self, by, x, at, text):
-        data = bytes.fromhex(text.decode())
-        self.bytes_of(by, x, at, len(data)).data[at : at + len(data)] = data
+        new = bytes.fromhex(text.decode())
+        self.bytes_of(by, x, at, len(new))[at : at + len(new)] = new
 
     def do_free(self, by, x):
         process = self.running(by)
-        block = self.block(process, x, False)
+        block = process.block(x, False)
         process.unbind([block])
         return [self.give_back(block)]
 
     def move(self, end, side, tag):
-        """The end's state after a message of this tag by this side; None where its contract allows none."""
-        return next((to for state, word, by, to in end.channel.rows if (state, word, by) == (end.state, tag, side)), None)
+        """The end's state after a message of this tag by this side; None where its contract allows none, or it has none."""
+        return next((to for state, word, by, to in end.channel.rows or () if (state, word, by) == (end.state, tag, side)), None)
 
     def do_give(self, by, e, tag, *names):
         process = self.running(by)
-        end = self.block(process, e, True)
-        channel, to = end.channel, 1 - end.side
-        if len(names) > 8:
-            raise Refused("TooMany")
-        blocks = [self.any_block(process, name) for name in names]
-        if len({*blocks, end}) <= len(blocks):
-            raise Refused("Twice")
-        state = self.move(end, end.side, tag) if channel.rows else None
-        if channel.rows and state is None:
-            raise Refused("Protocol")
+        end = process.block(e, True)
+        channel, to, state = end.channel, 1 - end.side, self.move(end, end.side, tag)
+        need(len(names) <= 8, "TooMany")
+        blocks = [process.block(name) for name in names]
+        need(len({*blocks, end}) > len(blocks), "Twice")
+        need(not channel.rows or state is not None, "Protocol")
         if self.said and "PeerClosed" in self.said:  # in the midst of it, perhaps: what was sent is reclaimed at the peer
             back = int(self.said[3])
             if 0 < back < len(blocks):
                 raise Unsure
             process.unbind(blocks[back:])
             raise Refused("PeerClosed", back)
-        self.refuse_if(not channel.is_open[to], "PeerClosed", len(blocks))
-        self.refuse_if(len(channel.waiting[to]) == self.options["--depth"], "Full", len(blocks))
+        self.ask(channel.is_open[to], "PeerClosed", len(blocks))
+        self.ask(len(channel.waiting[to]) < self.options["--depth"], "Full", len(blocks))
         process.unbind(blocks)
         end.state = state
         channel.sent[to] += 1
@@ -272,23 +251,21 @@ class Heap:
 
     def do_take(self, by, e, *names, waits=False):
         process = self.running(by)
-        end = self.block(process, e, True)
+        end = process.block(e, True)
         channel, side = end.channel, end.side
         number = channel.taken[side] + 1
         is_there = number in channel.waiting[side]
         if self.said and "PeerClosed" in self.said:
             self.drained.append(channel.waiting[side])
-        self.refuse_if(not is_there and not channel.is_open[1 - side], "PeerClosed")
+        self.ask(is_there or channel.is_open[1 - side], "PeerClosed")
         if not (waits and self.said):
-            self.refuse_if(not is_there, "Empty")
+            self.ask(is_there, "Empty")
         if not is_there:
             raise Later
         channel.taken[side] = number
         tag, blocks = channel.waiting[side].pop(number)
-        if channel.rows:
-            end.state = self.move(end, 1 - side, tag)
-        for name, block in zip(names, blocks):
-            process.names[name] = block
+        end.state = self.move(end, 1 - side, tag)
+        process.names.update(zip(names, blocks))
         process.held += blocks
         return [number, tag, *map(len, blocks)]
 
@@ -310,7 +287,7 @@ class Heap:
 
     def do_close(self, by, e):
         process = self.running(by)
-        end = self.block(process, e, True)
+        end = process.block(e, True)
         process.unbind([end])
         if self.said:
             return self.give_back_some(32)
@@ -326,23 +303,20 @@ class Heap:
 
     def end(self, process, budget, is_own):
         if not self.said:
-            count, left = self.sweep(process, 0, budget), len(process.held)
-            process.state = "ending" if left else "ended"
-        elif is_own:
+            count = self.sweep(process, 0, budget)
+            process.state = "ending" if process.held else "ended"
+            need(not process.held, "Unfinished", len(process.held))
+            return [count]
+        if is_own:
             process.state = "ended" if self.said[0] == "ok" else "ending"
-        if self.said and "Unfinished" in self.said:
-            self.is_partial, left = True, int(self.said[3])
-            claim(1 <= left <= 2048, f"so many are left: {left}")
-        elif self.said:
+        if "Unfinished" not in self.said:
             return self.give_back_some(0)
-        if left:
-            raise Refused("Unfinished", left)
-        return [count]
+        self.is_partial, left = True, int(self.said[3])
+        claim(1 <= left <= 2048, f"so many are left: {left}")
+        raise Refused("Unfinished", left)
 
     def do_exit(self, by, budget=4096):
-        process = self.process(by)
-        self.lives(process, process.state != "ended")
-        return self.end(process, budget, True)
+        return self.end(self.running(by, "ending"), budget, True)
 
     def do_kill(self, by, other, budget=4096):
         if self.said and "Ended" in self.said:
@@ -350,20 +324,19 @@ class Heap:
             raise Refused("Ended")
         self.running(by)
         process = self.process(other)
-        if not self.said and self.is_gone(process):
-            raise Refused("Ended")
+        need(self.said or not self.is_gone(process), "Ended")
         return self.end(process, budget, by == other)
 
     def do_again(self, by):
         process = self.process(by)
-        self.refuse_if(not self.is_gone(process), "Twice")
+        self.ask(self.is_gone(process), "Twice")
         claim(not self.said or by in self.mortal, f"{by} starts again, and nobody ended it")
         return self.new_process(by)
 
     def do_glance(self, by, other):
         self.process(by)
         process = self.process(other)
-        self.refuse_if(self.is_replaced(process), "Ended")
+        self.ask(not self.is_replaced(process), "Ended")
         if not self.said or by == other and self.is_certain(process):
             return [len(process.held), size_of(process.held)]
         blocks, count = map(int, self.said[1:])
@@ -374,21 +347,21 @@ class Heap:
         """Whether a run on threads says what the process holds."""
         return process.state == "running" and process.name not in self.victims
 
+    def flight(self):
+        """Each direction on which blocks wait, and these."""
+        ways = ((2 * at + side, channel.blocks_to(side)) for at, channel in enumerate(self.channels) for side in (0, 1))
+        return [way for way in ways if way[1]]
+
     def ledger(self):
-        owned, flight = sum(size_of(it.held) for it in self.places), []
-        for at, channel in enumerate(self.channels):
-            for side in (0, 1):
-                blocks = channel.blocks_to(side)
-                flight += [(2 * at + side, len(blocks), size_of(blocks))] if blocks else []
         for at, it in enumerate(self.arenas):
             yield f"arena {at} {it.size} {it.taken - it.back} {sum(map(bool, it.units.split(b'#')))} {it.taken} {it.back}"
         for it in self.places:
             yield f"process {it.name.decode()} {it.state} {len(it.held)} {size_of(it.held)}"
-        yield f"owned {owned}"
-        yield f"flight {sum(it[2] for it in flight)}"
+        yield f"owned {sum(size_of(it.held) for it in self.places)}"
+        yield f"flight {sum(size_of(blocks) for _, blocks in self.flight())}"
         yield f"out {sum(it.taken - it.back for it in self.arenas)}"
         if "--flight" in self.options:
-            yield from (f"direction {way} {blocks} {count}" for way, blocks, count in flight)
+            yield from (f"direction {way} {len(blocks)} {size_of(blocks)}" for way, blocks in self.flight())
 
 
 def serial(script, options):
@@ -401,35 +374,33 @@ def serial(script, options):
 def follow(script, options, lines, may_starve):
     """Claims what is so of a run on threads: each process's commands in their order, a take behind its give. Numbers of
     messages, lengths and bytes are certain, since who holds an endpoint is; what is left to the schedule is as was said."""
-    heap, waiting, count = Heap(options), {}, len(script.commands)
+    heap, waiting = Heap(options), {}
     claim(sum("OutOfMemory" in line for line in lines) <= may_starve, "OutOfMemory")
     for (number, by, verb, values), line in zip(script.commands, lines):
-        words = line.split(" ")
-        claim(words[:1] == [str(number)] and words[1:2] in (["ok"], ["no"]) and all(map(str.isalnum, words)), f"no reply of line {number}: {line}")
-        if by is None:
-            said = heap.step(by, verb, values)
-            claim(said == " ".join(words[1:]), f"wanted {said}: {line}")
-        else:
-            waiting.setdefault(by, []).append((verb, values, words[1:], line))
-        if verb in (b"exit", b"kill") and (words[1] == "ok" or "Unfinished" in words):
+        at, *said = line.split(" ")
+        claim(at == str(number) and said[:1] in (["ok"], ["no"]) and all(map(str.isalnum, said)), f"no reply of line {number}: {line}")
+        waiting.setdefault(by, []).append((verb, values, said))
+        if verb in (b"exit", b"kill") and (said[0] == "ok" or "Unfinished" in said):
             heap.mortal.add(by if verb == b"exit" else values[0])
             heap.victims |= {values[0]} if verb == b"kill" else set()
+    for verb, values, said in waiting.pop(None, []):
+        claim(heap.step(None, verb, values) == " ".join(said), f"a head {verb} {values} was answered {said}")
     while any([follow_one(heap, by, commands) for by, commands in waiting.items()]):
         pass
     claim(not any(waiting.values()), f"what was taken there nobody gave: {[it[0] for it in waiting.values() if it]}")
     claim(not any(heap.drained), "what was given to an end was not taken there, and its peer is closed")
-    judge_ledger(heap, [line.split(" ") for line in lines[count:]])
+    judge_ledger(heap, [line.split(" ") for line in lines[len(script.commands) :]])
 
 
 def follow_one(heap, by, commands):
     """Follows a process until a message isn't given yet; whether it came on."""
     done = 0
-    for verb, values, words, line in commands:
+    for verb, values, said in commands:
         try:
-            said = heap.step(by, verb, values, words)
+            wanted = heap.step(by, verb, values, said)
         except Later:
             break
-        claim(said == " ".join(words), f"wanted {said}: {line}")
+        claim(wanted == " ".join(said), f"wanted {wanted} of {by} {verb} {values}: {said}")
         done += 1
     del commands[:done]
     return done > 0
@@ -453,13 +424,13 @@ def judge_ledger(heap, rows):
     judge_flight(heap, out - owned, flight, all(row[2] == "ended" for row in places))
 
 
-def judge_place(heap, at, name, state, blocks, count):
-    process, held = heap.processes.get(name.encode()), (int(blocks), int(count))
-    claim(process and held[1] % 16 == 0 and held[1] >= 16 * held[0] and (held[1] == 0) == (held[0] == 0), f"{name} holds {held}")
-    claim({"running": True, "ending": held[0] > 0, "ended": held[0] == 0}[state], f"{name} is {state} with {held}")
+def judge_place(heap, at, name, state, *held):
+    process, (blocks, count) = heap.processes.get(name.encode()), map(int, held)
+    claim(process and count % 16 == 0 and count >= 16 * blocks and (count == 0) == (blocks == 0), f"{name} holds {held}")
+    claim({"running": True, "ending": blocks > 0, "ended": blocks == 0}[state], f"{name} is {state} with {held}")
     if heap.is_certain(process) and process.number % 32 == at:
-        claim((state, *held) == ("running", len(process.held), size_of(process.held)), f"{name} is {state} with {held}")
-    return held[1]
+        claim((state, blocks, count) == ("running", len(process.held), size_of(process.held)), f"{name} is {state} with {held}")
+    return count
 
 
 def judge_flight(heap, count, rows, is_over):
@@ -478,20 +449,18 @@ def judge_flight(heap, count, rows, is_over):
 
 def judge(text, options, is_serial, may_starve, status, out, err):
     """What is wrong with an answer, or None. Where a growth may have been refused, that may be the answer."""
-    if may_starve and status == 3:
-        return None if (out, err) == (b"", b"xheap: out of memory\n") else f"status 3 with {out!r} and {err!r}"
     script, fault = soak_reader.read(text)
-    if fault:
-        wanted = (1, b"", f"xheap: line {fault[0]}: {fault[1]}\n".encode())
-        return None if (status, out, err) == wanted else f"wanted {wanted}, it was {(status, out, err)}"
+    if fault or may_starve and status == 3:
+        told = f"line {fault[0]}: {fault[1]}" if fault and status != 3 else "out of memory"
+        wanted = (1 if status != 3 else 3, b"", f"xheap: {told}\n".encode())
+        return None if (status, out, err) == wanted and (may_starve or status != 3) else f"wanted {wanted}, it was {(status, out, err)}"
     if status != 0 or err or not out.endswith(b"\n"):
         return f"status {status}, {err!r}, {out!r}"
     lines = out.decode("ascii", "replace")[:-1].split("\n")
     is_alone = [it[2] for it in script.commands].count(b"process") == 1
     if is_serial or is_alone and not may_starve:
         wanted = serial(script, options)
-        differ = [it for it in zip(wanted, lines) if it[0] != it[1]]
-        return None if wanted == lines else f"wanted and printed: {differ[:3]}"
+        return None if wanted == lines else f"wanted and printed: {[it for it in zip(wanted, lines) if it[0] != it[1]][:3]}"
     try:
         follow(script, options, lines, may_starve)
     except (Wrong, ValueError, IndexError) as wrong:

@@ -1,90 +1,61 @@
 """Reads a script as docs/SCRIPT.md says it, by code that shares nothing with the program's own: its commands, or its first fault."""
 import re
 
-NAME = re.compile(rb"[a-z][a-z0-9]{0,15}")
-NUMBER = re.compile(rb"0|[1-9][0-9]{0,9}")
-HEX = re.compile(rb"(?:[0-9a-f]{2}){1,32}")
-HEADS = {b"process", b"wire", b"contract"}
-TOP = 4_294_967_295
+WORDS = {"name": rb"[a-z][a-z0-9]{0,15}", "hex": rb"(?:[0-9a-f]{2}){1,32}", "number": rb"0|[1-9][0-9]{0,9}"}
+RANGES = {"number": (0, 4_294_967_295), "length": (1, 32), "tag": (0, 65_535), "budget": (1, 4096)}
 # For each verb the sorts of its words; the last may be repeated, so often at least and at most.
-SHAPES = """process process
-wire process name process name number known*0,1
-contract contract row*1,16
-alloc name number number
-split name number name
-read name number length
-write name number hex
-free name
-open name name number known*0,1
-give name tag name*0,16
-take name name*0,8
-await name name*0,8
-close name
-exit budget*0,1
-kill process budget*0,1
-again budget*0,0
-glance process"""
-SHAPES = {verb.encode(): sorts for verb, *sorts in map(str.split, SHAPES.splitlines())}
-RANGES = {"number": (0, TOP), "length": (1, 32), "tag": (0, 65_535), "budget": (1, 4096)}
+HEADS = {b"process": ["process"], b"wire": "process name process name number known*0,1".split(), b"contract": ["contract", "row*1,16"]}
+VERBS = """alloc name number number|split name number name|read name number length|write name number hex|free name|close name
+open name name number known*0,1|give name tag name*0,16|take name name*0,8|await name name*0,8
+exit budget*0,1|kill process budget*0,1|again budget*0,0|glance process"""
+VERBS = {verb.encode(): sorts for verb, *sorts in map(str.split, VERBS.replace("\n", "|").split("|"))}
 
 
 class Fault(Exception):
     pass
 
 
+def need(is_so, kind):
+    if not is_so:
+        raise Fault(kind)
+
+
 def number_of(word, low, high):
-    if not NUMBER.fullmatch(word) or not low <= int(word) <= high:
-        raise Fault("BadNumber")
+    need(re.fullmatch(WORDS["number"], word) and low <= int(word) <= high, "BadNumber")
     return int(word)
-
-
-def name_of(word):
-    if not NAME.fullmatch(word) or word in HEADS:
-        raise Fault("BadWord")
-    return word
-
-
-def row_of(word):
-    parts = word.split(b":")
-    if len(parts) != 4:
-        raise Fault("BadNumber")
-    return tuple(number_of(part, 0, most) for part, most in zip(parts, (15, 65_535, 1, 15)))
 
 
 def value_of(sort, word):
     if sort in RANGES:
         return number_of(word, *RANGES[sort])
+    if sort == "row":
+        parts = word.split(b":")
+        need(len(parts) == 4, "BadNumber")
+        return tuple(number_of(part, 0, most) for part, most in zip(parts, (15, 65_535, 1, 15)))
     if sort == "hex":
-        if not HEX.fullmatch(word):
-            raise Fault("BadHex")
-        return word
-    return row_of(word) if sort == "row" else name_of(word)
-
-
-def sorts_of(shape, count):
-    """The sort of each of so many words."""
-    last, _, bounds = shape[-1].partition("*")
-    low, high = map(int, (bounds or "1,1").split(","))
-    if not low <= count - len(shape) + 1 <= high:
-        raise Fault("BadCount")
-    return shape[:-1] + [last] * (count - len(shape) + 1)
+        need(re.fullmatch(WORDS["hex"], word), "BadHex")
+    else:
+        need(re.fullmatch(WORDS["name"], word) and word not in HEADS, "BadWord")
+    return word
 
 
 def split_line(line):
     """The verb, the process that it is by, and the words behind it with their sorts."""
-    if any(byte < 0x20 or byte > 0x7E for byte in line):
-        raise Fault("BadByte")
-    words = line.split(b" ")
-    if b"" in words:
-        raise Fault("BadWord")
+    need(all(0x20 <= byte <= 0x7E for byte in line), "BadByte")
+    words, by, shape = line.split(b" "), None, None
+    need(b"" not in words, "BadWord")
     if words[0] in HEADS:
-        return words[0], None, words[1:], sorts_of(SHAPES[words[0]], len(words) - 1)
-    by = name_of(words[0])
-    if len(words) == 1:
-        raise Fault("BadCount")
-    if words[1] not in SHAPES.keys() - HEADS:
-        raise Fault("BadWord")
-    return words[1], by, words[2:], sorts_of(SHAPES[words[1]], len(words) - 2)
+        shape = HEADS[words[0]]
+    else:
+        by = value_of("name", words.pop(0))
+        need(words, "BadCount")
+        need(words[0] in VERBS, "BadWord")
+        shape = VERBS[words[0]]
+    last, _, bounds = shape[-1].partition("*")
+    low, high = map(int, (bounds or "1,1").split(","))
+    count = len(words) - len(shape)
+    need(low <= count <= high, "BadCount")
+    return words[0], by, words[1:], shape[:-1] + [last] * count
 
 
 class Script:
@@ -96,37 +67,25 @@ class Script:
     def add(self, number, line):
         verb, by, words, sorts = split_line(line)
         values = [value_of(sort, word) for sort, word in zip(sorts, words)]
-        if verb in HEADS and self.is_late:
-            raise Fault("LateHead")
+        need(not (verb in HEADS and self.is_late), "LateHead")
         self.is_late = self.is_late or verb not in HEADS
         if verb == b"contract":
-            rows = values[1:]
-            sides = {state: side for state, _, side, _ in rows}
-            tags = {(state, tag) for state, tag, _, _ in rows}
-            if values[0] in self.contracts or len(tags) < len(rows) or any(sides[row[0]] != row[2] for row in rows):
-                raise Fault("BadContract")
-        for sort, value in zip(sorts, values):
-            if sort == "known" and value not in self.contracts:
-                raise Fault("BadContract")
-        self.note(verb, by, sorts, values)
-        self.commands.append((number, by, verb, values))
-        if len(self.commands) > 4096 or len(self.processes) > 64 or len(self.contracts) > 16:
-            raise Fault("TooLong")
-        if any(len(names) > 256 for names in self.names.values()):
-            raise Fault("TooLong")
-
-    def note(self, verb, by, sorts, values):
-        """Names that the line has first."""
+            sides = {state: side for state, _, side, _ in values[1:]}
+            need(values[0] not in self.contracts and all(sides[row[0]] == row[2] for row in values[1:]), "BadContract")
+            need(len({row[:2] for row in values[1:]}) == len(values[1:]), "BadContract")
+            self.contracts.add(values[0])
         holder = by
         self.processes |= {by} - {None}
         for sort, value in zip(sorts, values):
+            need(sort != "known" or value in self.contracts, "BadContract")
             if sort == "process":
                 self.processes.add(value)
                 holder = value if verb == b"wire" else by
             elif sort == "name":
                 self.names.setdefault(holder, set()).add(value)
-            elif sort == "contract":
-                self.contracts.add(value)
+        self.commands.append((number, by, verb, values))
+        need(len(self.commands) <= 4096 and len(self.processes) <= 64 and len(self.contracts) <= 16, "TooLong")
+        need(all(len(names) <= 256 for names in self.names.values()), "TooLong")
 
 
 def read(text):
@@ -136,8 +95,7 @@ def read(text):
     script = Script()
     for number, line in enumerate(text.split(b"\n"), 1):
         try:
-            if len(line) > 256:
-                raise Fault("LongLine")
+            need(len(line) <= 256, "LongLine")
             if line and not line.startswith(b"#"):
                 script.add(number, line)
         except Fault as fault:

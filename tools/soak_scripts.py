@@ -1,13 +1,16 @@
 """Random scripts by a seed: every verb of docs/SCRIPT.md, refused ones too, for up to 32 processes."""
 import random
+import re
 
 import soak_machine
 import soak_reader
 
-VERBS = (
-    ["alloc"] * 14 + ["give"] * 14 + ["take"] * 12 + ["await"] * 4 + ["read"] * 8 + ["write"] * 8 + ["split"] * 6
-    + ["free"] * 6 + ["open"] * 4 + ["close"] * 2 + ["glance"] * 3 + ["exit", "kill", "again", "again"]
-)
+# How often each line comes, and what it is made of.
+LINES = """14 alloc {x} {size} {arena}|6 split {data} {cut} {x}|8 read {data} {at} {count}|8 write {data} {at} {bytes}|6 free {data}
+4 open {e} {e} {arena}{under}|14 give {end} {tag}{names}|12 take {end}{news}|4 await {end}{news}|2 close {end}
+1 exit{budget}|1 kill {process}{budget}|2 again|3 glance {process}"""
+LINES = [line for it in LINES.replace("\n", "|").split("|") for line in [it.partition(" ")[2]] * int(it.partition(" ")[0])]
+TOP = 4_294_967_295
 
 
 class Maker:
@@ -16,26 +19,50 @@ class Maker:
     `ends`: at last each process exits."""
 
     def __init__(self, seed):
-        self.random = random.Random(seed)
-        self.count = self.pick([1, self.random.randint(2, 6), self.random.randint(2, 6), self.random.randint(7, 32)])
-        self.waits, self.ends = self.count > 1 and self.below(1), self.below(1)
+        chance = random.Random(seed)
+        self.pick, self.below = pick, below = chance.choice, lambda most: chance.randint(0, most)
+        self.count = pick([1, chance.randint(2, 6), chance.randint(2, 6), chance.randint(7, 32)])
+        is_few = self.count < 7
+        self.waits, self.ends = self.count > 1 and below(1), below(3)
         self.processes = [f"p{at}" for at in range(self.count)]
-        self.contracts = [f"k{at}" for at in range(self.pick([0, 0, 1, 3]))]
+        contracts = [f"k{at}" for at in range(pick([0, 0, 1, 3]))]
         self.options = {
             "--flight": None,
-            "--arenas": self.pick([1, 1, 2, 8]),
-            "--bytes": 16 * self.pick([1, 4, 9, 16, 40, 256, 4096, 65_536] if self.count < 7 else [40, 256, 4096, 65_536]),
-            "--records": self.pick([1, 3, 8, 32, 256, 256] if self.count < 7 else [32, 256]),
-            "--depth": self.pick([1, 2, 4, 16]),
-            "--wear": self.pick([9_223_372_036_854_775_807] * 6 + [0, 64, 1000]),
+            "--arenas": pick([1, 1, 2, 8]),
+            "--bytes": 16 * pick([1, 4, 9, 16, 40, 256, 4096, 65_536] if is_few else [40, 256, 4096, 65_536]),
+            "--records": pick([1, 3, 8, 32, 256, 256] if is_few else [32, 256]),
+            "--depth": pick([1, 2, 4, 16]),
+            "--wear": pick([9_223_372_036_854_775_807] * 6 + [0, 64, 1000]),
         }
         self.by, self.heap, self.lines = "p0", soak_machine.Heap(self.options), []
+        new = lambda is_end: f"{'e' if is_end else 'x'}{below(7)}"
+        sizes = [0, 1, 15, 16, 17, 40, 64, 100, self.options["--bytes"], TOP]
+        self.fields = {
+            "x": lambda: new(False),
+            "e": lambda: new(True),
+            "data": lambda: self.bound(False) or new(below(1)),
+            "end": lambda: self.bound(True) or new(below(1)),
+            "process": self.process,
+            "arena": lambda: below(self.options["--arenas"] - 1) if below(20) else pick([8, TOP]),
+            "size": lambda: pick(sizes) if below(2) else 16,
+            "cut": lambda: pick([0, 16, 16, 32, 48, 20]),
+            "at": lambda: pick([0, 0, 0, 3, 12, 16, TOP]),
+            "count": lambda: pick([1, 4, 16, 32]),
+            "bytes": lambda: chance.randbytes(pick([1, 4, 32])).hex(),
+            "under": lambda: f" {pick(contracts)}" if contracts and below(1) else "",
+            "tag": lambda: below(3) if below(9) else 65_535,
+            "names": lambda: self.fill(" {end}" if not below(3) else " {data}" * pick([0, 1, 1, 1, 2, 3, 4, 8, 9, 16])),
+            "news": lambda: self.fill("".join(pick([" {e}", " {x}", " {x}"]) for _ in range(pick([0, 1, 1, 2, 3, 8])))),
+            "budget": lambda: pick(["", "", " 1", " 2", " 4096"]),
+            "rows": lambda: "".join(self.rows(state, below(1)) for state in range(below(3) + 1)),
+        }
+        self.heads = [f"contract {name}{{rows}}" for name in contracts]
 
-    def pick(self, them):
-        return self.random.choice(them)
+    def rows(self, state, side):
+        return "".join(f" {state}:{tag}:{side}:{self.below(3)}" for tag in range(4) if tag == state or not self.below(2))
 
-    def below(self, most):
-        return self.random.randint(0, most)
+    def fill(self, line):
+        return re.sub(r"{(\w+)}", lambda it: str(self.fields[it[1]]()), line)
 
     def process(self):
         """Mostly one that runs."""
@@ -43,73 +70,20 @@ class Maker:
         it = self.heap.processes.get(name.encode())
         return name if it and it.state == "running" or not self.below(3) else self.pick([*self.processes, "nobody"])
 
-    def name(self, is_end):
-        """Mostly one that the process has given to a block of this kind."""
+    def bound(self, is_end):
+        """Mostly a name that the process has given to a block of this kind."""
         it = self.heap.processes.get(self.by.encode())
-        bound = [name.decode() for name, block in it.names.items() if bool(block.channel) == is_end] if it else []
-        return self.pick(bound) if bound and self.below(15) else self.new(not is_end if self.below(1) else is_end)
+        names = [name.decode() for name, block in it.names.items() if bool(block.channel) == is_end] if it else []
+        return self.pick(names) if names and self.below(15) else None
 
-    def new(self, is_end):
-        return f"{'e' if is_end else 'x'}{self.below(7)}"
-
-    def data(self):
-        return self.name(False)
-
-    def end(self):
-        return self.name(True)
-
-    def arena(self):
-        return self.below(self.options["--arenas"] - 1) if self.below(20) else self.pick([8, 4_294_967_295])
-
-    def size(self):
-        return self.pick([0, 1, 15, 16, 17, 40, 64, 100, self.options["--bytes"], 4_294_967_295]) if self.below(2) else 16
-
-    def under(self):
-        return f" {self.pick(self.contracts)}" if self.contracts and self.below(1) else ""
-
-    def names(self, most):
-        count = self.pick([0, 1, 1, 1, 2, 3, most])
-        return "".join(f" {self.data() if self.below(3) else self.end()}" for _ in range(count))
-
-    def news(self):
-        return "".join(f" {self.new(not self.below(3))}" for _ in range(self.pick([0, 1, 1, 2, 3, 8])))
-
-    def table(self):
-        rows = []
-        for state in range(self.below(3) + 1):
-            side = self.below(1)
-            rows += [f"{state}:{tag}:{side}:{self.below(3)}" for tag in self.random.sample(range(4), self.below(2) + 1)]
-        return " ".join(rows)
-
-    def words(self, verb):
-        tag, budget = self.below(3) if self.below(9) else 65_535, self.pick(["", "", "1", "2", "4096"])
-        at = self.pick([0, 0, 0, 3, 12, 16, 4_294_967_295])
-        data = self.random.randbytes(self.random.randint(1, self.pick([4, 32]))).hex()
-        return {
-            "alloc": lambda: f"{self.new(False)} {self.size()} {self.arena()}",
-            "split": lambda: f"{self.data()} {self.pick([0, 16, 16, 32, 48, 20])} {self.new(False)}",
-            "read": lambda: f"{self.data()} {at} {self.pick([1, 4, 16, 32])}",
-            "write": lambda: f"{self.data()} {at} {data}",
-            "free": self.data,
-            "open": lambda: f"{self.new(True)} {self.new(True)} {self.arena()}{self.under()}",
-            "give": lambda: f"{self.end()} {tag}{self.names(self.pick([4, 8, 9, 16]))}",
-            "take": lambda: f"{self.end()}{self.news()}",
-            "await": lambda: f"{self.end()}{self.news()}",
-            "close": self.end,
-            "exit": lambda: budget,
-            "kill": lambda: f"{self.process()} {budget}",
-            "again": lambda: "",
-            "glance": self.process,
-        }[verb]()
-
-    def may(self, by, verb, words):
+    def may(self, line):
         """Whether the line may stand here, so that no wait is without an end."""
+        by, verb, *words = line.split(" ")
         if not self.waits:
             return verb != "await"
         if verb in ("exit", "kill") and self.below(5):
             return False
-        is_first = by == self.processes[0]
-        return not is_first if verb in ("await", "exit") else verb != "again" and f"{verb} {words}".split()[:2] != ["kill", "p0"]
+        return by != "p0" if verb in ("await", "exit") else verb != "again" and [verb, *words[:1]] != ["kill", "p0"]
 
     def add(self, line, is_any=True):
         """A line is added that the heap does, or any; most others are passed over."""
@@ -118,25 +92,19 @@ class Maker:
         if is_any or said.startswith("ok") or not self.below(5):
             self.lines.append(line)
 
-    def add_any(self):
-        self.by, verb = self.process(), self.pick(VERBS)
-        words = self.words(verb)
-        if self.may(self.by, verb, words):
-            self.add(f"{self.by} {verb} {words}".rstrip(), False)
-
     def add_all(self):
         named = self.processes + ["p0"] * self.below(1) + [f"q{at}" for at in range(self.pick([0] * 18 + [1, 40]))]
-        for line in [f"contract {name} {self.table()}" for name in self.contracts] + [f"process {name}" for name in named]:
+        for line in [self.fill(it) for it in self.heads] + [f"process {name}" for name in named]:
             self.add(line)
         for _ in range(self.below(3 * self.count)):
-            self.add(f"wire {self.process()} {self.new(True)} {self.process()} {self.new(True)} {self.arena()}{self.under()}", False)
-        for _ in range(self.pick([20, 60, 200, 600, 2000]) if self.count < 7 else self.pick([2000, 8000])):
-            if len(self.lines) < 3900:
-                self.add_any()
-        for name in self.processes[1:] if self.waits else []:
-            self.add(f"p0 kill {name}")
-        for name in named if self.ends else []:
-            self.add(f"{name} exit")
+            self.add(self.fill("wire {process} {e} {process} {e} {arena}{under}"), False)
+        for _ in range(self.pick([20, 60, 200, 600, 2000] if self.count < 7 else [2000, 8000])):
+            self.by = self.process()
+            line = f"{self.by} {self.fill(self.pick(LINES))}"
+            if len(self.lines) < 3900 and self.may(line):
+                self.add(line, False)
+        for line in [f"p0 kill {name}" for name in self.processes[1:] if self.waits] + [f"{name} exit" for name in named if self.ends]:
+            self.add(line)
 
 
 def make(seed):

@@ -1,86 +1,85 @@
-//! What the workers of a random run share besides the kernel.
-use crate::marks::parts_of;
-use crate::waits::{Processes, Waits, zeros};
+//! What the workers of a round share besides the kernel.
 use std::alloc::{AllocError, Global};
-use std::mem;
-use std::sync::atomic::{AtomicU64, Ordering};
-use std::sync::{Mutex, Wait};
+use std::sync::atomic::AtomicU64;
+use std::sync::atomic::Ordering::SeqCst;
 
-/// So many marks a worker may use.
-pub(crate) const MARKS: u32 = 4096;
+/// So many places of blocks and of ends are known to all workers.
+pub(crate) const HINTS: u16 = 64;
 
-const PROCESSES: u32 = 4096;
+/// So many numbers of processes there are.
+pub(crate) const PROCESSES: u16 = 4096;
 
-/// An endpoint that came to a process by another's wire.
-#[derive(Clone, Copy, Debug)]
-pub(crate) struct Post {
-    pub(crate) process: u16,
-    pub(crate) end: u16,
+// No round gives so many messages.
+const TAGS: u16 = 65_535;
+
+/// Words that all workers read and write, 0 at first.
+#[derive(Drop)]
+pub(crate) struct Words(Vec<AtomicU64>);
+
+impl Words {
+    fn new(alloc: Global, count: u16) -> Result<Words, AllocError> {
+        let mut words = Vec::with_capacity(alloc, usize::from(count))?;
+        for _ in 0..count {
+            words.push(AtomicU64::new(0))?;
+        }
+        Ok(Words(words))
+    }
+
+    pub(crate) fn get(&self, at: u16) -> u64 {
+        let word = self.0.get(usize::from(at));
+        word.map_or(0, |word| word.load(SeqCst))
+    }
+
+    /// It answers what stood there before.
+    pub(crate) fn set(&self, at: u16, value: u64) -> u64 {
+        let word = self.0.get(usize::from(at));
+        word.map_or(0, |word| word.swap(value, SeqCst))
+    }
+
+    /// A process and a record that was seen, if one stands there.
+    pub(crate) fn seen(&self, at: u16) -> Option<(u16, u16)> {
+        let seen = self.get(at);
+        let p = (seen / 65_536).checked_sub(1)?;
+        Some(((p % 65_536) as u16, (seen % 65_536) as u16))
+    }
+
+    pub(crate) fn see(&self, at: u16, p: u16, r: u16) {
+        self.set(at, (u64::from(p) + 1) * 65_536 + u64::from(r));
+    }
 }
 
-/// The latest process of each worker, counted from 1; the endpoints that came to it; the processes that
-/// somebody meant to kill; the marks that were taken, by worker and number; and who waits.
+/// The process that each worker started last; which processes have started, and which somebody meant to end; where blocks
+/// and ends were seen, some of which are there no more; the blocks of each message by its tag; and at the end the records
+/// that have an owner.
 #[derive(Drop)]
 pub(crate) struct Board {
-    pub(crate) processes: Processes,
-    posts: Vec<Mutex<Vec<Post>>>,
-    victims: Vec<AtomicU64>,
-    taken: Vec<Vec<AtomicU64>>,
-    pub(crate) waits: Waits,
+    pub(crate) processes: Words,
+    pub(crate) started: Words,
+    pub(crate) aimed_at: Words,
+    pub(crate) blocks: Words,
+    pub(crate) ends: Words,
+    pub(crate) messages: Words,
+    pub(crate) owned: Words,
+    tags: AtomicU64,
 }
 
 impl Board {
     /// A board on which nothing stands.
-    pub(crate) fn new(alloc: Global, workers: u32) -> Result<Board, AllocError> {
-        let mut posts = Vec::new(alloc);
-        let mut taken = Vec::new(alloc);
-        for _ in 0..workers {
-            posts.push(Mutex::new(Vec::new(alloc)))?;
-            taken.push(zeros(alloc, MARKS)?)?;
-        }
+    pub(crate) fn new(alloc: Global, workers: u8) -> Result<Board, AllocError> {
         Ok(Board {
-            processes: Processes::new(alloc, workers)?,
-            posts,
-            victims: zeros(alloc, PROCESSES)?,
-            taken,
-            waits: Waits::new(alloc, workers)?,
+            processes: Words::new(alloc, u16::from(workers))?,
+            started: Words::new(alloc, PROCESSES)?,
+            aimed_at: Words::new(alloc, PROCESSES)?,
+            blocks: Words::new(alloc, HINTS)?,
+            ends: Words::new(alloc, HINTS)?,
+            messages: Words::new(alloc, TAGS)?,
+            owned: Words::new(alloc, 2048)?,
+            tags: AtomicU64::new(0),
         })
     }
 
-    /// Somebody means to kill the process.
-    pub(crate) fn aim_at(&self, process: u16) {
-        if let Some(word) = self.victims.get(usize::from(process)) {
-            word.store(1, Ordering::SeqCst);
-        }
-    }
-
-    /// Whether somebody meant to.
-    pub(crate) fn is_victim(&self, process: u16) -> bool {
-        let word = self.victims.get(usize::from(process));
-        word.is_some_and(|word| word.load(Ordering::SeqCst) == 1)
-    }
-
-    /// An endpoint came to the worker's process.
-    pub(crate) fn post<R: Wait>(&self, rt: &R, worker: u32, post: Post) -> Result<(), AllocError> {
-        if let Some(posts) = self.posts.get(worker as usize) {
-            posts.lock(rt).push(post)?;
-        }
-        Ok(())
-    }
-
-    /// The endpoints that came to the worker's processes since it last asked.
-    pub(crate) fn collect<R: Wait>(&self, rt: &R, alloc: Global, worker: u32) -> Vec<Post> {
-        let none = Vec::new(alloc);
-        match self.posts.get(worker as usize) {
-            Some(posts) => mem::replace(&mut *posts.lock(rt), none),
-            None => none,
-        }
-    }
-
-    /// The mark is taken now; whether it is one that no other taking found.
-    pub(crate) fn take(&self, mark: u64) -> bool {
-        let (worker, number) = parts_of(mark);
-        let word = self.taken.get(worker).and_then(|marks| marks.get(number));
-        number > 0 && word.is_some_and(|word| word.fetch_add(1, Ordering::SeqCst) == 0)
+    /// A tag that no other message has.
+    pub(crate) fn new_tag(&self) -> u16 {
+        (self.tags.fetch_add(1, SeqCst) % u64::from(TAGS)) as u16
     }
 }

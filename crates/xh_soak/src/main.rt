@@ -1,36 +1,31 @@
-//! Rounds of random calls of the heap on threads, each by its seed: the soak test.
+//! Rounds of random calls of the heap on threads, each by its seed: what no script says.
 //!
 //! `xh_soak SEED ROUNDS` plays so many rounds, the first by this seed and each by the next one. In a round 2 to 16
-//! workers on threads of their own allocate, split, write, give, take, wait, close, exit, kill, start again, glance
-//! and reach for what isn't theirs, over one kernel. Then each block has to have its bytes, each place what its
-//! worker knows, and the ledger what a second count finds. A line tells each round; the first that goes wrong is the
-//! last, and the status is 1. With a third word, `scarce`, a growth of memory may be refused, as tools/refuse_growth.c
-//! does it: calls may answer OutOfMemory, and what went before stays.
+//! workers on threads of their own do calls of any of the processes, several of one at once: they name processes and
+//! records that are another's or nobody's, and take at several endpoints and until a time. Each refusal has to be one
+//! that may be; a message comes once, with its blocks; the bytes of a block are of its own group of processes; and at the
+//! end each block is one process's, and the ledger what was counted. A line tells each round; the first that goes wrong
+//! is the last, and the status is 1. With a third word, `scarce`, a growth of memory may be refused, as
+//! tools/refuse_growth.c does it: calls may answer OutOfMemory, and what went before stays.
 #![tactic(auto)]
 
-mod actor;
-mod acts;
+mod audit;
 mod board;
-mod channels;
-mod counted;
-mod marks;
-mod memory;
+mod caller;
+mod messages;
 mod plan;
 mod round;
-mod talks;
-mod waits;
-mod wrong;
+mod worker;
 
 use crate::plan::Plan;
-use crate::round::{Done, run_round};
-use crate::wrong::Wrong;
+use crate::round::play_round;
+use crate::worker::Wrong;
 use std::alloc::Global;
 use std::process::ExitCode;
 use std::sync::Wait;
 use std::thread::Threads;
+use std::time::Clock;
 use std::{env, io};
-
-const USAGE: &str = "usage: xh_soak SEED ROUNDS [scarce]";
 
 // The seed, how many rounds, and whether memory may be refused.
 fn read_words(words: &[String]) -> Option<(u64, u64, bool)> {
@@ -43,56 +38,32 @@ fn read_words(words: &[String]) -> Option<(u64, u64, bool)> {
     }
 }
 
-// Plays the round of a seed, and tells it.
-fn play<R: Threads + Wait + Print + Sync>(
+// Plays the round of a plan, and tells it: how many messages were taken.
+fn play<R: Threads + Wait + Clock + Print + Sync>(
     rt: &R,
     alloc: Global,
-    seed: u64,
-    scarce: bool,
-) -> Result<Done, &'static str> {
-    let plan = Plan::new(seed, scarce);
-    let (workers, commands) = (plan.workers, plan.commands);
-    let (arenas, bytes) = (plan.config.arenas, plan.config.bytes);
-    let (done, told) = match run_round(rt, alloc, plan) {
-        Ok(done) => (
-            done,
+    plan: Plan,
+) -> Result<u64, Wrong> {
+    let (seed, config) = (plan.seed, plan.config);
+    let (taken, told) = match play_round(rt, alloc, plan) {
+        Ok(played) => (
+            played?,
             println!(rt;
-                "seed {seed}: {workers} workers, {commands} commands each, {arenas} arenas of {bytes} bytes"
+                "seed {seed}: {} workers, {} processes, {} commands each, {} arenas of {} bytes",
+                plan.workers, plan.processes, plan.commands, config.arenas, config.bytes
             ),
         ),
-        Err(Wrong::Memory) if scarce => (
-            Done::NONE,
+        Err(_refused) if plan.scarce => (
+            0,
             println!(rt; "seed {seed}: memory was refused to the round"),
         ),
-        Err(Wrong::Memory) => return Err("memory was refused to the round"),
-        Err(Wrong::Answer(what)) => return Err(what),
+        Err(refused) => return Err(("round", refused.name())),
     };
-    match told {
-        Ok(()) => Ok(done),
-        Err(_error) => Err("the output can't be written"),
+    if told.is_ok() {
+        Ok(taken)
+    } else {
+        Err(("println", "it can't be written"))
     }
-}
-
-// What the rounds of so many seeds did, from one on; or the seed of the round that went wrong, and what was wrong.
-fn play_all<R: Threads + Wait + Print + Sync>(
-    rt: &R,
-    alloc: Global,
-    from: u64,
-    rounds: u64,
-    scarce: bool,
-) -> Result<Done, (u64, &'static str)> {
-    let mut all = Done::NONE;
-    for number in 0..rounds {
-        let seed = from.wrapping_add(number);
-        match play(rt, alloc, seed, scarce) {
-            Ok(done) => all.add(done),
-            Err(what) => return Err((seed, what)),
-        }
-    }
-    if rounds >= 20 && all.taken == 0 {
-        return Err((from, "no round from this one on took a block"));
-    }
-    Ok(all)
 }
 
 fn main(rt: HostRuntime) -> ExitCode {
@@ -105,18 +76,24 @@ fn main(rt: HostRuntime) -> ExitCode {
     let Ok(words) = words else {
         return ExitCode::from(3);
     };
-    let Some((seed, rounds, scarce)) = read_words(&words) else {
-        let _ = eprintln!(rt; "{USAGE}");
+    let Some((first, rounds, scarce)) = read_words(&words) else {
+        let _ = eprintln!(rt; "usage: xh_soak SEED ROUNDS [scarce]");
         return ExitCode::from(2);
     };
-    match play_all(&rt, alloc, seed, rounds, scarce) {
-        Ok(Done { taken, waited }) => {
-            let _ = eprintln!(rt; "xh_soak: {taken} blocks were taken, {waited} waits");
-            ExitCode::SUCCESS
-        }
-        Err((seed, what)) => {
-            let _ = eprintln!(rt; "xh_soak: seed {seed}: {what}");
-            ExitCode::FAILURE
+    let mut taken = 0u64;
+    for number in 0..rounds {
+        let seed = first.wrapping_add(number);
+        match play(&rt, alloc, Plan::new(seed, scarce)) {
+            Ok(more) => taken = taken.saturating_add(more),
+            Err((call, what)) => {
+                let _ = eprintln!(rt; "xh_soak: seed {seed}: {call}: {what}");
+                return ExitCode::FAILURE;
+            }
         }
     }
+    let _ = eprintln!(rt; "xh_soak: {taken} messages were taken");
+    if rounds >= 20 && taken == 0 {
+        return ExitCode::FAILURE;
+    }
+    ExitCode::SUCCESS
 }

@@ -1,11 +1,40 @@
 //! How a round goes, by its seed.
-use rand_core::Rng;
-use rand_pcg::Pcg32;
 use xh_core::Config;
 use xh_model::limits::MAX_WEAR;
 
-// No seed of a worker's own numbers has this stream.
-const STREAM: u64 = 1024;
+/// Numbers at random, by a seed.
+#[derive(Clone, Copy, Debug)]
+pub(crate) struct Chance(pub(crate) u64);
+
+impl Chance {
+    /// A number below a count, or 0.
+    pub(crate) fn below(&mut self, count: u32) -> u32 {
+        self.0 = self
+            .0
+            .wrapping_mul(6_364_136_223_846_793_005)
+            .wrapping_add(1_442_695_040_888_963_407);
+        ((self.0 >> 33) % u64::from(count.max(1))) as u32
+    }
+
+    pub(crate) fn one_in(&mut self, count: u32) -> bool {
+        self.below(count) == 0
+    }
+}
+
+/// How a round goes: how many processes run at once, whose calls each worker does; in how many groups, between which no
+/// channel leads; how many commands each worker does; whether all processes end at the end; and whether a growth of memory
+/// may be refused.
+#[derive(Clone, Copy, Debug)]
+pub(crate) struct Plan {
+    pub(crate) seed: u64,
+    pub(crate) config: Config,
+    pub(crate) workers: u8,
+    pub(crate) processes: u8,
+    pub(crate) groups: u16,
+    pub(crate) commands: u32,
+    pub(crate) ends: bool,
+    pub(crate) scarce: bool,
+}
 
 const LARGEST: Config = Config {
     arenas: 8,
@@ -15,62 +44,29 @@ const LARGEST: Config = Config {
     wear: MAX_WEAR,
 };
 
-/// How a round goes.
-#[derive(Clone, Copy, Debug)]
-pub(crate) struct Plan {
-    pub(crate) seed: u64,
-    pub(crate) config: Config,
-    pub(crate) workers: u8,
-    /// How many commands each worker does.
-    pub(crate) commands: u32,
-    /// Whether all processes end at the end.
-    pub(crate) ends: bool,
-    /// Whether channels are under contracts at times.
-    pub(crate) contracts: bool,
-    /// Whether a growth of memory may be refused.
-    pub(crate) scarce: bool,
-}
-
 impl Plan {
-    /// Whether an arena may hand out only so much that it comes to that.
-    pub(crate) fn can_wear(&self) -> bool {
-        self.config.wear < MAX_WEAR
-    }
-
-    /// Whether the heap is as large as can be.
-    pub(crate) fn is_large(&self) -> bool {
-        self.config.records == 256
-    }
-
-    /// The plan of a seed.
+    /// The plan of a seed. One round of four has the largest heap.
     pub(crate) fn new(seed: u64, scarce: bool) -> Plan {
-        let mut random = Pcg32::new(seed, STREAM);
-        let config = Config {
-            arenas: (random.next_u32() % 8 + 1) as u8,
-            bytes: (random.next_u32() % 1024 + 1) * 16,
-            records: (random.next_u32() % 96 + 2) as u16,
-            depth: (random.next_u32() % 16 + 1) as u8,
-            wear: if random.next_u32() % 4 == 0 {
-                65_536
-            } else {
-                MAX_WEAR
-            },
+        let mut chance = Chance(seed.wrapping_mul(1024).wrapping_add(1023));
+        let _first = chance.below(1);
+        let small = Config {
+            arenas: (chance.below(8) + 1) as u8,
+            bytes: (chance.below(1024) + 1) * 16,
+            records: (chance.below(96) + 2) as u16,
+            depth: (chance.below(16) + 1) as u8,
+            wear: if chance.one_in(4) { 65_536 } else { MAX_WEAR },
         };
-        let mut plan = Plan {
+        let config = if chance.one_in(4) { LARGEST } else { small };
+        let workers = chance.below(15) + 2;
+        Plan {
             seed,
             config,
-            workers: (random.next_u32() % 15 + 2) as u8,
-            commands: random.next_u32() % 600 + 200,
-            ends: random.next_u32() % 4 == 0,
-            contracts: random.next_u32() % 2 == 0,
+            workers: workers as u8,
+            processes: (chance.below(workers) + 1) as u8,
+            groups: 1 << chance.below(4),
+            commands: chance.below(600) + 200,
+            ends: config.arenas > 1 && chance.one_in(2),
             scarce,
-        };
-        if random.next_u32() % 4 == 0 {
-            plan.config = Config {
-                wear: config.wear,
-                ..LARGEST
-            };
         }
-        plan
     }
 }

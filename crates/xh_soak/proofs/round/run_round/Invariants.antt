@@ -1,5 +1,0 @@
-use Rattle.xh_kernel.specs.Histories.{LeadsTo}
-use Rattle.xh_soak.proofs.round.run_round.Given as goal
-
-abbrev pub ghosts-run_named : goal.ghosts-run_named
-ghosts-run_named g a = record { parts = a.parts; leads = LeadsTo a.parts }

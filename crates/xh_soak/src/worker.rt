@@ -1,0 +1,212 @@
+//! A worker: random commands of any process on any record.
+use crate::board::{Board, HINTS, PROCESSES, Words};
+use crate::caller::{Caller, Told};
+use crate::plan::{Chance, Plan};
+use std::time::Clock;
+use xh_model::limits::MAX_WEAR;
+
+/// What was answered that must not be, and to which call.
+pub(crate) type Wrong = (&'static str, &'static str);
+
+/// A worker; how many messages it took, and the first wrong answer.
+#[derive(Drop)]
+pub(crate) struct Worker<'a, C, R> {
+    pub(crate) rt: &'a R,
+    pub(crate) board: &'a Board,
+    pub(crate) caller: C,
+    pub(crate) plan: Plan,
+    pub(crate) number: u16,
+    pub(crate) chance: Chance,
+    /// Whether each process that the command names has started.
+    pub(crate) is_known: bool,
+    pub(crate) taken: u64,
+    pub(crate) wrong: Option<Wrong>,
+}
+
+impl<'a, C: Caller, R: Clock> Worker<'a, C, R> {
+    /// Does its commands, as long as nothing is wrong.
+    pub(crate) fn work(&mut self) {
+        for _ in 0..self.plan.commands {
+            if self.wrong.is_some() {
+                return;
+            }
+            self.is_known = true;
+            self.start_own();
+            self.act();
+        }
+    }
+
+    // The process that the worker keeps running starts, where it has ended.
+    fn start_own(&mut self) {
+        let own = self.board.processes.seen(self.number);
+        let runs = own.is_some_and(|(p, _)| self.board.aimed_at.get(p) == 0);
+        if runs || self.number >= u16::from(self.plan.processes) {
+            return;
+        }
+        let answer = self.caller.spawn();
+        if let Some(p) = self.judge("spawn", 0, answer, &["NoPlace"]) {
+            self.board.started.set(p, 1);
+            self.board.processes.see(self.number, p, 0);
+        }
+    }
+
+    // Does a command.
+    fn act(&mut self) {
+        match self.chance.below(1024) {
+            0..=191 => self.alloc(),
+            192..=239 => self.split(),
+            240..=367 => self.read_or_write(),
+            368..=495 => self.free(),
+            496..=719 => self.give(),
+            720..=1003 => self.take(),
+            1004..=1005 => self.close(),
+            1006 => self.end(),
+            _ => self.wire(),
+        }
+    }
+
+    pub(crate) fn claim(&mut self, is_so: bool, call: &'static str, what: &'static str) {
+        if !is_so {
+            self.wrong.get_or_insert((call, what));
+        }
+    }
+
+    /// What a call of the process answered. A refusal has to be one of these, or that the process doesn't run.
+    pub(crate) fn judge<T>(
+        &mut self,
+        call: &'static str,
+        p: u16,
+        answer: Told<T>,
+        may: &[&'static str],
+    ) -> Option<T> {
+        match answer {
+            Ok(it) => Some(it),
+            Err(why) => {
+                let is_so = match why {
+                    "Ended" => self.board.aimed_at.get(p) != 0,
+                    "NoProcess" => !self.is_known,
+                    "OutOfMemory" => self.plan.scarce && may.contains(&why),
+                    "Worn" => self.plan.config.wear < MAX_WEAR && may.contains(&why),
+                    _ => may.contains(&why),
+                };
+                self.claim(is_so, call, why);
+                None
+            }
+        }
+    }
+
+    /// A process: one that runs or ran, or any number.
+    pub(crate) fn process(&mut self) -> u16 {
+        let slot = self.chance.below(u32::from(self.plan.processes)) as u16;
+        let p = match self.board.processes.seen(slot) {
+            Some((p, _)) if !self.chance.one_in(32) => p,
+            _ => self.chance.below(u32::from(PROCESSES)) as u16,
+        };
+        self.named(p)
+    }
+
+    fn named(&mut self, p: u16) -> u16 {
+        self.is_known &= self.board.started.get(p) != 0;
+        p
+    }
+
+    /// One of the arenas for a block, mostly the last, whose records run out. Where all processes are to end the first has
+    /// endpoints alone, so that a record tells whether it is one.
+    pub(crate) fn arena(&mut self) -> u32 {
+        let arenas = u32::from(self.plan.config.arenas);
+        let arena = self.chance.below(2 * arenas);
+        arena.clamp(u32::from(self.plan.ends), arenas - 1)
+    }
+
+    /// Any record that there may be, which is a stranger's mostly.
+    pub(crate) fn record(&mut self) -> u16 {
+        let index = self.chance.below(u32::from(self.plan.config.records) + 1);
+        (self.arena() * 256 + index) as u16
+    }
+
+    /// A process and a record: where one was seen, or by a stranger's numbers. What is to go is taken from the board.
+    pub(crate) fn seen(&mut self, words: &Words, goes: bool) -> (u16, u16) {
+        let first = self.chance.below(u32::from(HINTS)) as u16;
+        let found = (first..HINTS).find(|slot| words.get(*slot) != 0);
+        let seen = words.seen(found.unwrap_or(first));
+        if goes {
+            words.set(found.unwrap_or(first), 0);
+        }
+        match (seen, self.chance.below(16)) {
+            (None, _) | (_, 0) => (self.process(), self.record()),
+            (Some((_, r)), 1) => (self.process(), r),
+            (Some((p, r)), _) => (self.named(p), r),
+        }
+    }
+
+    fn mark(&self, p: u16) -> [u8; 8] {
+        [(p % self.plan.groups) as u8 + 1; 8]
+    }
+
+    // Bytes are 0, or those that are written for processes of the same group.
+    fn claim_own(&mut self, p: u16, word: u64) {
+        let is_own = word == 0 || word == u64::from_le_bytes(self.mark(p));
+        self.claim(is_own, "read", "bytes of another group");
+    }
+
+    /// Tells the others where a block or an end is, if it is there still.
+    pub(crate) fn meet(&mut self, p: u16, r: u16) {
+        let slot = self.chance.below(u32::from(HINTS)) as u16;
+        match self.caller.read(p, r, 0) {
+            Err("NotData") => self.board.ends.see(slot, p, r),
+            answer => {
+                if let Some(word) = self.judge("read", p, answer, &["NotOwned"]) {
+                    self.claim_own(p, word);
+                    self.board.blocks.see(slot, p, r);
+                }
+            }
+        }
+    }
+
+    fn alloc(&mut self) {
+        let (p, arena) = (self.process(), self.arena());
+        let most = [self.plan.config.bytes, 1024, 128, 128][self.chance.below(4) as usize];
+        let bytes = self.chance.below(most.min(self.plan.config.bytes)) + 1;
+        let answer = self.caller.alloc(p, bytes, arena);
+        let may = ["NoRecord", "NoSpace", "Worn", "OutOfMemory"];
+        if let Some(block) = self.judge("alloc", p, answer, &may) {
+            let is_whole = block.len == bytes.div_ceil(16).saturating_mul(16);
+            self.claim(is_whole, "alloc", "another length");
+            self.meet(p, block.rec);
+        }
+    }
+
+    fn split(&mut self) {
+        let (p, r) = self.seen(&self.board.blocks, false);
+        let at = (self.chance.below(4) + 1) * 16;
+        let answer = self.caller.split(p, r, at);
+        let may = ["NotOwned", "NotData", "BadCut", "NoRecord", "OutOfMemory"];
+        if let Some((head, tail)) = self.judge("split", p, answer, &may) {
+            let is_cut = head.rec == r && head.len == at && tail.len > 0;
+            self.claim(is_cut, "split", "another cut");
+            self.meet(p, tail.rec);
+        }
+    }
+
+    fn read_or_write(&mut self) {
+        let (p, r) = self.seen(&self.board.blocks, false);
+        let (at, bytes) = (self.chance.below(64) * 8, self.mark(p));
+        let answer = if self.chance.one_in(2) {
+            self.caller.read(p, r, at)
+        } else {
+            let written = self.caller.write(p, r, at, &bytes);
+            written.map(|()| u64::from_le_bytes(bytes))
+        };
+        if let Some(word) = self.judge("read", p, answer, &["NotOwned", "NotData", "BadRange"]) {
+            self.claim_own(p, word);
+        }
+    }
+
+    fn free(&mut self) {
+        let (p, r) = self.seen(&self.board.blocks, true);
+        let answer = self.caller.free(p, r);
+        if let Some(bytes) = self.judge("free", p, answer, &["NotOwned", "NotData"]) {
+            self.claim(bytes > 0 && bytes % 16 == 0, "free", "no whole units");
+        }
+    }
+}
