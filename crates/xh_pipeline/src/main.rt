@@ -7,34 +7,23 @@
 #![tactic(auto)]
 
 mod pipeline;
-mod player;
-mod process;
 mod producer;
 mod protocol;
 mod sink;
-mod staff;
 mod stage;
 mod supervisor;
 
-use crate::pipeline::run_pipeline;
-use std::process::ExitCode;
+use crate::pipeline::{Pipeline, WORKERS};
+use std::io;
+use xh_heap::{Config, one_arena, run};
 
-fn main(rt: HostRuntime) -> ExitCode {
-    match run_pipeline(&rt, rt.alloc()) {
-        Ok((whole, ledger)) => {
-            let told = println!(rt;
-                "{whole} rounds came whole through both stages\nowned {}\nflight {}\nout {}",
-                ledger.owned, ledger.flight, ledger.out
-            );
-            if told.is_ok() {
-                ExitCode::SUCCESS
-            } else {
-                ExitCode::FAILURE
-            }
-        }
-        Err(_refused) => {
-            let _ = eprintln!(rt; "the pipeline could not be run");
-            ExitCode::FAILURE
-        }
+fn main(rt: HostRuntime) -> io::Result<()> {
+    let config = Config {
+        depth: 8,
+        ..one_arena(1 << 20)
+    };
+    match run(&rt, rt.alloc(), config, WORKERS, &Pipeline) {
+        Ok(closed) => println!(rt; "rounds {:?}\n{closed}", closed.answers),
+        Err(refused) => println!(rt; "{refused}"),
     }
 }

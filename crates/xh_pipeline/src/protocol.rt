@@ -27,7 +27,7 @@ pub(crate) const WHOLE: u16 = 3;
 
 pub(crate) const AGAIN: u16 = 4;
 
-/// Between the supervisor and the others: here are endpoints; this process goes no further.
+/// Between the supervisor and the others: here is an endpoint; this process goes no further.
 pub(crate) const ENDS: u16 = 5;
 
 pub(crate) const HUNG: u16 = 6;

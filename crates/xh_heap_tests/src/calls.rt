@@ -1,0 +1,160 @@
+//! Each call of a process, with ample memory.
+use xh_heap::{
+    Answered, Config, Contract, Instant, Job, Process, Refused, Row, Taken, Team, block_of,
+    one_arena, run,
+};
+
+/// A number that a call answered, or 1000 and the number of its refusal.
+pub fn code(answer: Result<u64, Refused>) -> u64 {
+    match answer {
+        Ok(number) => number,
+        Err(refused) => 1000 + u64::from(refused.number()),
+    }
+}
+
+/// The tag of a message.
+pub fn tag_of(answer: Result<Taken, Refused>) -> u64 {
+    code(answer.map(|message| u64::from(message.tag)))
+}
+
+/// The same, and 100 for each endpoint before its own.
+pub fn tag_at(answer: Result<Answered, Refused>) -> u64 {
+    code(answer.map(|a| {
+        let before = (a.at as u64).wrapping_mul(100);
+        before.wrapping_add(tag_of(a.answer))
+    }))
+}
+
+/// Blocks are made, cut, written, read and freed.
+fn blocks<P: Process>(own: &mut P) -> Result<[u64; 8], Refused> {
+    let block = own.alloc(40)?;
+    let other = own.alloc_in(1, 16)?;
+    let (head, tail) = own.split(block.rec, 16)?;
+    own.write(tail.rec, 30, b"ab")?;
+    let mut bytes = [0; 3];
+    own.read(tail.rec, 29, &mut bytes)?;
+    Ok([
+        u64::from(block.len),
+        u64::from(other.rec),
+        u64::from(head.len),
+        u64::from(tail.len),
+        u64::from(bytes[2]),
+        u64::from(own.free(tail.rec)?),
+        code(own.free(tail.rec).map(u64::from)),
+        code(own.alloc_in(2, 16).map(|b| u64::from(b.len))),
+    ])
+}
+
+/// Messages go over, and takes find them, or nothing until a time that is past.
+fn messages<P: Process>(one: &mut P, other: &mut P) -> Result<[u64; 8], Refused> {
+    let past = Instant::now(&other.rt()).map_err(|_unread| Refused::Empty)?;
+    let (out, into) = one.wire(other)?;
+    let block = one.alloc(16)?.rec;
+    let first = one.give(out.rec, 7, &[block])?;
+    let second = one.give(out.rec, 8, &[])?;
+    let message = other.take(into.rec)?;
+    other.free(block_of(&message, 0)?)?;
+    Ok([
+        first,
+        second,
+        u64::from(message.tag),
+        code(block_of(&message, 1).map(u64::from)),
+        tag_at(other.take_any(&[into.rec])),
+        tag_at(other.take_any(&[into.rec])),
+        tag_of(other.take_wait_until(into.rec, past)),
+        tag_at(other.take_any_wait_until(&[into.rec], past)),
+    ])
+}
+
+/// By its contract side 0 gives messages of the tag 5.
+const FIVES: &[Row] = &[Row {
+    state: 0,
+    tag: 5,
+    side: 0,
+    next: 0,
+}];
+
+/// Channels of one process and of two, under a contract and without one; an end is closed.
+fn channels<P: Process>(own: &mut P, other: &mut P) -> Result<[u64; 8], Refused> {
+    let (low, high) = own.open()?;
+    own.give(low.rec, 3, &[])?;
+    let (ruled, _) = own.open_with(Contract::new(FIVES)?)?;
+    let (wired, at_other) = own.wire_with(other, Contract::new(FIVES)?)?;
+    Ok([
+        tag_of(own.take(high.rec)),
+        code(own.give(ruled.rec, 4, &[])),
+        code(own.give(ruled.rec, 5, &[])),
+        code(own.give(wired.rec, 4, &[])),
+        code(own.give(wired.rec, 5, &[])),
+        tag_of(other.take(at_other.rec)),
+        code(own.close(low.rec)),
+        tag_of(own.take(high.rec)),
+    ])
+}
+
+/// Starts so many processes and keeps them all, if it can.
+fn spawn_all<P: Process>(own: &P, left: u8) -> u64 {
+    if left == 0 {
+        return 0;
+    }
+    match own.spawn() {
+        Ok(_kept) => spawn_all(own, left - 1),
+        Err(refused) => code(Err(refused)),
+    }
+}
+
+/// Processes end, or are killed; of 33 handles 30 are left, which come back, and so do the places.
+fn endings<P: Process>(own: &mut P, other: &mut P) -> Result<[u64; 8], Refused> {
+    let mut third = own.spawn()?;
+    third.alloc(16)?;
+    Ok([
+        u64::from(third.number()),
+        code(own.kill(third.number())),
+        code(third.alloc(16).map(|b| u64::from(b.len))),
+        code(other.exit().map(|_bytes| 0)),
+        code(own.kill(77)),
+        spawn_all(own, 30),
+        spawn_all(own, 31),
+        u64::from(own.spawn()?.number()),
+    ])
+}
+
+/// All of these, by a process and one that it starts.
+struct Calls;
+
+impl Job for Calls {
+    type Plan = ();
+
+    type Answer = Result<[[u64; 8]; 4], Refused>;
+
+    fn plan<P: Process>(&self, _team: &mut Team<P>) -> Result<(), Refused> {
+        Ok(())
+    }
+
+    fn work<P: Process>(&self, _plan: &(), _index: usize, own: &mut P) -> Self::Answer {
+        let mut other = own.spawn()?;
+        Ok([
+            blocks(own)?,
+            messages(own, &mut other)?,
+            channels(own, &mut other)?,
+            endings(own, &mut other)?,
+        ])
+    }
+}
+
+#[test]
+fn each_call(rt: HostRuntime) {
+    const EXPECTED: [[u64; 8]; 4] = [
+        [48, 256, 16, 32, 98, 32, 1006, 1003],
+        [1, 2, 7, 1006, 8, 1016, 1016, 1016],
+        [3, 1022, 1, 1022, 1, 5, 32, 1015],
+        [2, 16, 1012, 0, 1011, 0, 1021, 97],
+    ];
+    let config = Config {
+        arenas: 2,
+        ..one_arena(4096)
+    };
+    let mut closed = run(&rt, rt.alloc(), config, 1, &Calls).expect(&rt, "room");
+    let answer = closed.answers.pop().expect(&rt, "a worker");
+    assert_eq!(rt; answer.expect(&rt, "room"), EXPECTED);
+}

@@ -1,0 +1,7 @@
+//! Programs over the heap: each call of a process, what a run refuses, and what a handle leaves.
+#![tactic(auto)]
+
+#[cfg(test)]
+mod calls;
+#[cfg(test)]
+mod runs;
