@@ -1,3 +1,2 @@
-pub mod Options
+pub mod Unasked
 pub mod Status
-pub mod inner

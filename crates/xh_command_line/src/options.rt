@@ -1,9 +1,7 @@
 //! The options, and what words say of them.
 ghost use Rattle.std.specs.Prelude.{◌≡◌, IfErr, IfOk};
-ghost use Rattle.clap.specs.Words.{FailsBy, app_of, fault_of, found_of, kind_of, matches_of, rows_of};
-ghost use Rattle.xh_command_line.specs.Options as spec;
-ghost use Rattle.xh_command_line.specs.Options.{Asks, IsGiven, IsUnasked, Serially, WithFlight, command_line, config_in, flag, options_of, texts_of, valued};
-ghost use Rattle.xh_command_line.specs.inner.Parts.{Explained, HasRule};
+ghost use Rattle.xh_command_line.specs.Unasked.{IsUnasked};
+ghost use Rattle.xh_model.specs.Config.{IsConfig};
 
 use crate::status::{DONE, WORDS, out_of_memory, told};
 use clap::builder::ValueParser;
@@ -36,9 +34,7 @@ fn option<'a>(
     least: u64,
     most: u64,
     default: &'a str,
-) -> Arg<'a>
-    ensures { HasRule (valued name.entry.now least most default.entry.now) result }
-{
+) -> Arg<'a> {
     Arg::new(alloc, name)
         .long(name)
         .value_name(unit)
@@ -48,24 +44,18 @@ fn option<'a>(
 }
 
 /// An option without a value.
-fn flag<'a>(alloc: Global, name: &'a str, help: &'a str) -> Arg<'a>
-    ensures { HasRule (flag name.entry.now) result }
-{
+fn flag<'a>(alloc: Global, name: &'a str, help: &'a str) -> Arg<'a> {
     Arg::new(alloc, name)
         .long(name)
         .action(ArgAction::SetTrue)
         .help(help)
 }
 
-fn arenas<'a>(alloc: Global) -> Arg<'a>
-    ensures { HasRule spec.arenas result }
-{
+fn arenas<'a>(alloc: Global) -> Arg<'a> {
     option(alloc, "arenas", "COUNT", 1, u64::from(MAX_ARENAS), "1").help("Number of arenas, 1 to 8")
 }
 
-fn bytes<'a>(alloc: Global) -> Arg<'a>
-    ensures { HasRule spec.bytes result }
-{
+fn bytes<'a>(alloc: Global) -> Arg<'a> {
     option(
         alloc,
         "bytes",
@@ -77,34 +67,26 @@ fn bytes<'a>(alloc: Global) -> Arg<'a>
     .help("Size of each arena in bytes, a multiple of 16 from 16 to 1048576")
 }
 
-fn records<'a>(alloc: Global) -> Arg<'a>
-    ensures { HasRule spec.records result }
-{
+fn records<'a>(alloc: Global) -> Arg<'a> {
     option(alloc, "records", "COUNT", 1, u64::from(MAX_RECORDS), "256").help(
         "Most blocks that an arena holds at once, 1 to 256",
     )
 }
 
-fn depth<'a>(alloc: Global) -> Arg<'a>
-    ensures { HasRule spec.depth result }
-{
+fn depth<'a>(alloc: Global) -> Arg<'a> {
     option(alloc, "depth", "COUNT", 1, u64::from(MAX_DEPTH), "4").help(
         "Most messages that wait in one direction of a channel, 1 to 16",
     )
 }
 
-fn wear<'a>(alloc: Global) -> Arg<'a>
-    ensures { HasRule spec.wear result }
-{
+fn wear<'a>(alloc: Global) -> Arg<'a> {
     option(alloc, "wear", "BYTES", 0, MAX_WEAR, "9223372036854775807").help(
         "Most bytes that an arena ever hands out, 0 to 9223372036854775807",
     )
 }
 
 /// The command line of a program.
-fn command<'a>(alloc: Global, program: Program<'a>) -> Result<Command<'a>, AllocError>
-    ensures { IfOk result (λ command. app_of command ≡ command_line program.entry.name.now) }
-{
+fn command<'a>(alloc: Global, program: Program<'a>) -> Result<Command<'a>, AllocError> {
     Command::new(alloc, program.name)
         .version(VERSION)
         .about(program.about)
@@ -119,22 +101,8 @@ fn command<'a>(alloc: Global, program: Program<'a>) -> Result<Command<'a>, Alloc
         .arg(wear(alloc))
 }
 
-/// What the words say. An error is clap's text, or want of memory.
-fn matched<'a>(
-    alloc: Global,
-    program: Program<'a>,
-    words: &'a [String],
-) -> Result<ArgMatches<'a>, Error>
-    ensures rows { IfOk result (λ matches. rows_of (found_of matches) ≡ matches_of (command_line program.entry.name.now) (texts_of words.entry.now)) }
-    ensures fault { FailsBy (fault_of (command_line program.entry.name.now) (texts_of words.entry.now)) result }
-{
-    command(alloc, program)?.try_get_matches_from(words)
-}
-
 /// The limits among what was found. `--serial` and `--flight` say nothing of them.
-fn limits(matches: &ArgMatches) -> Config
-    ensures { result ≡ config_in (rows_of (found_of matches.now)) }
-{
+fn limits(matches: &ArgMatches) -> Config {
     Config {
         arenas: matches.get_one("arenas").unwrap_or(0),
         bytes: matches.get_one("bytes").unwrap_or(0),
@@ -153,29 +121,17 @@ pub struct Options {
     pub flight: bool,
 }
 
-/// Whether an option without a value was found.
-fn is_given(matches: &ArgMatches, option: &str) -> bool
-    ensures { IsGiven option.now (rows_of (found_of matches.now)) result }
-{
-    matches.get_flag(option)
-}
-
 /// What the words ask for. An error is clap's text, or want of memory.
 fn options_of<'a>(
     alloc: Global,
     program: Program<'a>,
     words: &'a [String],
-) -> Result<Options, Error>
-    ensures config { IfOk result (λ options. options.config ≡ options_of program.entry.name.now (texts_of words.entry.now)) }
-    ensures serial { IfOk result (λ options. Serially program.entry.name.now (texts_of words.entry.now) options.serial) }
-    ensures flight { IfOk result (λ options. WithFlight program.entry.name.now (texts_of words.entry.now) options.flight) }
-    ensures fault { FailsBy (fault_of (command_line program.entry.name.now) (texts_of words.entry.now)) result }
-{
-    let matches = matched(alloc, program, words)?;
+) -> Result<Options, Error> {
+    let matches = command(alloc, program)?.try_get_matches_from(words)?;
     Ok(Options {
         config: limits(&matches),
-        serial: is_given(&matches, "serial"),
-        flight: is_given(&matches, "flight"),
+        serial: matches.get_flag("serial"),
+        flight: matches.get_flag("flight"),
     })
 }
 
@@ -186,7 +142,8 @@ fn print<W: Write>(out: &mut Watched<W>, text: &[u8]) {
     }
 }
 
-/// Tells what is wrong with the words, or prints the help or the version that they ask for.
+/// Tells what is wrong with the words, and where a word is none of the command line where scripts come
+/// from; or prints the help or the version that they ask for.
 fn explain<W: Write, E: Write>(
     alloc: Global,
     program: Program<'_>,
@@ -194,13 +151,20 @@ fn explain<W: Write, E: Write>(
     out: &mut Watched<W>,
     err: &mut E,
 ) -> u8
-    ensures { Explained (kind_of error.now) out.old out.new result }
+    ensures { IsUnasked out.old out.new result }
 {
     if error.kind() == ErrorKind::OutOfMemory {
         return out_of_memory(program.name, err);
     }
     if error.use_stderr() {
         let _ = write!(err, "{error}");
+        if error.kind() == ErrorKind::UnknownArgument {
+            let _ = writeln!(
+                err,
+                "A script is read from standard input: {} < FILE",
+                program.name
+            );
+        }
         return WORDS;
     }
     match format!(in alloc; "{error}") {
@@ -224,8 +188,8 @@ pub fn read_options<W: Write, E: Write>(
     out: &mut Watched<W>,
     err: &mut E,
 ) -> Result<Options, u8>
-    ensures asked { IfOk result (λ options. Asks program.entry.name.now (texts_of words.now) options × (out.new ≡ out.old)) }
-    ensures unasked { IfErr result (λ status. IsUnasked program.entry.name.now (texts_of words.now) out.old out.new status) }
+    ensures asked { IfOk result (λ options. IsConfig options.config × (out.new ≡ out.old)) }
+    ensures unasked { IfErr result (λ status. IsUnasked out.old out.new status) }
 {
     match options_of(alloc, program, words) {
         Err(error) => Err(explain(alloc, program, &error, out, err)),

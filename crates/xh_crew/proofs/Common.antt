@@ -9,8 +9,8 @@ pub use Rattle.xh_crew.specs.Plays.{AreAnswersTo, ArePlayed, Does, DoesAmong, LA
 pub use Rattle.xh_crew.specs.inner.Jobs.{Deals, Fits, HavePlayed, IsHand, Joins, Left, PlaceIsDone, queue_at, queues_of, replies_of}
 pub use Rattle.xh_model.specs.declared.limits.TheConstants.{PLACES}
 pub use Rattle.xh_script.specs.declared.command.Line.{Line}
-pub use Rattle.xh_script.specs.declared.reply.Answered.{Answered}
-pub use Rattle.xh_script.specs.declared.reply.Reply.{Reply}
+pub use Rattle.xh_script.specs.declared.replies.Answered.{Answered}
+pub use Rattle.xh_script.specs.declared.replies.Reply.{Reply}
 pub use Rattle.xh_session.specs.Bindings.{Bindings, names_by_place, no_bindings, number_of, process_at}
 pub use Rattle.xh_session.specs.Plans.{World}
 pub use Rattle.xh_session.specs.Worlds.{world_of}

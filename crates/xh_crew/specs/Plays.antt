@@ -6,9 +6,9 @@ use Rattle.xh_model.specs.declared.row.Row.{Row}
 use Rattle.xh_script.specs.declared.command.Line.{Line}
 use Rattle.xh_script.specs.declared.form.Form.{Form}
 use Rattle.xh_script.specs.declared.form.Form.TheVariants.{Again, Glance, Kill}
-use Rattle.xh_script.specs.declared.reply.Answered.{Answered}
-use Rattle.xh_script.specs.declared.reply.Reply.{Reply}
-use Rattle.xh_script.specs.declared.reply.Reply.TheVariants.{Started}
+use Rattle.xh_script.specs.declared.replies.Answered.{Answered}
+use Rattle.xh_script.specs.declared.replies.Reply.{Reply}
+use Rattle.xh_script.specs.declared.replies.Reply.TheVariants.{Started}
 use Rattle.xh_script.specs.Forms.{is_head}
 use Rattle.xh_script.specs.Operands.{name}
 use Rattle.xh_session.specs.Bindings.{Bindings, names_by_place, no_bindings, number_of, process_at, renumbered, started}

@@ -163,7 +163,9 @@ impl History {
         answered: Answered,
     ) -> Result<(), AllocError> {
         let row = self.answers.len();
-        if matches!(answered.reply, Reply::Given(_)) && line.command.words.len() == 3 {
+        let is_given = matches!(line.command.form, Form::Give)
+            && matches!(answered.reply, Reply::Done(_));
+        if is_given && line.command.words.len() == 3 {
             self.note_bare(line, row)?;
         }
         self.answers.push(answered)?;

@@ -1,34 +1,26 @@
 -- The names that most proofs cite, passed on from one place. Declares nothing.
-pub use Rattle.arrayvec.specs.ArrayVec.{ArrayVec}
 pub use Rattle.std.proofs.Common.{Bool, Bor, Err, IfSome, IsErrAnd, List, None, Ok, Option, Result, Some, [], add-one, ap, append-nil, append_assoc, arith, bytes_eq, codes, cond, decimal, drop}
-pub use Rattle.std.proofs.Common.{drop-cons, false, fold, get_or, if◌then◌else◌, inl, inr, length, length-append, length-drop, map, nat_le, not, refl, replicate, rules, slice_get, subst, suc, sym}
-pub use Rattle.std.proofs.Common.{take, take-append-drop, true, zero, ℕ, ◌%◌, ◌&&◌, ◌*◌, ◌++◌, ◌+◌, ◌-◌, ◌/◌, ◌<◌, ◌==◌, ◌^◌, ◌∙◌, ◌∷◌, ◌≡◌, ◌≢◌, ◌≤◌, ◌⊎◌}
+pub use Rattle.std.proofs.Common.{drop-cons, false, get_or, if◌then◌else◌, inl, inr, length, length-append, length-drop, map, refl, replicate, rules, subst, suc, sym}
+pub use Rattle.std.proofs.Common.{take, take-append-drop, true, zero, ℕ, ◌*◌, ◌++◌, ◌+◌, ◌<◌, ◌==◌, ◌^◌, ◌∙◌, ◌∷◌, ◌≡◌, ◌≢◌, ◌≤◌}
 pub use Rattle.std.proofs.Math.ListN.{length-map}
 pub use Rattle.std.proofs.lemmas.Bool.{and_from, and_parts, cases_Bool}
 pub use Rattle.std.proofs.lemmas.Bool.Decides.{nat_tests}
 pub use Rattle.std.proofs.lemmas.List.{at_drop_all, at_drop_more}
-pub use Rattle.std.proofs.lemmas.List.Splits.{join_with_byte-slice_split, length-slice_split, slice_split_at, slice_split_none}
+pub use Rattle.std.proofs.lemmas.List.Splits.{length-slice_split}
 pub use Rattle.std.proofs.lemmas.List.Sums.{AllPass-from_list_all, count_by-le-length}
 pub use Rattle.std.proofs.lemmas.Slice.Eq.{bytes_eq-Decides}
-pub use Rattle.std.specs.List.{join_with_byte, list_all, slice_split}
-pub use Rattle.xh_model.specs.declared.limits.TheConstants.{STATES}
+pub use Rattle.std.specs.List.{list_all, slice_split}
 pub use Rattle.xh_model.specs.declared.row.Row.{Row}
-pub use Rattle.xh_script.specs.Forms.{form_among, form_text, has_count, has_text, is_head, shape, sort_at, verbs}
-pub use Rattle.xh_script.specs.Grammar.{is_filled, words_from}
+pub use Rattle.xh_script.specs.Forms.{form_among}
+pub use Rattle.xh_script.specs.Grammar.{check_from, is_filled}
 pub use Rattle.xh_script.specs.Names.{number_from, number_in}
-pub use Rattle.xh_script.specs.Numbering.{rows_in, words_in}
+pub use Rattle.xh_script.specs.Numbering.{are_known, rows_in, words_in}
 pub use Rattle.xh_script.specs.Scripts.{Fails, after_line, after_lines, at_line, nothing_read}
-pub use Rattle.xh_script.specs.Sorts.{row_at, word_at}
-pub use Rattle.xh_script.specs.Spelling.{behind_first, row_text, spelled, word_text}
 pub use Rattle.xh_script.specs.Steps.{◌>>=◌}
-pub use Rattle.xh_script.specs.Texts.{answer_texts, arena_texts, flight_texts, hex_digit, hex_text, length_text, line_text, place_texts, reply_text, words_text}
+pub use Rattle.xh_script.specs.Texts.{answer_texts, arena_texts, flight_texts, hex_text, length_text, line_text, place_texts, reply_text, words_text}
 pub use Rattle.xh_script.specs.Watching.{Writes, WritesFront, WritesOrFails, inner_of}
-pub use Rattle.xh_script.specs.Words.{has_no_zero_in_front, hex_bytes, hex_value, is_digit, is_hex, is_hex_digit, is_numeral, number_of, value_of}
-pub use Rattle.xh_script.specs.declared.command.Command.{Command}
-pub use Rattle.xh_script.specs.declared.command.Word.{Word}
+pub use Rattle.xh_script.specs.Words.{hex_bytes, hex_value, value_of}
 pub use Rattle.xh_script.specs.declared.fault.Fault.{Fault}
 pub use Rattle.xh_script.specs.declared.fault.Kind.{Kind}
-pub use Rattle.xh_script.specs.declared.form.Form.{Form}
-pub use Rattle.xh_script.specs.declared.form.Sort.{Sort}
-pub use Rattle.xh_script.specs.declared.limits.TheConstants.{MAX_BLOCK_NAMES, MAX_PROCESSES, MAX_SCRIPT, MAX_TAG}
+pub use Rattle.xh_script.specs.declared.limits.TheConstants.{MAX_BLOCK_NAMES, MAX_PROCESSES, MAX_SCRIPT}
 pub use Rattle.xh_script.specs.inner.Pieces.{piece_text}

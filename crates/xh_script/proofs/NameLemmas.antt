@@ -1,7 +1,6 @@
 -- Lemmas on the numbers of names.
-use Rattle.xh_script.proofs.Common.{Bool, IfSome, List, None, Option, Some, [], ap, arith, bytes_eq, bytes_eq-Decides, cond, false, if◌then◌else◌, inl, inr, length, nat_tests, number_from}
-use Rattle.xh_script.proofs.Common.{number_in, refl, slice_get, suc, true, zero, ℕ, ◌++◌, ◌+◌, ◌<◌, ◌∷◌, ◌≡◌, ◌⊎◌}
-use Rattle.std.proofs.lemmas.Option.{slice_get_within}
+use Rattle.xh_script.proofs.Common.{Bool, IfSome, List, None, Option, Some, [], arith, bytes_eq, bytes_eq-Decides, cond, false, if◌then◌else◌, length, nat_tests, number_from}
+use Rattle.xh_script.proofs.Common.{number_in, refl, subst, suc, true, ℕ, ◌++◌, ◌+◌, ◌<◌, ◌∷◌, ◌≡◌}
 
 number_from_more : (i j : ℕ) (names : List (List ℕ)) (k q : List ℕ) → j ≡ i + length names → number_from i names k ≡ None
     → number_from i (names ++ k ∷ []) q ≡ cond (bytes_eq k q) (Some j) (number_from i names q)
@@ -14,28 +13,18 @@ pub number_more : (names : List (List ℕ)) (k q : List ℕ) → number_in names
     → number_in (names ++ k ∷ []) q ≡ cond (bytes_eq k q) (Some (length names)) (number_in names q)
 number_more names k q new = number_from_more 0 (length names) names k q (omega arith) new
 
-split : (b : Bool) (i n : ℕ) (o : Option ℕ) → (if b then Some i else o) ≡ Some n → ((b ≡ true) × (i ≡ n)) ⊎ (o ≡ Some n)
-split true i n o h = inl (refl, cc)
-split false i n o h = inr h
+within : (b : Bool) (i most : ℕ) (o : Option ℕ) → i < most → IfSome o (λ n. n < most) → IfSome (if b then Some i else o) (λ n. n < most)
+within true i most o h k = h
+within false i most o h k = k
 
-found_at : (i n : ℕ) (names : List (List ℕ)) (name : List ℕ) → number_from i names name ≡ Some n → (k : ℕ) × (n ≡ i + k) × (slice_get names k ≡ Some name)
-found_at i n [] name h = absurd (cc)
-found_at i n (m ∷ names) name h = elim (split (bytes_eq m name) i n (number_from (i + 1) names name) h) [
-  | inl e ↦ (zero, omega (arith, e.1), ap Some ((bytes_eq-Decides m name).0 e.0))
-  | inr e ↦ let r = found_at (i + 1) n names name e in (suc r.0, omega (arith, r.1), r.2)
-]
-
--- the number of a name leads back to it
-pub name_numbered : (names : List (List ℕ)) (name : List ℕ) (n : ℕ) → number_in names name ≡ Some n → slice_get names n ≡ Some name
-name_numbered names name n h =
-    let r = found_at 0 n names name h in
-    let same : n ≡ r.0 = omega (arith, r.1) in
-    rw same r.2
-
-if_some : (o : Option ℕ) (P : ℕ → Type 0) → ((n : ℕ) → o ≡ Some n → P n) → IfSome o P
-if_some None P h = tt
-if_some (Some n) P h = h n refl
+number_within : (i : ℕ) (names : List (List ℕ)) (q : List ℕ) → IfSome (number_from i names q) (λ n. n < i + length names)
+number_within i [] q = tt
+number_within i (n ∷ names) q =
+    let same : i + 1 + length names ≡ i + suc (length names) = omega arith in
+    within (bytes_eq n q) i (i + suc (length names)) _ (omega arith) (subst (λ m. IfSome (number_from (i + 1) names q) (λ k. k < m)) same (number_within (i + 1) names q))
 
 -- a number is below the count of the names
 pub number_below : (names : List (List ℕ)) (q : List ℕ) → IfSome (number_in names q) (λ n. n < length names)
-number_below names q = if_some (number_in names q) (λ n. n < length names) (λ n e. slice_get_within names n q (name_numbered names q n e))
+number_below names q =
+    let same : 0 + length names ≡ length names = omega arith in
+    subst (λ m. IfSome (number_in names q) (λ k. k < m)) same (number_within 0 names q)

@@ -5,8 +5,8 @@ use Rattle.xh_script.proofs.WordLemmas.{no_word}
 use Rattle.xh_script.specs.inner.Stops.{Stops}
 use Rattle.xh_script.specs.SoFar.{SoFar}
 use Rattle.xh_script.specs.declared.fault.Fault.TheVariants.{BadConfig, Gate, Memory, Read, Script, Write}
-use Rattle.xh_script.specs.declared.stop.Stop.{Stop}
-use Rattle.xh_script.specs.declared.stop.Stop.TheVariants.{Bad, Memory as StopMemory}
+use Rattle.xh_script.specs.declared.fault.Stop.{Stop}
+use Rattle.xh_script.specs.declared.fault.Stop.TheVariants.{Bad, Memory as StopMemory}
 
 -- a stop is that of all that follows
 pub stops_then : {A B : Type 0} (stop : Stop) (r : Result A Kind) (f : A → Result B Kind) → Stops stop r → Stops stop (r >>= f)

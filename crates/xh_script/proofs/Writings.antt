@@ -1,9 +1,9 @@
 -- Lemmas on what is written in several calls.
 use Rattle.xh_script.proofs.Common.{Err, Fault, IsErrAnd, List, None, Ok, Option, Result, Some, Writes, WritesFront, WritesOrFails, add-one, answer_texts, ap, append_assoc, drop, drop-cons}
 use Rattle.xh_script.proofs.Common.{get_or, inner_of, length, reply_text, suc, sym, ℕ, ◌++◌, ◌+◌, ◌<◌, ◌∙◌, ◌≡◌}
-use Rattle.xh_script.specs.declared.reply.Answered.{Answered}
+use Rattle.xh_script.specs.declared.replies.Answered.{Answered}
 use Rattle.std.specs.Io.KnownBytes.{Appends}
-use Rattle.xh_script.specs.declared.watch.Watched.{Watched}
+use Rattle.xh_script.specs.declared.streams.Watched.{Watched}
 
 pub Appends-then : (a b c : Option (List ℕ)) (x y : List ℕ) → Appends a b x → Appends b c y → Appends a c (x ++ y)
 Appends-then None b c x y p q = tt

@@ -12,7 +12,7 @@ use Rattle.xh_script.specs.declared.form.Form.TheVariants.{Contract, Process, Wi
 
 -- what the words of a form are: these in order, and then `least` to `most` words of the sort `more`. The form's own word does not count, and the process
 -- ahead of a verb is the first word
-pub record Row : Type 0 where
+pub record Shape : Type 0 where
   pub words : List Sort
   pub more : Sort
   pub least : ℕ
@@ -31,14 +31,14 @@ abbrev pub budget : Sort
 budget = sort.Number 1 MAX_BUDGET
 
 -- these words, and then some more
-abbrev pub and_more : List Sort → Sort → ℕ → ℕ → Row
+abbrev pub and_more : List Sort → Sort → ℕ → ℕ → Shape
 and_more words more least most = record { words = words; more = more; least = least; most = most }
 
 -- these words and no more
-abbrev pub just : List Sort → Row
+abbrev pub just : List Sort → Shape
 just words = and_more words sort.Block 0 0
 
-unfoldable pub shape : Form → Row
+unfoldable pub shape : Form → Shape
 shape Contract = and_more (sort.Contract ∷ []) sort.Row 1 MAX_ROWS
 shape Process = just (sort.Process ∷ [])
 shape Wire = and_more (sort.Process ∷ sort.Block ∷ sort.Process ∷ sort.Block ∷ number ∷ []) sort.Contract 0 1
@@ -58,11 +58,11 @@ shape Glance = just (sort.Process ∷ sort.Process ∷ [])
 shape Again = just (sort.Process ∷ [])
 
 -- what the word at a place has to be
-abbrev pub sort_at : Row → ℕ → Sort
+abbrev pub sort_at : Shape → ℕ → Sort
 sort_at row i = slice_index_or row.words i row.more
 
 -- whether a line of the form may have so many words
-abbrev pub has_count : Row → ℕ → Bool
+abbrev pub has_count : Shape → ℕ → Bool
 has_count row count = nat_le (length row.words + row.least) count && nat_le count (length row.words + row.most)
 
 -- the text of a form's own word
@@ -100,6 +100,10 @@ declares _ = false
 abbrev pub has_text : List ℕ → Form → Bool
 has_text word form = bytes_eq word (form_text form)
 
+-- the forms whose lines begin with their own word
+abbrev pub heads : List Form
+heads = Contract ∷ Process ∷ Wire ∷ []
+
 -- the forms whose lines begin with a process, and their own word, a verb, behind it
 abbrev pub verbs : List Form
 verbs = Open ∷ Alloc ∷ Split ∷ Read ∷ Write ∷ Give ∷ Take ∷ Await ∷ Free ∷ Close ∷ Exit ∷ Kill ∷ Glance ∷ Again ∷ []
@@ -108,7 +112,3 @@ verbs = Open ∷ Alloc ∷ Split ∷ Read ∷ Write ∷ Give ∷ Take ∷ Await 
 abbrev pub form_among : List Form → List ℕ → Result Form Kind
 form_among [] word = Err BadWord
 form_among (form ∷ forms) word = if has_text word form then Ok form else form_among forms word
-
--- the form that a verb has
-unfoldable pub verb_at : List ℕ → Result Form Kind
-verb_at word = form_among verbs word

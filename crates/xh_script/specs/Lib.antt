@@ -11,6 +11,4 @@ pub mod Operands
 pub mod Scripts
 pub mod Watching
 pub mod Texts
-pub mod Spelling
-pub mod Sayable
 pub mod inner

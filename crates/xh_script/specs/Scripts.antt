@@ -1,37 +1,45 @@
 -- What a script is: its commands, the names of its processes and its contracts, or its first fault.
-use Rattle.std.specs.Prelude.{◌≡◌, ℕ, ◌+◌, ◌==◌, false, List, [], ◌∷◌, ◌++◌, length, replicate, nat_lt, if◌then◌else◌, Option, Some, None, Result, Ok, Err, ⊤}
-use Rattle.std.specs.List.{slice_split}
+use Rattle.std.specs.Prelude.{◌≡◌, ℕ, ◌+◌, ◌==◌, false, List, [], ◌∷◌, ◌++◌, length, replicate, nat_lt, if◌then◌else◌, Result, Ok, Err, ⊤}
+use Rattle.std.specs.List.{list_all, slice_split}
 use Rattle.xh_model.specs.declared.row.Row.{Row}
-use Rattle.xh_script.specs.declared.limits.TheConstants.{MAX_COMMANDS, MAX_PROCESSES, MAX_SCRIPT}
+use Rattle.xh_script.specs.declared.limits.TheConstants.{MAX_COMMANDS, MAX_LINE, MAX_PROCESSES, MAX_SCRIPT}
 use Rattle.xh_script.specs.Steps.{◌>>=◌}
 use Rattle.xh_script.specs.SoFar.{SoFar}
-use Rattle.xh_script.specs.Grammar.{said_at}
+use Rattle.xh_script.specs.Grammar.{is_filled, is_printable, is_skipped, said}
 use Rattle.xh_script.specs.Numbering.{placed}
 use Rattle.xh_script.specs.declared.fault.Kind.{Kind}
-use Rattle.xh_script.specs.declared.fault.Kind.TheVariants.{TooLong}
+use Rattle.xh_script.specs.declared.fault.Kind.TheVariants.{TooLong, LongLine, BadByte, BadWord}
 use Rattle.xh_script.specs.declared.fault.Fault.{Fault}
 use Rattle.xh_script.specs.declared.fault.Fault.TheVariants.{Script as ScriptFault, Memory, Read as ReadFault, Write as WriteFault, Gate, BadConfig}
-use Rattle.xh_script.specs.declared.command.Command.{Command}
+use Rattle.xh_script.specs.declared.command.Word.{Word}
+use Rattle.xh_script.specs.declared.form.Form.{Form}
 use Rattle.xh_script.specs.declared.command.Line.{Line}
 use Rattle.xh_script.specs.declared.script.Script.{Script}
 
 -- one more command
-unfoldable pub with_line : SoFar → ℕ → Command ℕ → Result SoFar Kind
-with_line r number command =
-    if nat_lt (length r.lines) MAX_COMMANDS then Ok (record r { lines = r.lines ++ record { number = number; command = command } ∷ [] })
+unfoldable pub with_command : SoFar → ℕ → Form → List Word → Result SoFar Kind
+with_command r number form words =
+    if nat_lt (length r.lines) MAX_COMMANDS then
+    Ok (record r { lines = r.lines ++ record { number = number; command = record { form = form; words = record { items = words } } } ∷ [] })
     else Err TooLong
 
--- what a line says, or nothing where it is skipped
-abbrev pub with_command : SoFar → ℕ → Option (Command (List ℕ)) → Result SoFar Kind
-with_command r number None = Ok r
-with_command r number (Some said) = placed r said >>= λ c. with_line c.1 number c.0
+-- what the words of a line say
+unfoldable pub with_words : SoFar → ℕ → List (List ℕ) → Result SoFar Kind
+with_words r number words =
+    if list_all is_filled words then (said words >>= λ s. placed r s.0 s.1 >>= λ c. with_command c.1 number s.0 c.0)
+    else Err BadWord
 
 abbrev pub at_line : {A : Type 0} → ℕ → Result A Kind → Result A Fault
 at_line number (Ok x) = Ok x
 at_line number (Err kind) = Err (ScriptFault number kind)
 
+-- a line was read, which may be skipped
 unfoldable pub after_line : SoFar → ℕ → List ℕ → Result SoFar Kind
-after_line r number line = said_at line >>= with_command r number
+after_line r number line =
+    if nat_lt MAX_LINE (length line) then Err LongLine
+    else if is_skipped line then Ok r
+    else if list_all is_printable line then with_words r number (slice_split (λ b. b == 32) line)
+    else Err BadByte
 
 -- what has been read after these lines too, numbered from `number` on; the lowest line with a fault decides
 abbrev pub after_lines : SoFar → ℕ → List (List ℕ) → Result SoFar Fault

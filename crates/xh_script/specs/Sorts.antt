@@ -1,32 +1,23 @@
--- What a word says that is of a sort.
-use Rattle.std.specs.Prelude.{ℕ, ◌-◌, ◌&&◌, ◌==◌, List, [], ◌∷◌, nat_le, if◌then◌else◌, Option, Some, None, Result, Ok, Err}
+-- What a word says, and of which sort it is.
+use Rattle.std.specs.Prelude.{ℕ, ◌-◌, ◌&&◌, ◌==◌, List, [], ◌∷◌, nat_le, if◌then◌else◌, Result, Ok, Err}
 use Rattle.std.specs.List.{slice_split}
 use Rattle.arrayvec.specs.ArrayVec.{ArrayVec}
 use Rattle.xh_model.specs.declared.row.Row.{Row}
 use Rattle.xh_model.specs.declared.limits.TheConstants.{STATES}
 use Rattle.xh_script.specs.declared.limits.TheConstants.{MAX_TAG}
-use Rattle.xh_script.specs.Words.{is_name, number_of, is_hex, hex_bytes}
+use Rattle.xh_script.specs.Words.{is_name, is_numeral, value_of, is_hex, hex_bytes}
 use Rattle.xh_script.specs.Steps.{◌>>=◌}
 use Rattle.xh_script.specs.declared.fault.Kind.{Kind}
 use Rattle.xh_script.specs.declared.fault.Kind.TheVariants.{BadWord, BadNumber, BadHex}
 use Rattle.xh_script.specs.declared.form.Sort.{Sort}
 use Rattle.xh_script.specs.declared.form.Sort.TheVariants as sort
-use Rattle.xh_script.specs.declared.command.Word.{Word}
-use Rattle.xh_script.specs.declared.command.Word.TheVariants.{Process, Block, Contract, Number, Bytes, Row as RowWord}
 
 unfoldable pub name_at : List ℕ → Result (List ℕ) Kind
 name_at word = if is_name word then Ok word else Err BadWord
 
-abbrev pub number_or : Option ℕ → Result ℕ Kind
-number_or (Some n) = Ok n
-number_or None = Err BadNumber
-
-unfoldable pub number_at : List ℕ → Result ℕ Kind
-number_at word = number_or (number_of word)
-
 -- a number with a least and a greatest value
 unfoldable pub number_between : ℕ → ℕ → List ℕ → Result ℕ Kind
-number_between low high word = number_at word >>= λ n. if nat_le low n && nat_le n high then Ok n else Err BadNumber
+number_between low high word = if is_numeral word && nat_le low (value_of word) && nat_le (value_of word) high then Ok (value_of word) else Err BadNumber
 
 unfoldable pub bytes_at : List ℕ → Result (ArrayVec ℕ) Kind
 bytes_at word = if is_hex word then Ok (record { items = hex_bytes word }) else Err BadHex
@@ -47,11 +38,11 @@ row_of _ = Err BadNumber
 abbrev pub row_at : List ℕ → Result Row Kind
 row_at word = row_of (slice_split (λ b. b == 58) word)
 
--- what a word says, if it is of this sort
-unfoldable pub word_at : Sort → List ℕ → Result (Word (List ℕ)) Kind
-word_at sort.Process word = name_at word >>= λ p. Ok (Process p)
-word_at sort.Block word = name_at word >>= λ x. Ok (Block x)
-word_at sort.Contract word = name_at word >>= λ k. Ok (Contract k)
-word_at (sort.Number least most) word = number_between least most word >>= λ n. Ok (Number n)
-word_at sort.Bytes word = bytes_at word >>= λ b. Ok (Bytes b)
-word_at sort.Row word = row_at word >>= λ r. Ok (RowWord r)
+-- whether a word is of this sort, or what is wrong with it
+unfoldable pub check : Sort → List ℕ → Result (Unit {0}) Kind
+check sort.Process word = name_at word >>= λ _. Ok tt
+check sort.Block word = name_at word >>= λ _. Ok tt
+check sort.Contract word = name_at word >>= λ _. Ok tt
+check (sort.Number least most) word = number_between least most word >>= λ _. Ok tt
+check sort.Bytes word = bytes_at word >>= λ _. Ok tt
+check sort.Row word = row_at word >>= λ _. Ok tt

@@ -1,6 +1,5 @@
--- The text of faults, of replies, of ledgers and of what is in flight.
+-- The text of replies, of ledgers and of what is in flight.
 use Rattle.std.specs.Prelude.{ℕ, ◌+◌, ◌/◌, ◌%◌, List, [], ◌∷◌, ◌++◌, codes, length, map, nat_lt, if◌then◌else◌, Option, Some, None, slice_index_or}
-use Rattle.std.specs.List.{concat}
 use Rattle.std.specs.Fmt.{decimal}
 use Rattle.xh_core.specs.Refusals.{number_of, name_of}
 use Rattle.xh_core.specs.declared.ledger.State.{State}
@@ -11,34 +10,9 @@ use Rattle.xh_core.specs.declared.ledger.Ledger.{Ledger}
 use Rattle.xh_core.specs.declared.flight.FlightLine.{FlightLine}
 use Rattle.xh_core.specs.declared.refused.Refused.{Refused}
 use Rattle.xh_core.specs.declared.refused.Refused.TheVariants.{Full, PeerClosed, Unfinished}
-use Rattle.xh_script.specs.declared.fault.Fault.{Fault}
-use Rattle.xh_script.specs.declared.fault.Fault.TheVariants.{Script, Memory, Read, Write, Gate, BadConfig}
-use Rattle.xh_script.specs.declared.fault.Kind.{Kind}
-use Rattle.xh_script.specs.declared.fault.Kind.TheVariants.{TooLong, LongLine, BadByte, BadWord, BadCount, BadNumber, BadHex, LateHead, BadContract}
-use Rattle.xh_script.specs.declared.reply.Reply.{Reply}
-use Rattle.xh_script.specs.declared.reply.Reply.TheVariants.{Done, Started, Length, Parts, Bytes, Given, Taken, Reclaimed, Glance, NotGiven, No}
-use Rattle.xh_script.specs.declared.reply.Answered.{Answered}
-
--- the name of a fault
-abbrev pub kind_name : Kind → List ℕ
-kind_name TooLong = codes "TooLong"
-kind_name LongLine = codes "LongLine"
-kind_name BadByte = codes "BadByte"
-kind_name BadWord = codes "BadWord"
-kind_name BadCount = codes "BadCount"
-kind_name BadNumber = codes "BadNumber"
-kind_name BadHex = codes "BadHex"
-kind_name LateHead = codes "LateHead"
-kind_name BadContract = codes "BadContract"
-
--- what is said of a fault
-abbrev pub fault_text : Fault → List ℕ
-fault_text (Script line kind) = concat (codes "line " ∷ decimal line ∷ codes ": " ∷ kind_name kind ∷ [])
-fault_text Memory = codes "out of memory"
-fault_text Read = codes "read failed"
-fault_text Write = codes "write failed"
-fault_text Gate = codes "internal fault"
-fault_text BadConfig = codes "internal fault"
+use Rattle.xh_script.specs.declared.replies.Reply.{Reply}
+use Rattle.xh_script.specs.declared.replies.Reply.TheVariants.{Done, Started, Bytes, Taken, NotGiven, No}
+use Rattle.xh_script.specs.declared.replies.Answered.{Answered}
 
 -- ---- lines
 
@@ -92,17 +66,16 @@ count_words (Some n) = decimal n ∷ []
 abbrev pub refusal_text : List ℕ → Refused → Option ℕ → List ℕ
 refusal_text line e count = line_text line (codes "no" ∷ decimal (number_of e) ∷ name_of e ∷ count_words count)
 
+-- a command is done, and these numbers tell of it
+abbrev pub done : List ℕ → Reply
+done numbers = Done (record { items = numbers })
+
 -- the reply to the command of a line
 unfoldable pub reply_text : ℕ → Reply → List ℕ
-reply_text line Done = ok_text line []
+reply_text line (Done numbers) = ok_text line (map decimal numbers.items)
 reply_text line (Started n) = ok_text line (decimal n ∷ [])
-reply_text line (Length n) = ok_text line (decimal n ∷ [])
-reply_text line (Parts head tail) = ok_text line (decimal head ∷ decimal tail ∷ [])
 reply_text line (Bytes bytes) = ok_text line (hex_text bytes.items ∷ [])
-reply_text line (Given n) = ok_text line (decimal n ∷ [])
 reply_text line (Taken n tag lengths) = ok_text line (decimal n ∷ decimal tag ∷ map length_text lengths.items)
-reply_text line (Reclaimed n) = ok_text line (decimal n ∷ [])
-reply_text line (Glance blocks bytes) = ok_text line (decimal blocks ∷ decimal bytes ∷ [])
 reply_text line (NotGiven e) = refusal_text (decimal line) e (give_count_of e)
 reply_text line (No e) = refusal_text (decimal line) e (count_of e)
 

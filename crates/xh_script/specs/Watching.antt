@@ -1,7 +1,7 @@
 -- What is said of a reader or a writer whose failures are counted.
 use Rattle.std.specs.Prelude.{◌≡◌, ◌≢◌, ℕ, List, ◌++◌, Option, Result, Ok, Err}
 use Rattle.std.specs.Io.KnownBytes.{Appends, Consumes}
-use Rattle.xh_script.specs.declared.watch.Watched.{Watched}
+use Rattle.xh_script.specs.declared.streams.Watched.{Watched}
 use Rattle.xh_script.specs.declared.fault.Fault.{Fault}
 use Rattle.xh_script.specs.declared.fault.Fault.TheVariants.{Write}
 

@@ -1,5 +1,5 @@
 -- What a word of a line may be.
-use Rattle.std.specs.Prelude.{ℕ, ◌+◌, ◌-◌, ◌*◌, ◌%◌, ◌^◌, ◌&&◌, ◌||◌, ◌==◌, Bool, not, List, [], ◌∷◌, length, nat_le, nat_lt, if◌then◌else◌, Option, Some, None, codes, slice_index}
+use Rattle.std.specs.Prelude.{ℕ, ◌+◌, ◌-◌, ◌*◌, ◌%◌, ◌&&◌, ◌||◌, ◌==◌, Bool, not, List, [], ◌∷◌, length, nat_le, nat_lt, if◌then◌else◌, codes, slice_index}
 use Rattle.std.specs.List.{list_all, fold}
 use Rattle.std.specs.Str.{bytes_eq}
 use Rattle.xh_script.specs.declared.limits.TheConstants.{MAX_NAME, MAX_DIGITS, MAX_HEX}
@@ -34,10 +34,6 @@ is_numeral word =
 -- what digits say
 abbrev pub value_of : List ℕ → ℕ
 value_of digits = fold (λ n b. n * 10 + (b - 48)) 0 digits
-
--- the number below 2 ^ 32 that a word is
-abbrev pub number_of : List ℕ → Option ℕ
-number_of word = if is_numeral word && nat_lt (value_of word) (2 ^ 32) then Some (value_of word) else None
 
 abbrev pub is_hex_letter : ℕ → Bool
 is_hex_letter b = nat_le 97 b && nat_le b 102

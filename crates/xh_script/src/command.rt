@@ -1,63 +1,56 @@
 //! Commands: what the lines of a script say.
-ghost use Rattle.std.specs.Prelude.{◌≡◌, ◌≤◌, length};
+ghost use Rattle.std.specs.Prelude.{◌≡◌, ◌≤◌, drop, length};
 ghost use Rattle.xh_script.specs.declared.limits.TheConstants.{MAX_WORDS};
-ghost use Rattle.xh_script.specs.Operands.{name_in, name, number, number_or, contract, bytes, from};
+ghost use Rattle.xh_script.specs.Operands.{name_in, name, number, number_or, contract, bytes};
 
 use crate::Form;
 use crate::limits::{MAX_HEX, MAX_WORDS};
 use arrayvec::ArrayVec;
-use xh_model::Row;
 
-/// What a word of a line says. `N` stands for a name: a `Name` as it is read, or its number. A
-/// process's number is its place among the names of processes, a block's that among the names of its
-/// process's blocks, a contract's that among the contracts.
+/// What a word of a line says.
 #[derive(Debug, Drop)]
-pub enum Word<N> {
-    Process(N),
-    Block(N),
-    Contract(N),
+pub enum Word {
+    /// A name's number: a process's is its place among the names of processes, a block's that among
+    /// the names of its process's blocks, a contract's that among the contracts.
+    Name(u8),
     Number(u32),
     /// At least one byte.
     Bytes(ArrayVec<u8, MAX_HEX>),
-    Row(Row),
 }
 
-impl<N> Default for Word<N> {
-    fn default() -> Word<N> {
+impl Default for Word {
+    fn default() -> Word {
         Word::Number(0)
     }
 }
 
-/// What the words of a line say.
-pub(crate) type Words<N> = ArrayVec<Word<N>, MAX_WORDS>;
-
 /// A command: its form, and what its words say, in the order of the form's row in the table.
 #[derive(Drop)]
-pub struct Command<N> {
+pub struct Command {
     pub form: Form,
-    pub words: ArrayVec<Word<N>, MAX_WORDS>,
+    pub words: ArrayVec<Word, MAX_WORDS>,
 }
 
 /// A command with the number of its line, from 1 on; lines without a command count too.
 #[derive(Drop)]
 pub struct Line {
     pub number: u32,
-    pub command: Command<u8>,
+    pub command: Command,
 }
 
-impl Word<u8> {
-    /// The number of the process or of the block that the word names.
+impl Word {
+    /// The number of the name that the word is.
     pub fn name(&self) -> u8
         ensures { result ≡ name_in self.now }
     {
         match self {
-            Word::Process(name) | Word::Block(name) => *name,
+            Word::Name(name) => *name,
             _ => 0,
         }
     }
 }
 
-impl Command<u8> {
+impl Command {
     /// The number of the process or of the block that the word at `i` names.
     pub fn name(&self, i: usize) -> u8
         ensures { result ≡ name self.now.words.items i }
@@ -90,7 +83,7 @@ impl Command<u8> {
         ensures { result ≡ contract self.now.words.items i }
     {
         match self.words.get(i) {
-            Some(Word::Contract(number)) => Some(*number),
+            Some(Word::Name(number)) => Some(*number),
             _ => None,
         }
     }
@@ -106,8 +99,8 @@ impl Command<u8> {
     }
 
     /// The words from the one at `i` on.
-    pub fn from(&self, i: usize) -> &[Word<u8>]
-        ensures is { result.now ≡ from self.now.words.items i }
+    pub fn from(&self, i: usize) -> &[Word]
+        ensures is { result.now ≡ drop i self.now.words.items }
         ensures within { length result.now ≤ MAX_WORDS }
     {
         match self.words.get(i..) {

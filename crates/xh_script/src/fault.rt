@@ -1,7 +1,7 @@
 //! Why a run ended.
-ghost use Rattle.std.specs.Prelude.{◌≡◌, Some};
-ghost use Rattle.xh_script.specs.Texts.{fault_text, kind_name};
+ghost use Rattle.std.specs.Prelude.{◌≡◌};
 ghost use Rattle.xh_script.specs.declared.fault.Fault.TheVariants.{Memory};
+ghost use Rattle.xh_script.specs.declared.fault.Stop.TheVariants as stop;
 
 use std::alloc::{AllocError, AllocFailed};
 use std::fmt;
@@ -32,9 +32,7 @@ pub enum Kind {
 
 impl Kind {
     /// Its name.
-    pub fn name(self) -> &'static str
-        ensures { result.now ≡ kind_name self }
-    {
+    pub fn name(self) -> &'static str {
         match self {
             Kind::TooLong => "TooLong",
             Kind::LongLine => "LongLine",
@@ -67,8 +65,6 @@ pub enum Fault {
 }
 
 impl fmt::Display for Fault {
-    ghost output = { λ f. Some (fault_text f) };
-
     fn fmt<W: fmt::Write>(&self, f: &mut fmt::Formatter<W>) -> fmt::Result {
         match self {
             Fault::Script { line, kind } => write!(f, "line {line}: {}", kind.name()),
@@ -93,5 +89,36 @@ impl<T: Drop> From<AllocFailed<T>> for Fault {
 
     fn from(_error: AllocFailed<T>) -> Fault {
         Fault::Memory
+    }
+}
+
+/// Why a reading stops: at a fault of the script, or because a growth of memory was refused.
+#[derive(Clone, Copy)]
+pub enum Stop {
+    Bad(Kind),
+    Memory,
+}
+
+impl From<Kind> for Stop {
+    ghost from_gives = { λ kind s. s ≡ stop.Bad kind };
+
+    fn from(kind: Kind) -> Stop {
+        Stop::Bad(kind)
+    }
+}
+
+impl From<AllocError> for Stop {
+    ghost from_gives = { λ _ s. s ≡ stop.Memory };
+
+    fn from(_error: AllocError) -> Stop {
+        Stop::Memory
+    }
+}
+
+impl<T: Drop> From<AllocFailed<T>> for Stop {
+    ghost from_gives = { λ _ s. s ≡ stop.Memory };
+
+    fn from(_error: AllocFailed<T>) -> Stop {
+        Stop::Memory
     }
 }

@@ -1,6 +1,6 @@
 //! The table of the language: a row for each form of line.
 ghost use Rattle.std.specs.Prelude.{◌≡◌, ◌≤◌, ◌+◌, length, true};
-ghost use Rattle.xh_script.specs.Forms.{just, and_more, form_among, form_text, shape, is_head, verb_at, sort_at, has_count};
+ghost use Rattle.xh_script.specs.Forms.{just, and_more, form_among, form_text, shape, is_head, sort_at, has_count};
 ghost use Rattle.xh_script.specs.declared.limits.TheConstants.{MAX_WORDS};
 
 use crate::Kind;
@@ -59,9 +59,9 @@ pub(crate) struct Shape {
 }
 
 impl Model for Shape {
-    ghost use Rattle.xh_script.specs.Forms.{Row};
+    ghost use Rattle.xh_script.specs.Forms.{Shape};
 
-    ghost Value = { Row };
+    ghost Value = { Shape };
 
     ghost view = { λ s. record { words = s.words.now; more = s.more; least = s.least; most = s.most } };
 }
@@ -94,8 +94,11 @@ const BUDGET: Sort = Sort::Number {
     most: MAX_BUDGET as u32,
 };
 
+/// The forms whose lines begin with their own word.
+pub(crate) const HEADS: &[Form] = &[Form::Contract, Form::Process, Form::Wire];
+
 /// The forms whose lines begin with a process, and their own word, a verb, behind it.
-const VERBS: &[Form] = &[
+pub(crate) const VERBS: &[Form] = &[
     Form::Open,
     Form::Alloc,
     Form::Split,
@@ -113,7 +116,7 @@ const VERBS: &[Form] = &[
 ];
 
 /// The first of these forms whose own word this is.
-fn form_among(forms: &[Form], word: &[u8]) -> Result<Form, Kind>
+pub(crate) fn form_among(forms: &[Form], word: &[u8]) -> Result<Form, Kind>
     ensures { result ≡ form_among forms.now word.now }
 {
     for form in forms {
@@ -199,14 +202,6 @@ impl Form {
             Form::Glance => b"glance",
             Form::Again => b"again",
         }
-    }
-
-    /// The form that a verb has.
-    #[tactic(auto, unfolding(crate::specs::Forms::verb_at))]
-    pub(crate) fn of_verb(word: &[u8]) -> Result<Form, Kind>
-        ensures { result ≡ verb_at word.now }
-    {
-        form_among(VERBS, word)
     }
 }
 

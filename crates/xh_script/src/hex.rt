@@ -2,8 +2,10 @@
 ghost use Rattle.std.specs.Prelude.{◌≡◌, ◌≤◌, ◌*◌, length};
 ghost use Rattle.std.specs.List.{list_all};
 ghost use Rattle.xh_script.specs.Words.{is_hex_letter, is_hex_digit, is_hex, hex_value, hex_bytes};
+ghost use Rattle.xh_script.specs.Sorts.{bytes_at};
 ghost use Rattle.xh_script.specs.declared.limits.TheConstants.{MAX_HEX};
 
+use crate::Kind;
 use crate::limits::MAX_HEX;
 use arrayvec::ArrayVec;
 
@@ -20,7 +22,7 @@ fn has_hex_digits(word: &[u8]) -> bool
 }
 
 /// Whether a word is hexadecimal digits in lower case, two for each byte, of one byte or more.
-pub(crate) fn is_hex(word: &[u8]) -> bool
+fn is_hex(word: &[u8]) -> bool
     ensures { result ≡ is_hex word.now }
 {
     2 <= word.len() && word.len() <= 2 * MAX_HEX && word.len() % 2 == 0 && has_hex_digits(word)
@@ -41,7 +43,7 @@ fn hex_value(b: u8) -> u8
 }
 
 /// The bytes that pairs of hexadecimal digits say.
-pub(crate) fn hex_bytes(word: &[u8]) -> ArrayVec<u8, MAX_HEX>
+fn hex_bytes(word: &[u8]) -> ArrayVec<u8, MAX_HEX>
     requires { length word.now ≤ 2 * MAX_HEX }
     ensures { result.items ≡ hex_bytes word.now }
 {
@@ -50,4 +52,16 @@ pub(crate) fn hex_bytes(word: &[u8]) -> ArrayVec<u8, MAX_HEX>
         bytes.push(16 * hex_value(word[2 * i]) + hex_value(word[2 * i + 1]));
     }
     bytes
+}
+
+/// The bytes that a word says in hexadecimal digits.
+#[tactic(auto, unfolding(crate::specs::Sorts::bytes_at))]
+pub(crate) fn bytes_at(word: &[u8]) -> Result<ArrayVec<u8, MAX_HEX>, Kind>
+    ensures { result ≡ bytes_at word.now }
+{
+    if is_hex(word) {
+        Ok(hex_bytes(word))
+    } else {
+        Err(Kind::BadHex)
+    }
 }

@@ -4,8 +4,8 @@ ghost use Rattle.std.specs.List.{All};
 ghost use Rattle.xh_script.specs.Watching.{WritesOrFails};
 ghost use Rattle.xh_script.specs.Texts.{state_text, arena_text, arena_texts, place_text, place_texts, sum_text, sums_text, ledger_text, flight_text, flight_texts};
 
-use crate::put::Piece::{Number, Text};
-use crate::put::put_line;
+use crate::writing::Piece::{Number, Text};
+use crate::writing::put_line;
 use crate::{Fault, Name, Watched};
 use std::io::Write;
 use xh_core::{ArenaLine, FlightLine, Ledger, PlaceLine, State};

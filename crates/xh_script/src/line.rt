@@ -1,73 +1,38 @@
-//! What a line says.
-ghost use Rattle.std.specs.Prelude.{◌≡◌, [], ◌∷◌, map, option_map};
+//! The words of a line: the form that they say, and whether each is of the sort that the form asks for.
+ghost use Rattle.std.specs.Prelude.{◌≡◌, ◌≤◌, ◌+◌, IfOk, length, map};
 ghost use Rattle.std.specs.List.{list_all};
 ghost use Rattle.xh_script.specs.inner.Stops.{Answers};
-ghost use Rattle.xh_script.specs.Grammar.{said, head_line, verb_line, is_filled, line_by, said_by, is_printable, is_skipped, said_at};
+ghost use Rattle.xh_script.specs.Grammar.{is_printable, is_skipped, is_filled, said, check_all};
+ghost use Rattle.xh_script.specs.Sorts.{check};
+ghost use Rattle.xh_script.specs.declared.limits.TheConstants.{MAX_WORDS};
 
-use crate::command::Words;
-use crate::limits::MAX_LINE;
+use crate::form::{HEADS, Shape, Sort, VERBS, form_among};
+use crate::hex::bytes_at;
 use crate::name::is_name;
-use crate::pieces::pieces;
-use crate::word::add_words;
+use crate::numeral::number_between;
+use crate::rows::row_at;
 use crate::{Form, Kind, Name, Stop};
 use std::alloc::Global;
 
-/// The form of a command with these words, a first one and others. What they say comes to `words`.
-#[tactic(auto, unfolding(crate::specs::Grammar::said), using(crate::proofs::Readings::stops_then))]
-fn said(
-    alloc: Global,
-    form: Form,
-    first: &[u8],
-    others: &[&[u8]],
-    words: &mut Words<Name>,
-) -> Result<Form, Stop>
-    requires { words.old.items ≡ [] }
-    ensures { Answers (λ form. record { form = form; words = words.new }) result (said form first.now (map (λ w. w.now) others.now)) }
+/// Whether a line has printable bytes alone.
+pub(crate) fn has_printable(line: &[u8]) -> bool
+    ensures { result ≡ list_all is_printable line.now }
 {
-    let shape = form.shape();
-    if !shape.has_count(1 + others.len()) {
-        return Err(Stop::Bad(Kind::BadCount));
+    line.iter().all(|b| 0x20 <= *b && *b <= 0x7e)
+}
+
+/// Whether a line says nothing.
+pub(crate) fn is_skipped(line: &[u8]) -> bool
+    ensures { result ≡ is_skipped line.now }
+{
+    match line.first() {
+        Some(b) => *b == b'#',
+        None => true,
     }
-    add_words(alloc, &shape, first, others, words)?;
-    Ok(form)
 }
 
-/// The command of a line whose first word is a form's own.
-#[tactic(auto, unfolding(crate::specs::Grammar::head_line), using(crate::proofs::Readings::stops_then))]
-fn head_line(
-    alloc: Global,
-    form: Form,
-    words: &[&[u8]],
-    said_words: &mut Words<Name>,
-) -> Result<Form, Stop>
-    requires { said_words.old.items ≡ [] }
-    ensures { Answers (λ form. record { form = form; words = said_words.new }) result (head_line form (map (λ w. w.now) words.now)) }
-{
-    let [first, others @ ..] = words else {
-        return Err(Stop::Bad(Kind::BadCount));
-    };
-    said(alloc, form, first, others, said_words)
-}
-
-/// The command of a line whose first word is the name of a process.
-#[tactic(auto, unfolding(crate::specs::Grammar::verb_line), using(crate::proofs::Readings::stops_then))]
-fn verb_line(
-    alloc: Global,
-    process: &[u8],
-    words: &[&[u8]],
-    said_words: &mut Words<Name>,
-) -> Result<Form, Stop>
-    requires { said_words.old.items ≡ [] }
-    ensures { Answers (λ form. record { form = form; words = said_words.new }) result (verb_line process.now (map (λ w. w.now) words.now)) }
-{
-    let [verb, others @ ..] = words else {
-        return Err(Stop::Bad(Kind::BadCount));
-    };
-    let form = Form::of_verb(verb)?;
-    said(alloc, form, process, others, said_words)
-}
-
-fn are_filled(words: &[&[u8]]) -> bool
+/// Whether no word is empty.
+pub(crate) fn are_filled(words: &[&[u8]]) -> bool
     ensures { result ≡ list_all is_filled (map (λ w. w.now) words.now) }
 {
     for word in words {
@@ -78,83 +43,55 @@ fn are_filled(words: &[&[u8]]) -> bool
     true
 }
 
-/// The command that the words of a line say, by the first of them.
-#[tactic(auto, unfolding(crate::specs::Grammar::line_by, crate::specs::Sorts::name_at), using(crate::proofs::Readings::stops_then))]
-fn line_by(
-    alloc: Global,
-    first: &[u8],
-    words: &[&[u8]],
-    said: &mut Words<Name>,
-) -> Result<Form, Stop>
-    requires { said.old.items ≡ [] }
-    ensures { Answers (λ form. record { form = form; words = said.new }) result (line_by first.now (map (λ w. w.now) words.now)) }
+/// The form that the words of a line say. Its own word is taken out of them.
+pub(crate) fn take_form(words: &mut Vec<&[u8]>) -> Result<Form, Stop>
+    ensures { Answers (λ form. (form, map (λ w. w.now) words.new.items)) result (said (map (λ w. w.now) words.old.items)) }
 {
-    if first == b"process".as_slice() {
-        return head_line(alloc, Form::Process, words, said);
-    }
-    if first == b"wire".as_slice() {
-        return head_line(alloc, Form::Wire, words, said);
-    }
-    if first == b"contract".as_slice() {
-        return head_line(alloc, Form::Contract, words, said);
-    }
-    if is_name(first) {
-        verb_line(alloc, first, words, said)
-    } else {
-        Err(Stop::Bad(Kind::BadWord))
-    }
-}
-
-/// The command that the words of a line say.
-#[tactic(auto, unfolding(crate::specs::Grammar::said_by), using(crate::proofs::Readings::stops_then))]
-fn said_by(alloc: Global, words: &[&[u8]], said: &mut Words<Name>) -> Result<Form, Stop>
-    requires { said.old.items ≡ [] }
-    ensures { Answers (λ form. record { form = form; words = said.new }) result (said_by (map (λ w. w.now) words.now)) }
-{
-    let [first, others @ ..] = words else {
-        return Err(Stop::Bad(Kind::BadWord));
+    let (form, own) = match words.as_slice() {
+        [] => return Err(Stop::Bad(Kind::BadWord)),
+        [first, ..] if !is_name(first) => (form_among(HEADS, first)?, 0),
+        [_, verb, ..] => (form_among(VERBS, verb)?, 1),
+        [_] => return Err(Stop::Bad(Kind::BadCount)),
     };
-    if are_filled(words) {
-        line_by(alloc, first, others, said)
-    } else {
-        Err(Stop::Bad(Kind::BadWord))
-    }
+    words.remove(own);
+    Ok(form)
 }
 
-fn has_printable(line: &[u8]) -> bool
-    ensures { result ≡ list_all is_printable line.now }
+/// Whether a word is of a sort, or what is wrong with it.
+#[tactic(auto, unfolding(crate::specs::Sorts::check), using(crate::proofs::Readings::stops_then))]
+fn check(alloc: Global, sort: Sort, word: &[u8]) -> Result<(), Stop>
+    ensures { Answers (λ _. tt) result (check sort word.now) }
 {
-    line.iter().all(|b| 0x20 <= *b && *b <= 0x7e)
+    match sort {
+        Sort::Process | Sort::Block | Sort::Contract => {
+            Name::read(word)?;
+        }
+        Sort::Number { least, most } => {
+            number_between(least, most, word)?;
+        }
+        Sort::Bytes => {
+            bytes_at(word)?;
+        }
+        Sort::Row => {
+            row_at(alloc, word)?;
+        }
+    }
+    Ok(())
 }
 
-fn is_skipped(line: &[u8]) -> bool
-    ensures { result ≡ is_skipped line.now }
+/// Whether words are those that a row asks for, or what is wrong with them: their count, or the first
+/// that is not of its sort.
+#[tactic(auto, unfolding(crate::specs::Grammar::check_all))]
+pub(crate) fn check_all(alloc: Global, shape: &Shape, words: &[&[u8]]) -> Result<(), Stop>
+    requires { (length shape.now.words + shape.now.most ≤ MAX_WORDS) × (shape.now.least ≤ shape.now.most) }
+    ensures checked { Answers (λ _. tt) result (check_all shape.now (map (λ w. w.now) words.now)) }
+    ensures count { IfOk result (λ _. length words.now ≤ MAX_WORDS) }
 {
-    match line.first() {
-        Some(b) => *b == b'#',
-        None => true,
+    if !shape.has_count(words.len()) {
+        return Err(Stop::Bad(Kind::BadCount));
     }
-}
-
-/// The form of the command that a line says, whose words come to `said`; or none where the line is skipped.
-#[tactic(auto, unfolding(crate::specs::Grammar::said_at), using(crate::proofs::Readings::stops_then))]
-pub(crate) fn said_at(
-    alloc: Global,
-    line: &[u8],
-    said: &mut Words<Name>,
-) -> Result<Option<Form>, Stop>
-    requires { said.old.items ≡ [] }
-    ensures { Answers (option_map (λ form. record { form = form; words = said.new })) result (said_at line.now) }
-{
-    if line.len() > MAX_LINE {
-        return Err(Stop::Bad(Kind::LongLine));
+    for (i, word) in words.iter().enumerate() {
+        check(alloc, shape.sort(i), word)?;
     }
-    if is_skipped(line) {
-        return Ok(None);
-    }
-    if !has_printable(line) {
-        return Err(Stop::Bad(Kind::BadByte));
-    }
-    let words = pieces(alloc, line, b' ')?;
-    Ok(Some(said_by(alloc, &words, said)?))
+    Ok(())
 }

@@ -1,7 +1,8 @@
 //! Names of processes and of blocks.
-ghost use Rattle.std.specs.Prelude.{◌≡◌, ◌≤◌, List, ℕ, length, if◌then◌else◌, Some, None};
+ghost use Rattle.std.specs.Prelude.{◌≡◌, ◌≤◌, List, ℕ, length};
 ghost use Rattle.std.specs.Str.{bytes_eq};
 ghost use Rattle.xh_script.specs.Words.{is_name, is_keyword, is_name_byte};
+ghost use Rattle.xh_script.specs.Sorts.{name_at};
 ghost use Rattle.std.specs.List.{list_all};
 ghost use Rattle.std.specs.Cmp.Lexicographic.{nat_list_eq_equiv};
 ghost use Rattle.std.specs.Cmp.{partial_equiv_from_equiv};
@@ -10,6 +11,7 @@ ghost use Rattle.std.proofs.Common.{rules};
 ghost use Rattle.std.proofs.lemmas.Slice.Eq.{bytes_eq-Decides};
 ghost use Rattle.xh_script.specs.declared.limits.TheConstants.{MAX_NAME};
 
+use crate::Kind;
 use crate::limits::MAX_NAME;
 use arrayvec::ArrayVec;
 use std::hash::{Hash, Hasher};
@@ -85,7 +87,7 @@ pub(crate) fn is_name(word: &[u8]) -> bool
 }
 
 /// The same bytes once more.
-pub(crate) fn copy_of<const N: usize>(bytes: &[u8]) -> ArrayVec<u8, N>
+fn copy_of<const N: usize>(bytes: &[u8]) -> ArrayVec<u8, N>
     requires { length bytes.now ≤ N }
     ensures { result.items ≡ bytes.now }
 {
@@ -95,14 +97,15 @@ pub(crate) fn copy_of<const N: usize>(bytes: &[u8]) -> ArrayVec<u8, N>
 }
 
 impl Name {
-    /// The name that a word is.
-    pub fn read(word: &[u8]) -> Option<Name>
-        ensures { result ≡ (if is_name word.now then Some word.now else None) }
+    /// The name that a word is, else `BadWord`.
+    #[tactic(auto, unfolding(crate::specs::Sorts::name_at))]
+    pub fn read(word: &[u8]) -> Result<Name, Kind>
+        ensures { result ≡ name_at word.now }
     {
         if !is_name(word) {
-            return None;
+            return Err(Kind::BadWord);
         }
-        Some(Name {
+        Ok(Name {
             letters: copy_of(word),
         })
     }

@@ -1,16 +1,17 @@
-//! How replies are written.
+//! Replies, and how they are written.
 ghost use Rattle.std.specs.Prelude.{◌≡◌, ◌≤◌, ◌<◌, length, [], ◌∷◌, codes, map};
 ghost use Rattle.std.specs.Fmt.{decimal};
 ghost use Rattle.xh_script.specs.Watching.{WritesOrFails};
-ghost use Rattle.xh_script.specs.Texts.{hex_digit, hex_text, length_text, line_text, count_of, give_count_of, refusal_text, reply_text, answer_texts};
+ghost use Rattle.xh_script.specs.Texts.{hex_digit, hex_text, length_text, line_text, count_of, give_count_of, refusal_text, done, reply_text, answer_texts};
 ghost use Rattle.xh_script.specs.inner.Pieces.{piece_text};
 ghost use Rattle.xh_script.specs.declared.limits.TheConstants.{MAX_HEX};
+ghost use Rattle.xh_script.specs.declared.replies.TheConstants.{NUMBERS};
 ghost use Rattle.xh_model.specs.declared.limits.TheConstants.{MAX_BLOCKS};
 
 use crate::limits::MAX_HEX;
-use crate::put::Piece::{Number, Text};
-use crate::put::{Piece, put_line};
-use crate::{Answered, Fault, Reply, Watched};
+use crate::writing::Piece::{Number, Text};
+use crate::writing::{Piece, put_line};
+use crate::{Fault, Watched};
 use arrayvec::ArrayVec;
 use std::io::Write;
 use xh_core::Refused;
@@ -26,16 +27,51 @@ const OK: Piece = Text(b"ok");
 
 const NO: Piece = Text(b"no");
 
-fn put_number<W: Write>(writer: &mut Watched<W>, line: Piece, n: u64) -> Result<(), Fault>
-    ensures { WritesOrFails W.contents writer.old writer.new result (line_text (piece_text line.entry) (codes "ok" ∷ decimal n ∷ [])) }
-{
-    put_line(writer, line, &[OK, Number(n)])
+/// The numbers of a reply, at most.
+const NUMBERS: usize = 2;
+
+/// What is answered to a command.
+#[derive(Drop)]
+pub enum Reply {
+    /// The command is done, and these numbers tell of it. `contract`, `wire`, `open` and `write`: none.
+    /// `alloc` and `free`: the block's length in bytes; `split`: those of its two parts. `give`: the
+    /// message's number in its direction, from 1 on. `close`, `exit` and `kill`: the bytes that the
+    /// command reclaimed. `glance`: how many blocks the process holds, and their bytes.
+    Done(ArrayVec<u64, NUMBERS>),
+    /// `process` and `again` have a place; the process's number (place + 32 × generation).
+    Started(u16),
+    /// `read`: the bytes.
+    Bytes(ArrayVec<u8, MAX_HEX>),
+    /// `take` and `await`: the message's number, its tag, and the length of each block, or
+    /// `None` for one that another holds.
+    Taken {
+        number: u64,
+        tag: u16,
+        blocks: ArrayVec<Option<u32>, MAX_BLOCKS>,
+    },
+    /// A `give` is refused; a closed peer comes with the number of blocks handed back.
+    NotGiven(Refused),
+    /// Any other command is refused; a closed peer comes alone.
+    No(Refused),
 }
 
-fn put_numbers<W: Write>(writer: &mut Watched<W>, line: Piece, n: u64, m: u64) -> Result<(), Fault>
-    ensures { WritesOrFails W.contents writer.old writer.new result (line_text (piece_text line.entry) (codes "ok" ∷ decimal n ∷ decimal m ∷ [])) }
-{
-    put_line(writer, line, &[OK, Number(n), Number(m)])
+/// A reply with the number of its command's line.
+#[derive(Drop)]
+pub struct Answered {
+    pub line: u32,
+    pub reply: Reply,
+}
+
+impl Reply {
+    /// The command is done, and these numbers tell of it.
+    pub fn done(numbers: &[u64]) -> Reply
+        requires { length numbers.now ≤ NUMBERS }
+        ensures { result ≡ done numbers.now }
+    {
+        let mut told = ArrayVec::new();
+        let _ = told.try_extend_from_slice(numbers);
+        Reply::Done(told)
+    }
 }
 
 fn hex_digit(n: u8) -> u8
@@ -58,14 +94,6 @@ fn hex_text(bytes: &[u8]) -> ArrayVec<u8, DIGITS>
     digits
 }
 
-fn put_bytes<W: Write>(writer: &mut Watched<W>, line: Piece, bytes: &[u8]) -> Result<(), Fault>
-    requires { length bytes.now ≤ MAX_HEX }
-    ensures { WritesOrFails W.contents writer.old writer.new result (line_text (piece_text line.entry) (codes "ok" ∷ hex_text bytes.now ∷ [])) }
-{
-    let digits = hex_text(bytes);
-    put_line(writer, line, &[OK, Text(digits.as_slice())])
-}
-
 fn length_piece(length: Option<u32>) -> Piece<'static>
     ensures { piece_text result ≡ length_text length }
 {
@@ -73,6 +101,19 @@ fn length_piece(length: Option<u32>) -> Piece<'static>
         Some(n) => Number(u64::from(n)),
         None => Text(b"-"),
     }
+}
+
+/// The words of numbers, behind `ok`.
+fn numbers_words(numbers: &[u64]) -> ArrayVec<Piece<'static>, WORDS>
+    requires { length numbers.now ≤ NUMBERS }
+    ensures { map piece_text result.items ≡ codes "ok" ∷ map decimal numbers.now }
+{
+    let mut words = ArrayVec::new();
+    words.push(OK);
+    for number in numbers {
+        words.push(Number(*number));
+    }
+    words
 }
 
 /// The words of a message that was taken.
@@ -133,21 +174,14 @@ pub fn write_reply<W: Write>(writer: &mut Watched<W>, line: u32, reply: &Reply) 
 {
     let line = Number(u64::from(line));
     match reply {
-        Reply::Done => put_line(writer, line, &[OK]),
-        Reply::Started(process) => put_number(writer, line, u64::from(*process)),
-        Reply::Length(length) => put_number(writer, line, u64::from(*length)),
-        Reply::Parts { head, tail } => {
-            put_numbers(writer, line, u64::from(*head), u64::from(*tail))
-        }
-        Reply::Bytes(bytes) => put_bytes(writer, line, bytes),
-        Reply::Given(number) => put_number(writer, line, *number),
+        Reply::Done(numbers) => put_line(writer, line, &numbers_words(numbers)),
+        Reply::Started(process) => put_line(writer, line, &[OK, Number(u64::from(*process))]),
+        Reply::Bytes(bytes) => put_line(writer, line, &[OK, Text(hex_text(bytes).as_slice())]),
         Reply::Taken {
             number,
             tag,
             blocks,
         } => put_line(writer, line, &taken(*number, *tag, blocks)),
-        Reply::Reclaimed(bytes) => put_number(writer, line, *bytes),
-        Reply::Glance { blocks, bytes } => { put_numbers(writer, line, u64::from(*blocks), *bytes) }
         Reply::NotGiven(refused) => put_refusal(writer, line, refused, give_count_of(refused)),
         Reply::No(refused) => put_refusal(writer, line, refused, count_of(refused)),
     }

@@ -8,14 +8,14 @@ use Rattle.xh_core.specs.declared.block.Block.{Block}
 use borrow.Rule.Slice.PartMut.{put_mid}
 use Rattle.xh_session.specs.Bindings.{without_record}
 
-bound_each-none : (b : Bindings) (p : ℕ) (xs : List (Word ℕ)) → bound_each b p xs [] ≡ b
+bound_each-none : (b : Bindings) (p : ℕ) (xs : List (Word)) → bound_each b p xs [] ≡ b
 bound_each-none b p [] = refl
 bound_each-none b p (x ∷ xs) = refl
 
 -- past the last name, or the last block, nothing is bound
-pub bound_each_end : (b : Bindings) (p : ℕ) (xs : List (Word ℕ)) (ys : List (Option Block)) (i : ℕ) → min (length xs) (length ys) ≤ i
+pub bound_each_end : (b : Bindings) (p : ℕ) (xs : List (Word)) (ys : List (Option Block)) (i : ℕ) → min (length xs) (length ys) ≤ i
     → bound_each b p (drop i xs) (drop i ys) ≡ b
-bound_each_end b p [] ys i h = rw (drop-nil {A = Word ℕ} i) refl
+bound_each_end b p [] ys i h = rw (drop-nil {A = Word} i) refl
 bound_each_end b p (x ∷ xs) [] i h = rw (drop-nil {A = Option Block} i) (bound_each-none b p (drop i (x ∷ xs)))
 bound_each_end b p (x ∷ xs) (y ∷ ys) zero h = absurd (omega arith)
 bound_each_end b p (x ∷ xs) (y ∷ ys) (suc i) h = bound_each_end b p xs ys i (omega arith)

@@ -1,13 +1,15 @@
 -- Lemmas on plans: what one comes to on the serial machine, where memory isn't refused.
 use Rattle.xh_session.proofs.Common.{Bindings, Bool, Err, List, Machine, Ok, Result, Word, ap, false, if◌then◌else◌, outcome, refl, step, subst, sym, true, ℕ, ◌∙◌, ◌≡◌, ◌≢◌}
+use Rattle.std.proofs.Common.{[]}
 use Rattle.xh_model.specs.declared.row.Row.{Row}
 use Rattle.xh_core.specs.declared.refused.Refused.{Refused}
 use Rattle.xh_core.specs.declared.refused.Refused.TheVariants.{OutOfMemory}
 use Rattle.xh_script.specs.declared.command.Command.{Command}
 use Rattle.xh_script.specs.declared.form.Form.{Form}
 use Rattle.xh_script.specs.declared.form.Form.TheVariants.{Contract}
-use Rattle.xh_script.specs.declared.reply.Reply.{Reply}
-use Rattle.xh_script.specs.declared.reply.Reply.TheVariants.{Done, No}
+use Rattle.xh_script.specs.Texts.{done}
+use Rattle.xh_script.specs.declared.replies.Reply.{Reply}
+use Rattle.xh_script.specs.declared.replies.Reply.TheVariants.{No}
 use Rattle.xh_session.specs.Machines.{Does, Lacks, command}
 use Rattle.xh_session.specs.Plans.{Follows, Plan, World, asks, given, plan, plan_by, replied, says}
 use Rattle.xh_session.specs.Questions.{Answer, Question}
@@ -65,12 +67,12 @@ lacks_replied {A} reply change names a lack = subst (λ (x : Result A Refused). 
 lacks_never : (p : Plan) → ⊥ → SaysLack p
 lacks_never p lack = absurd lack
 
-heeds_plan : (b : Bindings) (contracts : List (List Row)) (form : Form) (ws : List (Word ℕ)) → Heeds (plan_by b contracts form ws)
+heeds_plan : (b : Bindings) (contracts : List (List Row)) (form : Form) (ws : List (Word)) → Heeds (plan_by b contracts form ws)
 unfolding plan_by
-heeds_plan b contracts Contract ws = heeds_says Done b
+heeds_plan b contracts Contract ws = heeds_says (done []) b
 heeds_plan b contracts form ws = search (heeds_if, heeds_says, heeds_asks, heeds_replied, heeds_given, lacks_replied, lacks_never)
 
 -- where memory isn't refused, a session on the serial machine does what a command means there
-pub stepped : (w : World Machine) (c : Command ℕ) (reply : Reply) (new : World Machine)
+pub stepped : (w : World Machine) (c : Command) (reply : Reply) (new : World Machine)
     → Follows Does (plan w.names w.contracts c) w reply new → reply ≢ No OutOfMemory → step w c ≡ (reply, new)
 stepped w c reply new f granted = came _ w reply new (heeds_plan w.names w.contracts c.form c.words.items) f granted

@@ -2,7 +2,7 @@
 use Rattle.xh_session.proofs.Common.{List, Machine, after, answers, ap, drop, length, refl, step, ℕ, ◌++◌, ◌+◌, ◌∙◌, ◌≡◌}
 use Rattle.std.proofs.Common.{[], add-one, append_assoc, drop-cons, get_or, ◌<◌, ◌∷◌}
 use Rattle.xh_script.specs.declared.command.Line.{Line}
-use Rattle.xh_script.specs.declared.reply.Answered.{Answered}
+use Rattle.xh_script.specs.declared.replies.Answered.{Answered}
 use Rattle.xh_session.specs.Plans.{World}
 
 -- one more line is answered

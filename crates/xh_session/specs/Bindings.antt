@@ -53,7 +53,7 @@ names_by_place names b = map (λ p. name_at names p) b.latest
 abbrev pub record_of : Bindings → ℕ → ℕ → ℕ
 record_of b p x = slice_index_or b.records (MAX_BLOCK_NAMES * p + x) NOTHING
 
-abbrev pub records_of : Bindings → ℕ → List (Word ℕ) → List ℕ
+abbrev pub records_of : Bindings → ℕ → List (Word) → List ℕ
 records_of b p xs = map (λ x. record_of b p (name_in x)) xs
 
 -- a name stands for a record from now on
@@ -66,7 +66,7 @@ bound_block b p x None = b
 bound_block b p x (Some block) = bound b p x block.rec
 
 -- names stand for the blocks of a message, from left to right; the names past the last block stay
-abbrev pub bound_each : Bindings → ℕ → List (Word ℕ) → List (Option Block) → Bindings
+abbrev pub bound_each : Bindings → ℕ → List (Word) → List (Option Block) → Bindings
 bound_each b p [] blocks = b
 bound_each b p (x ∷ xs) [] = b
 bound_each b p (x ∷ xs) (k ∷ blocks) = bound_each (bound_block b p (name_in x) k) p xs blocks

@@ -6,8 +6,8 @@ use Rattle.xh_serial.specs.Machine.{Machine}
 use Rattle.xh_serial.specs.PlaceCommands.{new_machine}
 use Rattle.xh_script.specs.declared.command.Command.{Command}
 use Rattle.xh_script.specs.declared.command.Line.{Line}
-use Rattle.xh_script.specs.declared.reply.Reply.{Reply}
-use Rattle.xh_script.specs.declared.reply.Answered.{Answered}
+use Rattle.xh_script.specs.declared.replies.Reply.{Reply}
+use Rattle.xh_script.specs.declared.replies.Answered.{Answered}
 use Rattle.xh_session.specs.Bindings.{no_bindings}
 use Rattle.xh_session.specs.Machines.{command}
 use Rattle.xh_session.specs.Plans.{Plan, says, asks, World, plan}
@@ -21,7 +21,7 @@ outcome (says reply names) w = (reply, record w { names = names })
 outcome (asks q next) w = outcome (next (command q w.machine).0) (record w { machine = (command q w.machine).1 })
 
 -- the reply to a command, and the world after it
-abbrev pub step : World Machine → Command ℕ → Reply × World Machine
+abbrev pub step : World Machine → Command → Reply × World Machine
 step w c = outcome (plan w.names w.contracts c) w
 
 -- the reply to each line's command, in order

@@ -6,7 +6,7 @@ use Rattle.xh_model.specs.Config.{IsConfig}
 use Rattle.xh_script.specs.declared.fault.Fault.{Fault}
 use Rattle.xh_script.specs.declared.fault.Fault.TheVariants.{Script, Memory, Read, Write, Gate, BadConfig}
 use Rattle.xh_script.specs.declared.limits.TheConstants.{MAX_SCRIPT}
-use Rattle.xh_script.specs.declared.watch.Watched.{Watched}
+use Rattle.xh_script.specs.declared.streams.Watched.{Watched}
 use Rattle.xh_script.specs.Scripts.{Listing, script_of}
 use Rattle.xh_script.specs.Watching.{failures, inner_of, Reads}
 

@@ -104,12 +104,13 @@ pub(crate) fn not_among(others: &[u16], records: &[u16]) -> ArrayVec<u16, MAX_WO
     found
 }
 
+#[tactic(auto, unfolding(xh_script::specs::Sorts::name_at))]
 fn vacant() -> Name
     ensures { result ≡ codes "vacant" }
 {
     match Name::read(b"vacant") {
-        Some(name) => name,
-        None => unreachable!(),
+        Ok(name) => name,
+        Err(_) => unreachable!(),
     }
 }
 
@@ -204,7 +205,7 @@ impl Names {
     }
 
     /// The records of the names that words say.
-    pub(crate) fn records_of(&self, process: u8, words: &[Word<u8>]) -> ArrayVec<u16, MAX_WORDS>
+    pub(crate) fn records_of(&self, process: u8, words: &[Word]) -> ArrayVec<u16, MAX_WORDS>
         requires { length words.now ≤ MAX_WORDS }
         ensures { result.items ≡ records_of self.now process words.now }
     {
@@ -246,7 +247,7 @@ impl Names {
     /// The names that words say stand for the blocks of a message, from left to right. Names past the
     /// last block and those of missing blocks stay as they were; blocks past the last name have none.
     #[tactic(auto, using(crate::proofs::Bindings::bound_each_end))]
-    pub(crate) fn bind_each(&mut self, process: u8, words: &[Word<u8>], message: &[Option<Block>])
+    pub(crate) fn bind_each(&mut self, process: u8, words: &[Word], message: &[Option<Block>])
         ensures { self.new ≡ bound_each self.old process words.now message.now }
     {
         let count = words.len().min(message.len());

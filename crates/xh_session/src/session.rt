@@ -25,13 +25,13 @@ pub struct Session<'a, M> {
 impl<'a, M: Machine> Session<'a, M> {
     /// Does a command: asks the machine what its plan asks, and replies what that says of the answer.
     #[tactic(auto, unfolding(crate::specs::Plans::plan_by))]
-    pub fn step(&mut self, alloc: Global, c: &Command<u8>) -> Reply
+    pub fn step(&mut self, alloc: Global, c: &Command) -> Reply
         ensures { Follows M.did (plan self.old.names self.old.contracts.now c.now) (world_of M.state self.old) result (world_of M.state self.new) }
     {
         let process = c.name(0);
         let named = c.name(1);
         match c.form {
-            Form::Contract => Reply::Done,
+            Form::Contract => Reply::done(&[]),
             Form::Process => self.process(process),
             Form::Wire => self.wire(
                 process,

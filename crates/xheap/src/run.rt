@@ -1,6 +1,4 @@
 //! The whole program, over any reader and writers.
-ghost use Rattle.std.specs.Prelude.{◌≡◌, codes};
-ghost use Rattle.xh_command_line.specs.Options.{texts_of};
 ghost use Rattle.xheap.specs.Status.{Ended, RanBy};
 
 use std::alloc::Global;
@@ -14,34 +12,17 @@ use xh_script::Watched;
 /// The program's name.
 pub(crate) const NAME: &str = "xheap";
 
-const ABOUT: &str = "Runs a script of processes that pass blocks of memory to each other.";
-
-const DETAIL: &str =
-    "Reads a script from standard input, does its commands on an exchange heap, and writes one reply \
-a command and then the ledger: what each arena holds, what each process owns, and what is in flight.";
-
-const SERIAL: &str = "Does the commands one by one in the order of the script, without threads";
-
-const FLIGHT: &str =
-    "Writes after the ledger a line for each direction of a channel that holds blocks: its number, how many \
-blocks, and how many bytes they have";
-
-const CLOSING: &str =
-    "Example: printf 'process a\\na alloc x 40 0\\n' | xheap --serial --bytes 256\n\
-Status: 0 done, 1 a fault of the script, 2 a fault of the command line, 3 out of memory, 4 reading or writing failed.";
-
-fn program<'a>() -> Program<'a>
-    ensures { result.name.now ≡ codes "xheap" }
-{
-    Program {
-        name: NAME,
-        about: ABOUT,
-        detail: DETAIL,
-        serial: SERIAL,
-        flight: FLIGHT,
-        closing: CLOSING,
-    }
-}
+const PROGRAM: Program<'static> = Program {
+    name: NAME,
+    about: "Runs a script of processes that pass blocks of memory to each other.",
+    detail: "Reads a script from standard input, does its commands on an exchange heap, and writes one reply \
+a command and then the ledger: what each arena holds, what each process owns, and what is in flight.",
+    serial: "Does the commands one by one in the order of the script, without threads",
+    flight: "Writes after the ledger a line for each direction of a channel that holds blocks: its number, how many \
+blocks, and how many bytes they have",
+    closing: "Example: printf 'process a\\na alloc x 40 0\\n' | xheap --serial --bytes 256\n\
+Status: 0 done, 1 a fault of the script, 2 a fault of the command line, 3 out of memory, 4 reading or writing failed.",
+};
 
 /// Runs the script that the reader gives, as the options ask.
 fn run<T: Threads + Wait + Sync, R: Read, W: Write, E: Write>(
@@ -79,9 +60,9 @@ pub(crate) fn run_main<T: Threads + Wait + Sync, R: Read, W: Write, E: Write>(
     out: &mut Watched<W>,
     err: &mut E,
 ) -> u8
-    ensures { Ended R.remaining W.contents (texts_of words.now) reader.old reader.new out.old out.new result }
+    ensures { Ended R.remaining W.contents reader.old reader.new out.old out.new result }
 {
-    match read_options(alloc, program(), words, out, err) {
+    match read_options(alloc, PROGRAM, words, out, err) {
         Ok(options) => run(rt, alloc, options, reader, out, err),
         Err(status) => status,
     }

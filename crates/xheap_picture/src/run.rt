@@ -1,6 +1,4 @@
 //! The whole program, over any reader and writers.
-ghost use Rattle.std.specs.Prelude.{◌≡◌, codes};
-ghost use Rattle.xh_command_line.specs.Options.{texts_of};
 ghost use Rattle.xh_command_line.specs.Status.{status_of};
 ghost use Rattle.xh_session.specs.Ends.{EndsWith};
 ghost use Rattle.xheap_picture.specs.Drawn.{Ended, IsDrawn};
@@ -14,34 +12,17 @@ use xh_script::Watched;
 /// The program's name.
 pub(crate) const NAME: &str = "xheap_picture";
 
-const ABOUT: &str =
-    "Draws what a script of processes that pass blocks of memory to each other does to the heap.";
-
-const DETAIL: &str =
-    "Reads a script from standard input, does its commands one by one on an exchange heap, and writes \
+const PROGRAM: Program<'static> = Program {
+    name: NAME,
+    about: "Draws what a script of processes that pass blocks of memory to each other does to the heap.",
+    detail: "Reads a script from standard input, does its commands one by one on an exchange heap, and writes \
 a picture (SVG): a row for each command with its reply and its message, in it each arena as a strip of its bytes, holes white, \
-each block in the colour of its holder, endpoints narrow and grey, what is in flight hatched, and below the sums.";
-
-const SERIAL: &str = "Says nothing: the commands are always done one by one";
-
-const FLIGHT: &str = "Says nothing: what is in flight at the end is always shown";
-
-const CLOSING: &str =
-    "Example: xheap_picture --serial --bytes 256 < examples/give_and_take.script > picture.svg\n\
-Status: 0 done, 1 a fault of the script, 2 a fault of the command line, 3 out of memory, 4 reading or writing failed.";
-
-fn program<'a>() -> Program<'a>
-    ensures { result.name.now ≡ codes "xheap_picture" }
-{
-    Program {
-        name: NAME,
-        about: ABOUT,
-        detail: DETAIL,
-        serial: SERIAL,
-        flight: FLIGHT,
-        closing: CLOSING,
-    }
-}
+each block in the colour of its holder, endpoints narrow and grey, what is in flight hatched, and below the sums.",
+    serial: "Says nothing: the commands are always done one by one",
+    flight: "Says nothing: what is in flight at the end is always shown",
+    closing: "Example: xheap_picture --serial --bytes 256 < examples/give_and_take.script > picture.svg\n\
+Status: 0 done, 1 a fault of the script, 2 a fault of the command line, 3 out of memory, 4 reading or writing failed.",
+};
 
 /// Draws the script that the reader gives, with the limits of the options.
 fn run<R: Read, W: Write, E: Write>(
@@ -68,9 +49,9 @@ pub(crate) fn run_main<R: Read, W: Write, E: Write>(
     out: &mut Watched<W>,
     err: &mut E,
 ) -> u8
-    ensures { Ended R.remaining W.contents (texts_of words.now) reader.old reader.new out.old out.new result }
+    ensures { Ended R.remaining W.contents reader.old reader.new out.old out.new result }
 {
-    match read_options(alloc, program(), words, out, err) {
+    match read_options(alloc, PROGRAM, words, out, err) {
         Ok(options) => run(alloc, options, reader, out, err),
         Err(status) => status,
     }

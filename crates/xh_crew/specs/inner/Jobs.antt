@@ -11,8 +11,8 @@ use Rattle.xh_crew.specs.Stops.{Stops}
 use Rattle.xh_crew.specs.Plays.{AllZipFrom, Does, DoesAmong, LAST, Plays, names_renewed, other_of, part, part_of}
 use Rattle.xh_script.specs.declared.command.Line.{Line}
 use Rattle.xh_script.specs.declared.fault.Fault.{Fault}
-use Rattle.xh_script.specs.declared.reply.Answered.{Answered}
-use Rattle.xh_script.specs.declared.reply.Reply.{Reply}
+use Rattle.xh_script.specs.declared.replies.Answered.{Answered}
+use Rattle.xh_script.specs.declared.replies.Reply.{Reply}
 use Rattle.xh_session.specs.Bindings.{Bindings, process_at, renumbered}
 use Rattle.xh_session.specs.Plans.{World}
 use Rattle.xh_session.specs.Questions.{Question, Answer}

@@ -8,7 +8,7 @@ use Rattle.xh_kernel.specs.Accounts.{AccountOf}
 use Rattle.xh_crew.specs.Plays.{ArePlayed, HasNames}
 use Rattle.xh_runner.specs.Runs.{AreNew, accounts_of, looks_of}
 use Rattle.xh_runner.specs.Workers.{WorkerState, did}
-use Rattle.xh_script.specs.declared.reply.Answered.{Answered}
+use Rattle.xh_script.specs.declared.replies.Answered.{Answered}
 use Rattle.xh_script.specs.Scripts.{Listing}
 
 -- new workers of the kernel played a script's lines with these answers, of which these names follow, and left these accounts and looks

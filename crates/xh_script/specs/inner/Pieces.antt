@@ -1,8 +1,8 @@
 -- The text of a piece.
 use Rattle.std.specs.Prelude.{ℕ, List}
 use Rattle.std.specs.Fmt.{decimal}
-use Rattle.xh_script.specs.declared.put.Piece.{Piece}
-use Rattle.xh_script.specs.declared.put.Piece.TheVariants.{Text, Number}
+use Rattle.xh_script.specs.declared.writing.Piece.{Piece}
+use Rattle.xh_script.specs.declared.writing.Piece.TheVariants.{Text, Number}
 
 abbrev pub piece_text : Piece → List ℕ
 piece_text (Text text) = text.now

@@ -1,8 +1,8 @@
 -- What a function answers that reads a part of a script.
 use Rattle.std.specs.Prelude.{◌≡◌, Result, Ok, Err, ⊤}
 use Rattle.xh_script.specs.declared.fault.Kind.{Kind}
-use Rattle.xh_script.specs.declared.stop.Stop.{Stop}
-use Rattle.xh_script.specs.declared.stop.Stop.TheVariants.{Bad, Memory}
+use Rattle.xh_script.specs.declared.fault.Stop.{Stop}
+use Rattle.xh_script.specs.declared.fault.Stop.TheVariants.{Bad, Memory}
 
 -- a function stops at the fault of a reading, or because memory ran out
 abbrev pub Stops : {B : Type 0} → Stop → Result B Kind → Type 0

@@ -35,7 +35,7 @@ impl<'a, M: Machine> Session<'a, M> {
         match self.machine.alloc(alloc, number, bytes, arena) {
             Ok(made) => {
                 self.names.bind(process, block, made.rec);
-                Reply::Length(made.len)
+                Reply::done(&[u64::from(made.len)])
             }
             Err(refused) => Reply::No(refused),
         }
@@ -56,10 +56,7 @@ impl<'a, M: Machine> Session<'a, M> {
         match self.machine.split(alloc, number, rec, at) {
             Ok((head, rest)) => {
                 self.names.bind(process, tail, rest.rec);
-                Reply::Parts {
-                    head: head.len,
-                    tail: rest.len,
-                }
+                Reply::done(&[u64::from(head.len), u64::from(rest.len)])
             }
             Err(refused) => Reply::No(refused),
         }
@@ -84,7 +81,7 @@ impl<'a, M: Machine> Session<'a, M> {
         let number = self.names.number(process);
         let rec = self.names.record_of(process, block);
         match self.machine.write(number, rec, at, bytes) {
-            Ok(()) => Reply::Done,
+            Ok(()) => Reply::done(&[]),
             Err(refused) => Reply::No(refused),
         }
     }
@@ -97,7 +94,7 @@ impl<'a, M: Machine> Session<'a, M> {
         match self.machine.free(number, rec) {
             Ok(len) => {
                 self.names.unbind(process, rec);
-                Reply::Length(len)
+                Reply::done(&[u64::from(len)])
             }
             Err(refused) => Reply::No(refused),
         }

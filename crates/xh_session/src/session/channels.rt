@@ -32,7 +32,7 @@ impl<'a, M: Machine> Session<'a, M> {
             Ok((first, second)) => {
                 self.names.bind(process, first_name, first.rec);
                 self.names.bind(process, second_name, second.rec);
-                Reply::Done
+                Reply::done(&[])
             }
             Err(refused) => Reply::No(refused),
         }
@@ -56,7 +56,7 @@ impl<'a, M: Machine> Session<'a, M> {
             Ok((first, second)) => {
                 self.names.bind(process, first_name, first.rec);
                 self.names.bind(other, second_name, second.rec);
-                Reply::Done
+                Reply::done(&[])
             }
             Err(refused) => Reply::No(refused),
         }

@@ -46,7 +46,7 @@ fn keep_back(names: &mut Names, process: u8, records: &[u16], refused: &Refused)
 }
 
 impl<'a, M: Machine> Session<'a, M> {
-    pub(crate) fn give(&mut self, process: u8, endpoint: u8, tag: u32, words: &[Word<u8>]) -> Reply
+    pub(crate) fn give(&mut self, process: u8, endpoint: u8, tag: u32, words: &[Word]) -> Reply
         requires { length words.now ≤ MAX_WORDS }
         ensures { Follows M.did (give_plan self.old.names process endpoint tag words.now) (world_of M.state self.old) result (world_of M.state self.new) }
     {
@@ -57,7 +57,7 @@ impl<'a, M: Machine> Session<'a, M> {
         match self.machine.give(number, rec, tag, records.as_slice()) {
             Ok(message) => {
                 self.names.unbind_each(process, records.as_slice());
-                Reply::Given(message)
+                Reply::done(&[message])
             }
             Err(refused) => {
                 keep_back(&mut self.names, process, records.as_slice(), &refused);
@@ -67,13 +67,7 @@ impl<'a, M: Machine> Session<'a, M> {
     }
 
     /// Takes a message, and waits for one where others can send it.
-    pub(crate) fn take(
-        &mut self,
-        waits: bool,
-        process: u8,
-        endpoint: u8,
-        words: &[Word<u8>],
-    ) -> Reply
+    pub(crate) fn take(&mut self, waits: bool, process: u8, endpoint: u8, words: &[Word]) -> Reply
         ensures { Follows M.did (take_plan waits self.old.names process endpoint words.now) (world_of M.state self.old) result (world_of M.state self.new) }
     {
         let number = self.names.number(process);

@@ -79,10 +79,7 @@ impl<'a, M: Machine> Session<'a, M> {
         }
         let number = self.names.number(other);
         match self.look(number) {
-            Ok(look) => Reply::Glance {
-                blocks: look.blocks,
-                bytes: look.bytes,
-            },
+            Ok(look) => Reply::done(&[u64::from(look.blocks), look.bytes]),
             Err(refused) => Reply::No(refused),
         }
     }
@@ -95,7 +92,7 @@ impl<'a, M: Machine> Session<'a, M> {
         match self.machine.close(number, rec) {
             Ok(bytes) => {
                 self.names.unbind(process, rec);
-                Reply::Reclaimed(bytes)
+                Reply::done(&[bytes])
             }
             Err(refused) => Reply::No(refused),
         }
@@ -105,8 +102,10 @@ impl<'a, M: Machine> Session<'a, M> {
         ensures { Follows M.did (exit_plan self.old.names process budget) (world_of M.state self.old) result (world_of M.state self.new) }
     {
         let number = self.names.number(process);
-        let ended = self.machine.exit(number, budget);
-        ended.map_or_else(Reply::No, Reply::Reclaimed)
+        match self.machine.exit(number, budget) {
+            Ok(bytes) => Reply::done(&[bytes]),
+            Err(refused) => Reply::No(refused),
+        }
     }
 
     pub(crate) fn kill(&mut self, process: u8, victim: u8, budget: u32) -> Reply
@@ -115,7 +114,7 @@ impl<'a, M: Machine> Session<'a, M> {
         let by = self.names.number(process);
         let number = self.names.number(victim);
         match self.machine.kill(by, number, budget) {
-            Ok(bytes) => Reply::Reclaimed(bytes),
+            Ok(bytes) => Reply::done(&[bytes]),
             Err(refused) => Reply::No(refused),
         }
     }

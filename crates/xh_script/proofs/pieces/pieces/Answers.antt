@@ -1,9 +1,0 @@
-use Rattle.xh_script.proofs.Common.{rules, ◌==◌}
-use Rattle.std.proofs.lemmas.Iterator.Consumers.{map_from_collect}
-use Rattle.std.proofs.lemmas.Iterator.Splits.{YieldsList-from_slice_split}
-use Rattle.xh_script.proofs.pieces.pieces.Goals as goal
-
-pub returns : goal.returns
-returns c =
-    map_from_collect c.collect.result c.collect.ensures.ran
-    (YieldsList-from_slice_split _ (λ b. b == c.args.separator) c.args.text.now c.split.ensures.rest c.split.ensures.done c.split.ensures.closure (search rules))
