@@ -1,32 +1,24 @@
 //! Channels by calls.
-mod answers;
 mod bells;
-mod ends;
-mod lines;
+mod calls;
 mod opening;
-mod order;
 mod scenes;
 mod threads;
-mod waits;
 
-use answers::Answer::{self, Refused as No, Sent, Shut as Closed, Taken, Turn};
-use answers::Call::{self, Put, Shut, Take, Turn as Look};
 use arrayvec::ArrayVec;
+use calls::Answer::{Count, Done, Refused as No, Sent, Taken};
+use calls::Call::{Put, Puts, Shut, Take, Turn};
+use calls::Manner::Once;
+use calls::{Row, assert_same};
 use opening::{FREE, ONE_WAY, REQUEST_AND_REPLY};
-use scenes::{Act, Scene, play, play_grown};
-use std::alloc::Global;
-use std::fmt::Display;
+use scenes::{Act, Scene, play};
 use xh_channel::{Channels, Refused, Unsent};
 
+/// A pair of other channels goes back there.
 #[test]
 fn a_cancelled_number_is_free_again(rt: HostRuntime) {
-    play(&rt, rt.alloc(), 1, Scene::FreeAgain);
-    assert!(rt; matches!(Channels::new(rt.alloc(), 17).err(), Some(Refused::BadSize)));
-}
-
-#[test]
-fn a_pair_of_other_channels_goes_back_there(rt: HostRuntime) {
     play(&rt, rt.alloc(), 1, Scene::GoesBack);
+    assert!(rt; matches!(Channels::new(rt.alloc(), 17).err(), Some(Refused::BadSize)));
 }
 
 #[test]
@@ -43,52 +35,42 @@ fn channels_run_out(rt: HostRuntime) {
 
 #[test]
 fn direction_until_shut(rt: HostRuntime) {
-    const CALLS: &[(u8, Call, Answer)] = &[
+    const ROWS: &[Row] = &[
         (0, Put(5, None), Sent(1)),
         (0, Put(5, Some(7)), Sent(2)),
         (0, Put(5, Some(8)), No(14, Some(8))),
-        (0, Shut, Closed),
+        (0, Shut, Done),
         (1, Take, Taken(1, 5, None)),
         (1, Take, Taken(2, 5, Some(7))),
         (1, Take, No(15, None)),
         (1, Put(5, Some(9)), No(15, Some(9))),
     ];
-    play(&rt, rt.alloc(), 2, Scene::Each(FREE, Act::Calls(CALLS), 1));
-}
-
-#[test]
-fn refusals_keep_what_is_known(rt: HostRuntime) {
-    play(&rt, rt.alloc(), 1, Scene::Each(FREE, Act::Refusals, 1));
+    play(&rt, rt.alloc(), 2, Scene::Each(FREE, Act::Rows(ROWS), 1));
 }
 
 #[test]
 fn the_turn_rises_with_each_put_and_shut(rt: HostRuntime) {
-    const CALLS: &[(u8, Call, Answer)] = &[
-        (0, Look, Turn(0)),
+    const ROWS: &[Row] = &[
+        (0, Turn, Count(0)),
         (0, Put(5, Some(7)), Sent(1)),
-        (1, Look, Turn(1)),
+        (1, Turn, Count(1)),
         (0, Put(5, Some(7)), No(14, Some(7))),
         (1, Take, Taken(1, 5, Some(7))),
         (1, Take, No(16, None)),
-        (1, Look, Turn(1)),
-        (0, Shut, Closed),
-        (1, Look, Turn(2)),
-        (0, Look, Turn(2)),
+        (1, Turn, Count(1)),
+        (0, Shut, Done),
+        (1, Turn, Count(2)),
+        (0, Turn, Count(2)),
     ];
-    play(&rt, rt.alloc(), 1, Scene::Each(FREE, Act::Calls(CALLS), 1));
-}
-
-#[test]
-fn a_turn_that_was_not_seen_is_not_waited_for(rt: HostRuntime) {
-    play(&rt, rt.alloc(), 1, Scene::Each(FREE, Act::Unwaited, 1));
+    play(&rt, rt.alloc(), 1, Scene::Each(FREE, Act::Rows(ROWS), 1));
 }
 
 /// With a growth refused, whichever it is, there are no channels; the same call then makes them, with their depth, and all of
 /// them are free.
 #[test]
 fn a_refused_growth_leaves_nothing(rt: HostRuntime) {
-    const CALLS: &[(u8, Call, Answer)] = &[
-        (0, Look, Turn(0)),
+    const ROWS: &[Row] = &[
+        (0, Turn, Count(0)),
         (0, Put(5, Some(7)), Sent(1)),
         (0, Put(6, None), Sent(2)),
         (0, Put(7, Some(8)), No(14, Some(8))),
@@ -98,29 +80,73 @@ fn a_refused_growth_leaves_nothing(rt: HostRuntime) {
         (1, Take, No(16, None)),
         (0, Take, Taken(1, 8, Some(9))),
     ];
-    play_grown(&rt, rt.alloc(), 2, Scene::Each(FREE, Act::Calls(CALLS), 1));
+    play(&rt, rt.alloc(), 2, Scene::Each(FREE, Act::Rows(ROWS), 1));
 }
 
-fn reads(alloc: Global, refused: &impl Display, text: &str) -> bool {
-    match format!(in alloc; "{refused}") {
-        Ok(read) => read.as_str() == text,
-        Err(_refused) => false,
+#[test]
+fn contract_refusals(rt: HostRuntime) {
+    const ROWS: &[Row] = &[
+        (0, Put(2, Some(7)), No(22, Some(7))),
+        (1, Put(2, Some(7)), No(22, Some(7))),
+        (0, Put(1, Some(7)), Sent(1)),
+        (0, Put(1, Some(7)), No(22, Some(7))),
+        (1, Put(1, Some(7)), No(22, Some(7))),
+        (1, Take, Taken(1, 1, Some(7))),
+        (1, Put(2, Some(7)), Sent(1)),
+        (0, Turn, Count(2)),
+        (0, Take, Taken(1, 2, Some(7))),
+        (0, Put(1, Some(7)), Sent(2)),
+        (0, Shut, Done),
+        (0, Turn, Count(4)),
+        (1, Take, Taken(2, 1, Some(7))),
+        (1, Take, No(15, None)),
+        (1, Put(2, Some(7)), No(15, Some(7))),
+        (1, Put(1, Some(7)), No(22, Some(7))),
+    ];
+    let act = Act::Rows(ROWS);
+    play(&rt, rt.alloc(), 4, Scene::Each(REQUEST_AND_REPLY, act, 1));
+}
+
+/// The direction of side 0 is full, and has room again once one message was taken.
+#[test]
+fn a_channel_with_a_contract_is_full_at_its_depth(rt: HostRuntime) {
+    const ONE: &[Row] = &[
+        (0, Puts(64, Once), Count(1)),
+        (0, Put(2, Some(7)), No(22, Some(7))),
+        (1, Take, Taken(1, 1, Some(1))),
+        (0, Put(1, Some(7)), Sent(2)),
+        (0, Put(1, Some(8)), No(14, Some(8))),
+        (1, Shut, Done),
+        (0, Put(1, Some(8)), No(15, Some(8))),
+        (0, Put(2, Some(8)), No(22, Some(8))),
+    ];
+    const SIXTEEN: &[Row] = &[
+        (0, Puts(64, Once), Count(16)),
+        (1, Take, Taken(1, 1, Some(1))),
+        (0, Put(1, Some(7)), Sent(17)),
+        (0, Put(1, Some(8)), No(14, Some(8))),
+    ];
+    for (depth, rows) in [(1, ONE), (16, SIXTEEN)] {
+        play(
+            &rt,
+            rt.alloc(),
+            depth,
+            Scene::Each(ONE_WAY, Act::Rows(rows), 1),
+        );
     }
 }
 
 #[test]
 fn each_refusal_has_its_text(rt: HostRuntime) {
-    let closed = Refused::PeerClosed {
-        back: ArrayVec::new(),
-    };
-    let full = Unsent::Full {
-        back: ArrayVec::new(),
-    };
-    let closed_reads = reads(
-        rt.alloc(),
-        &closed,
+    let back = ArrayVec::new();
+    let closed = format!(in rt.alloc(); "{}", Refused::PeerClosed { back }).expect(&rt, "room");
+    let back = ArrayVec::new();
+    let full = format!(in rt.alloc(); "{}", Unsent::Full { back }).expect(&rt, "room");
+    assert_same(
+        &rt,
+        0,
+        closed.as_str(),
         "no message waits, and the peer is shut",
     );
-    let full_reads = reads(rt.alloc(), &full, "the direction is full");
-    assert_eq!(rt; (closed_reads, full_reads), (true, true));
+    assert_same(&rt, 1, full.as_str(), "the direction is full");
 }

@@ -3,13 +3,14 @@ ghost use Rattle.std.specs.Prelude.{◌≡◌, ◌<◌, All, IfOk, length, vec_l
 ghost use Rattle.xh_kernel.specs.Histories.{IsLaw};
 ghost use Rattle.xh_model.specs.declared.limits.TheConstants.{PLACES};
 
+use crate::points::Points;
 use std::alloc::{AllocError, Global};
 use std::marker::Brand;
 use std::sync::Wait;
 use xh_books::close_kernel;
 use xh_core::Config;
 use xh_kernel::{Account, Kernel, Look, Names, Parts};
-use xh_runner::{Machine, OpenGate, Report, hire, leave_all};
+use xh_runner::{Machine, Report, hire, leave_all};
 use xh_script::{Answered, Fault, Name, Script};
 use xh_session::{Names as Bindings, Session};
 
@@ -35,11 +36,13 @@ fn answer_all<M: Machine>(
     alloc: Global,
     session: &mut Session<'_, M>,
     script: &Script,
+    points: &Points,
 ) -> Result<(Vec<Answered>, Vec<Name>), AllocError>
     ensures { IfOk result (λ r. length r.1.items ≡ PLACES) }
 {
     let mut answers = Vec::with_capacity(alloc, script.lines.len())?;
     for line in &script.lines {
+        points.begin(line.number);
         let reply = session.step(alloc, &line.command);
         answers.push(Answered {
             line: line.number,
@@ -51,7 +54,12 @@ fn answer_all<M: Machine>(
 }
 
 // Plays the script on a machine.
-fn play_on<M: Machine>(alloc: Global, machine: M, script: &Script) -> Result<Played<M>, AllocError>
+fn play_on<M: Machine>(
+    alloc: Global,
+    machine: M,
+    script: &Script,
+    points: &Points,
+) -> Result<Played<M>, AllocError>
     ensures { IfOk result (λ played. length played.names.items ≡ PLACES) }
 {
     let mut session = Session {
@@ -59,7 +67,7 @@ fn play_on<M: Machine>(alloc: Global, machine: M, script: &Script) -> Result<Pla
         names: Bindings::new(alloc)?,
         contracts: &script.contracts,
     };
-    let answered = answer_all(alloc, &mut session, script);
+    let answered = answer_all(alloc, &mut session, script, points);
     let Session {
         machine,
         names: _,
@@ -81,18 +89,19 @@ fn play_by_worker<N: Names, R: Wait>(
     accounts: Vec<Account<N>>,
     looks: Vec<Look>,
     script: &Script,
+    points: &Points,
 ) -> Result<Ended<N>, AllocError>
     requires count { (vec_len accounts ≡ 1) × (vec_len looks ≡ 1) }
     requires own { All (λ l. l.table ≡ N.parts.histories) looks.items }
     ensures count { IfOk result (λ e. (vec_len e.accounts ≡ 1) × (length e.names.items ≡ PLACES)) }
     ensures own { IfOk result (λ e. All (λ l. l.table ≡ N.parts.histories) e.looks.items) }
 {
-    let mut workers = hire(rt, alloc, kernel, &OpenGate, accounts, looks)?;
+    let mut workers = hire(rt, alloc, kernel, points, accounts, looks)?;
     let Played {
         machine,
         answers,
         names,
-    } = play_on(alloc, workers.remove(0), script)?;
+    } = play_on(alloc, workers.remove(0), script, points)?;
     workers.push(machine)?;
     let (accounts, looks) = leave_all(alloc, workers)?;
     Ok(Ended {
@@ -132,6 +141,7 @@ fn play_parts<N: Names, R: Wait>(
     alloc: Global,
     parts: Parts,
     script: &Script,
+    points: &Points,
 ) -> Result<Report, Fault>
     requires names { parts ≡ N.parts }
     requires law { IsLaw N.parts N.leads }
@@ -142,7 +152,7 @@ fn play_parts<N: Names, R: Wait>(
         Ok(made) => made,
         Err(_refused) => return Err(Fault::Memory),
     };
-    match play_by_worker(rt, alloc, &kernel, accounts, looks, script) {
+    match play_by_worker(rt, alloc, &kernel, accounts, looks, script, points) {
         Ok(ended) => report_of(alloc, kernel, ended),
         Err(_refused) => Err(Fault::Memory),
     }
@@ -155,11 +165,12 @@ pub(crate) fn play_calls<R: Wait>(
     alloc: Global,
     script: &Script,
     config: Config,
+    points: &Points,
 ) -> Result<Report, Fault>
     ensures { IfOk result (λ r. All (λ line. line.place < length r.names.items) r.ledger.places.items) }
 {
     match Parts::new(alloc, config, 1) {
-        Ok(parts) => play_parts::<Brand, R>(rt, alloc, parts, script),
+        Ok(parts) => play_parts::<Brand, R>(rt, alloc, parts, script, points),
         Err(_refused) => Err(Fault::Memory),
     }
 }

@@ -129,16 +129,20 @@ fn of_command(place: u8, command: u32, answers: u32) -> Step {
     }
 }
 
-fn of_point(place: u8, point: Point) -> Step {
-    let code = match point {
+fn code_of(point: Point) -> u32 {
+    match point {
         Point::Claimed => 0,
         Point::Passed => 1,
         Point::Put => 2,
         Point::Popped => 3,
         Point::Shut => 4,
         Point::Returned => 5,
-    };
-    Step { place, code }
+    }
+}
+
+/// The word of a point.
+pub(crate) fn word_of(point: Point) -> &'static str {
+    STEPS.get(code_of(point) as usize).copied().unwrap_or("")
 }
 
 /// A command has come once it goes on, a point when it is reached: so one may wait for the other.
@@ -155,7 +159,8 @@ impl Gate for Holds {
     }
 
     fn between(&self, place: u8, point: Point) {
-        let step = of_point(place, point);
+        let code = code_of(point);
+        let step = Step { place, code };
         self.tell(step);
         self.hold(step);
     }

@@ -2,12 +2,13 @@
 ghost use Rattle.std.specs.Prelude.{IfSome};
 ghost use Rattle.xh_channel.specs.Pairs.{IsPair};
 
-use super::answers::Answer::{self, Refused as No, Sent, Shut as Closed, Taken, Turn};
-use super::answers::Call::{self, Put, Shut, Take, Turn as Look};
-use super::answers::{Ends, answer_of, assert_answers};
+use super::calls::Answer::{Count, Done, Refused as No, Sent, Taken};
+use super::calls::Call::{Put, Shut, Take, Turn};
+use super::calls::{Ends, Row as Step, assert_rows, assert_same};
 use std::process::Abort;
 use std::sync::Wait;
-use xh_channel::{Channels, Endpoint, Refused};
+use std::time::Clock;
+use xh_channel::Channels;
 use xh_core::{Contract, Row};
 
 /// The rows of no contract.
@@ -71,12 +72,17 @@ fn next_number<R: Wait + Abort>(rt: &R, channels: &Channels, rows: &[Row]) -> Op
     }
 }
 
+// The next channel has this number, or none opens.
+fn assert_next<R: Wait + Abort>(rt: &R, channels: &Channels, rows: &[Row], number: Option<u8>) {
+    assert_same(rt, 0, next_number(rt, channels, rows), number);
+}
+
 /// As many open as there are, each with the lowest number that is free, and then none.
 pub(super) fn assert_all_open<R: Wait + Abort>(rt: &R, channels: &Channels, rows: &[Row]) {
     for channel in 0..64 {
-        assert_eq!(rt; next_number(rt, channels, rows), Some(channel));
+        assert_next(rt, channels, rows, Some(channel));
     }
-    assert_eq!(rt; next_number(rt, channels, rows), None);
+    assert_next(rt, channels, rows, None);
 }
 
 // The next pair of these channels is cancelled by a call on others.
@@ -87,40 +93,28 @@ fn cancel_next<R: Wait + Abort>(rt: &R, channels: &Channels, others: &Channels) 
     }
 }
 
-pub(super) fn assert_free_again<R: Wait + Abort>(rt: &R, channels: &Channels) {
-    cancel_next(rt, channels, channels);
-    assert_eq!(rt; next_number(rt, channels, FREE), Some(0));
-    assert_eq!(rt; next_number(rt, channels, FREE), Some(1));
-}
-
-/// A pair of others goes back to them, and is no number of these channels, of which the first is open.
+/// The number of a pair that is cancelled is free again; a pair of others goes back to them, and is no number of these.
 pub(super) fn assert_goes_back<R: Wait + Abort>(rt: &R, channels: &Channels, others: &Channels) {
-    assert_eq!(rt; next_number(rt, channels, FREE), Some(0));
+    cancel_next(rt, channels, channels);
+    assert_next(rt, channels, FREE, Some(0));
     cancel_next(rt, others, channels);
-    assert_eq!(rt; next_number(rt, channels, FREE), Some(1));
-    assert_eq!(rt; next_number(rt, others, FREE), Some(0));
+    assert_next(rt, channels, FREE, Some(1));
+    assert_next(rt, others, FREE, Some(0));
 }
 
-// Each call is made on the other channels, and is answered by the end's own, whose turn alone rises.
-fn assert_in_own_room<R: Wait + Abort>(
-    rt: &R,
-    channels: &Channels,
-    others: &Channels,
-    ends: &mut Ends,
-) {
-    const CALLS: &[(u8, Call, Answer)] = &[
-        (0, Put(1, Some(7)), Sent(1)),
-        (1, Take, Taken(1, 1, Some(7))),
-        (0, Shut, Closed),
-        (1, Take, No(15, None)),
-        (0, Look, Turn(0)),
-    ];
-    assert_answers(rt, others, ends, CALLS);
-    assert_eq!(rt; answer_of(rt, channels, ends, 0, Look), Turn(2));
-}
+// The calls are made on the other channels, and are answered by the end's own, whose turn alone rises.
+const ON_OTHERS: &[Step] = &[
+    (0, Put(1, Some(7)), Sent(1)),
+    (1, Take, Taken(1, 1, Some(7))),
+    (0, Shut, Done),
+    (1, Take, No(15, None)),
+    (0, Turn, Count(0)),
+];
+
+const ON_THEIR_OWN: &[Step] = &[(0, Turn, Count(2))];
 
 /// The ends of the next channel use its own room on other channels too.
-pub(super) fn assert_own_rooms<R: Wait + Abort>(
+pub(super) fn assert_own_room<R: Clock + Wait + Abort>(
     rt: &R,
     channels: &Channels,
     others: &Channels,
@@ -128,7 +122,8 @@ pub(super) fn assert_own_rooms<R: Wait + Abort>(
 ) {
     match opened(rt, channels, rows) {
         Some(mut ends) => {
-            assert_in_own_room(rt, channels, others, &mut ends);
+            assert_rows(rt, others, &mut ends, ON_OTHERS);
+            assert_rows(rt, channels, &mut ends, ON_THEIR_OWN);
             drop(ends);
         }
         None => panic!(rt; "a channel is free"),

@@ -1,14 +1,8 @@
 //! What is done on new channels. One function makes and drops them, and one the ends that are used.
-ghost use Rattle.xh_channel.specs.Pairs.{IsPair};
-
-use super::answers::{Answer, Call, Ends, assert_answers};
-use super::bells::{Way, assert_deadlines, rings};
-use super::ends::{assert_full_at, assert_refusals};
-use super::opening::{
-    assert_all_open, assert_free_again, assert_goes_back, assert_own_rooms, opened,
-};
-use super::threads::{Jobs, assert_jobs, assert_put_and_shut};
-use super::waits::{assert_unwaited, woken};
+use super::bells::{assert_deadlines, assert_rings};
+use super::calls::{Call, Ends, Row as Step, assert_rows};
+use super::opening::{assert_all_open, assert_goes_back, assert_own_room, opened};
+use super::threads::{assert_put_and_shut, assert_side_by_side};
 use std::alloc::Global;
 use std::process::Abort;
 use std::sync::Wait;
@@ -17,17 +11,15 @@ use std::time::Clock;
 use xh_channel::{Channels, Refused};
 use xh_model::Row;
 
-/// What is done at both ends of a channel that nobody else uses.
+/// What is done at both ends of a channel that nobody else uses: rows, one after the other; rows, the ends on two threads, while
+/// a third sleeps at the turn until it has risen so often; a put that races a shut; rounds of two that wake each other so; waits
+/// until a time.
 #[derive(Clone, Copy)]
 pub(super) enum Act {
-    Calls(&'static [(u8, Call, Answer)]),
-    FullAt(u8),
-    Refusals,
-    Jobs(&'static Jobs),
-    Wakes(Way, Answer),
-    Rings(Way),
+    Rows(&'static [Step]),
+    SideBySide(u64, &'static [Step]),
     PutAndShut,
-    Unwaited,
+    Rings(Call),
     Deadlines,
 }
 
@@ -37,7 +29,6 @@ pub(super) enum Act {
 pub(super) enum Scene {
     Each(&'static [Row], Act, u8),
     AllOpen(&'static [Row]),
-    FreeAgain,
     GoesBack,
     OwnRooms(&'static [Row]),
 }
@@ -47,20 +38,12 @@ fn act_at<R: Clock + Threads + Wait + Abort + Sync>(
     channels: &Channels,
     ends: &mut Ends,
     act: Act,
-    at: u8,
-)
-    requires { IsPair ends.old.low ends.old.high }
-{
-    let at = u64::from(at);
+) {
     match act {
-        Act::Calls(calls) => assert_answers(rt, channels, ends, calls),
-        Act::FullAt(depth) => assert_full_at(rt, channels, ends, depth),
-        Act::Refusals => assert_refusals(rt, channels, ends),
-        Act::Jobs(jobs) => assert_jobs(rt, channels, ends, jobs, at),
-        Act::Wakes(way, expected) => assert_jobs(rt, channels, ends, &woken(way, expected), at),
-        Act::Rings(way) => assert_jobs(rt, channels, ends, &rings(way), at),
-        Act::PutAndShut => assert_put_and_shut(rt, channels, ends, at),
-        Act::Unwaited => assert_unwaited(rt, channels, ends),
+        Act::Rows(rows) => assert_rows(rt, channels, ends, rows),
+        Act::SideBySide(risen, rows) => assert_side_by_side(rt, channels, ends, risen, rows),
+        Act::PutAndShut => assert_put_and_shut(rt, channels, ends),
+        Act::Rings(call) => assert_rings(rt, channels, ends, call),
         Act::Deadlines => assert_deadlines(rt, channels, ends),
     }
 }
@@ -70,11 +53,10 @@ fn act_on_next<R: Clock + Threads + Wait + Abort + Sync>(
     channels: &Channels,
     rows: &[Row],
     act: Act,
-    at: u8,
 ) {
     match opened(rt, channels, rows) {
         Some(mut ends) => {
-            act_at(rt, channels, &mut ends, act, at);
+            act_at(rt, channels, &mut ends, act);
             drop(ends);
         }
         None => panic!(rt; "a channel is free"),
@@ -83,61 +65,20 @@ fn act_on_next<R: Clock + Threads + Wait + Abort + Sync>(
 
 fn play_on<R: Clock + Threads + Wait + Abort + Sync>(
     rt: &R,
-    alloc: Global,
     channels: &Channels,
+    others: &Channels,
     scene: Scene,
 ) {
     match scene {
         Scene::Each(rows, act, count) => {
-            for at in 0..count {
-                act_on_next(rt, channels, rows, act, at);
+            for _ in 0..count {
+                act_on_next(rt, channels, rows, act);
             }
         }
         Scene::AllOpen(rows) => assert_all_open(rt, channels, rows),
-        Scene::FreeAgain => assert_free_again(rt, channels),
-        Scene::GoesBack => play_beside(rt, alloc, channels, None),
-        Scene::OwnRooms(rows) => play_beside(rt, alloc, channels, Some(rows)),
+        Scene::GoesBack => assert_goes_back(rt, channels, others),
+        Scene::OwnRooms(rows) => assert_own_room(rt, channels, others, rows),
     }
-}
-
-// Plays on the channels beside others.
-fn play_beside<R: Wait + Abort>(rt: &R, alloc: Global, channels: &Channels, rows: Option<&[Row]>) {
-    match Channels::new(alloc, 2) {
-        Ok(others) => {
-            match rows {
-                Some(rows) => assert_own_rooms(rt, channels, &others, rows),
-                None => assert_goes_back(rt, channels, &others),
-            }
-            drop(others);
-        }
-        Err(_refused) => panic!(rt; "a growth is refused"),
-    }
-}
-
-// Plays the scene on channels that were made.
-fn play_made<R: Clock + Threads + Wait + Abort + Sync>(
-    rt: &R,
-    alloc: Global,
-    made: Result<Channels, Refused>,
-    scene: Scene,
-) {
-    match made {
-        Ok(channels) => {
-            play_on(rt, alloc, &channels, scene);
-            drop(channels);
-        }
-        Err(_refused) => panic!(rt; "a growth is refused"),
-    }
-}
-
-/// Plays the scene on new channels of a depth.
-pub(super) fn play<R: Clock + Threads + Wait + Abort + Sync>(
-    rt: &R,
-    alloc: Global,
-    depth: u8,
-    scene: Scene,
-) {
-    play_made(rt, alloc, Channels::new(alloc, depth), scene);
 }
 
 // The channels that the call makes, or where a growth was refused, the same call made again.
@@ -148,12 +89,18 @@ fn grown(alloc: Global, depth: u8) -> Result<Channels, Refused> {
     }
 }
 
-/// Plays the scene, also where a growth is refused: with one refused there are no channels.
-pub(super) fn play_grown<R: Clock + Threads + Wait + Abort + Sync>(
+/// Plays the scene on new channels of a depth, beside others. Where a growth is refused the same call is made again.
+pub(super) fn play<R: Clock + Threads + Wait + Abort + Sync>(
     rt: &R,
     alloc: Global,
     depth: u8,
     scene: Scene,
 ) {
-    play_made(rt, alloc, grown(alloc, depth), scene);
+    let (channels, others) = (grown(alloc, depth), grown(alloc, depth));
+    match (&channels, &others) {
+        (Ok(channels), Ok(others)) => play_on(rt, channels, others, scene),
+        _ => panic!(rt; "a growth is refused"),
+    }
+    drop(channels);
+    drop(others);
 }

@@ -1,0 +1,238 @@
+//! What an end does and what is answered, to be compared.
+use arrayvec::ArrayVec;
+use std::fmt::Debug;
+use std::process::Abort;
+use std::sync::Wait;
+use std::time::{Clock, Duration};
+use std::{hint, thread};
+use xh_channel::{Channels, Endpoint, Message, Refused, Spot, Unsent};
+use xh_model::limits::MAX_BLOCKS;
+
+/// What an end does: a put with a tag and at most one block, a take, a shut, a look at its turn, a wait there, a rouse, a ring
+/// at the peer's place, a rest of so many microseconds, looks until the turn has risen so often, at most so many puts of the tag 1, so many takes.
+#[derive(Clone, Copy)]
+pub(super) enum Call {
+    Put(u16, Option<u16>),
+    Take,
+    Shut,
+    Turn,
+    Wait(u64),
+    Rouse,
+    Ring,
+    Rest(u64),
+    Follow(u64),
+    Puts(u64, Manner),
+    Takes(u64, Manner),
+}
+
+/// How many are put or taken: up to the first for which there is no room or no message; again until there is; as long, asleep
+/// at the turn, or for a put after a rest ahead of it; each as soon as the turn has risen for it.
+#[derive(Clone, Copy, PartialEq)]
+pub(super) enum Manner {
+    Once,
+    Busily,
+    Slowly,
+    Promptly,
+}
+
+/// Microseconds: longer than a thread takes to fall asleep at a turn.
+pub(super) const REST: u64 = 200;
+
+/// The number of a message that was put; its number, tag and block; the number of a refusal and the block handed back; the turn,
+/// or how many messages were put or taken; nothing.
+#[derive(Clone, Copy, Debug, PartialEq)]
+pub(super) enum Answer {
+    Sent(u64),
+    Taken(u64, u16, Option<u16>),
+    Refused(u8, Option<u16>),
+    Count(u64),
+    Done,
+}
+
+const NONE_WAITS: Answer = Answer::Refused(16, None);
+
+fn blocks_of(block: Option<u16>) -> ArrayVec<u16, MAX_BLOCKS> {
+    let mut blocks = ArrayVec::new();
+    if let Some(block) = block {
+        blocks.push(block);
+    }
+    blocks
+}
+
+// The one block, or 65535, which none has as its number, where there are more.
+fn first(blocks: &ArrayVec<u16, MAX_BLOCKS>) -> Option<u16> {
+    if blocks.len() > 1 {
+        return Some(u16::MAX);
+    }
+    blocks.first().copied()
+}
+
+fn put<R: Wait>(
+    rt: &R,
+    channels: &Channels,
+    end: &mut Endpoint,
+    tag: u16,
+    block: Option<u16>,
+) -> Answer {
+    match channels.put(rt, end, tag, blocks_of(block)) {
+        Ok(no) => Answer::Sent(no),
+        Err(Unsent::Full { back }) => Answer::Refused(14, first(&back)),
+        Err(Unsent::PeerClosed { back }) => Answer::Refused(15, first(&back)),
+        Err(Unsent::Protocol { back }) => Answer::Refused(22, first(&back)),
+    }
+}
+
+fn take<R: Wait>(rt: &R, channels: &Channels, end: &mut Endpoint) -> Answer {
+    match channels.take(rt, end) {
+        Ok(Message { no, tag, blocks }) => Answer::Taken(no, tag, first(&blocks)),
+        Err(Refused::PeerClosed { back }) => Answer::Refused(15, first(&back)),
+        Err(refused) => Answer::Refused(xh_core::Refused::from(refused).number(), None),
+    }
+}
+
+/// Looks at the turn until it has risen so often, and sleeps at it meanwhile, or looks without a pause.
+pub(super) fn follow<R: Wait>(rt: &R, channels: &Channels, spot: Spot, last: u64, sleeps: bool) {
+    for _ in rt.forever() {
+        let seen = channels.turn(rt, spot);
+        if seen >= last {
+            break;
+        }
+        if sleeps {
+            channels.wait(rt, spot, seen);
+        } else {
+            hint::spin_loop();
+        }
+    }
+}
+
+// The block of the message of a number.
+fn block_of(no: u64) -> Option<u16> {
+    Some((no % 2048) as u16)
+}
+
+/// Puts messages of the tag 1. How many were sent.
+pub(super) fn put_all<R: Clock + Wait>(
+    rt: &R,
+    channels: &Channels,
+    end: &mut Endpoint,
+    most: u64,
+    manner: Manner,
+) -> u64 {
+    let mut sent = 0u64;
+    for _ in rt.forever() {
+        if sent >= most {
+            break;
+        }
+        if manner == Manner::Slowly {
+            thread::sleep(rt, Duration::from_micros(REST));
+        }
+        let next = sent + 1;
+        let answered = put(rt, channels, end, 1, block_of(next));
+        if answered == Answer::Sent(next) {
+            sent = next;
+        } else if manner != Manner::Once && answered == Answer::Refused(14, block_of(next)) {
+            thread::yield_now();
+        } else {
+            break;
+        }
+    }
+    sent
+}
+
+/// Takes the messages of the tag 1 after this number. The last that came in order.
+pub(super) fn take_all<R: Wait>(
+    rt: &R,
+    channels: &Channels,
+    end: &mut Endpoint,
+    from: u64,
+    last: u64,
+    manner: Manner,
+) -> u64 {
+    let spot = end.spot();
+    let mut taken = from;
+    for _ in rt.forever() {
+        if taken >= last {
+            break;
+        }
+        let next = taken + 1;
+        if manner == Manner::Promptly {
+            follow(rt, channels, spot, next, false);
+        }
+        let seen = channels.turn(rt, spot);
+        let answered = take(rt, channels, end);
+        if answered == Answer::Taken(next, 1, block_of(next)) {
+            taken = next;
+        } else if manner == Manner::Slowly && answered == NONE_WAITS {
+            channels.wait(rt, spot, seen);
+        } else if manner != Manner::Busily || answered != NONE_WAITS {
+            break;
+        }
+    }
+    taken
+}
+
+/// What is answered, by this end.
+pub(super) fn by_end<R: Clock + Wait>(
+    rt: &R,
+    channels: &Channels,
+    end: &mut Endpoint,
+    call: Call,
+) -> Answer {
+    let spot = end.spot();
+    match call {
+        Call::Put(tag, block) => return put(rt, channels, end, tag, block),
+        Call::Take => return take(rt, channels, end),
+        Call::Turn => return Answer::Count(channels.turn(rt, spot)),
+        Call::Puts(most, manner) => {
+            return Answer::Count(put_all(rt, channels, end, most, manner));
+        }
+        Call::Takes(most, manner) => {
+            return Answer::Count(take_all(rt, channels, end, 0, most, manner));
+        }
+        Call::Shut => channels.shut(rt, end),
+        Call::Wait(seen) => channels.wait(rt, spot, seen),
+        Call::Rouse => channels.rouse(rt, spot),
+        Call::Ring => channels.ring(rt, 1 - spot.side),
+        Call::Rest(micros) => thread::sleep(rt, Duration::from_micros(micros)),
+        Call::Follow(last) => follow(rt, channels, spot, last, false),
+    }
+    Answer::Done
+}
+
+/// They are the same.
+pub(super) fn assert_same<T: PartialEq + Debug + Drop>(
+    rt: &impl Abort,
+    at: usize,
+    found: T,
+    expected: T,
+) {
+    assert_eq!(rt; found, expected, "call {at}");
+}
+
+/// Both ends of a channel.
+#[derive(Drop)]
+pub(super) struct Ends {
+    pub(super) low: Endpoint,
+    pub(super) high: Endpoint,
+}
+
+/// A side, a call by its end, and what is answered.
+pub(super) type Row = (u8, Call, Answer);
+
+/// Does what the rows say of the sides in turn, by the end of each.
+pub(super) fn assert_rows<R: Clock + Wait + Abort>(
+    rt: &R,
+    channels: &Channels,
+    ends: &mut Ends,
+    rows: &[Row],
+) {
+    for (at, (side, call, expected)) in rows.iter().enumerate() {
+        let end = if *side == 0 {
+            &mut ends.low
+        } else {
+            &mut ends.high
+        };
+        let answered = by_end(rt, channels, end, *call);
+        assert_same(rt, at, answered, *expected);
+    }
+}

@@ -1,5 +1,0 @@
-use Rattle.xh_kernel.specs.Histories.{LeadsTo}
-use Rattle.xh_machine_tests.proofs.heaps.on_kernel.Given as goal
-
-abbrev pub ghosts-on_parts : goal.ghosts-on_parts
-ghosts-on_parts g a = record { parts = a.parts; leads = LeadsTo a.parts }

@@ -1,5 +1,0 @@
-//! A place by its public calls.
-#![tactic(auto)]
-
-#[cfg(test)]
-mod places;

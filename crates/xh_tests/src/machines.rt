@@ -1,0 +1,323 @@
+//! Both machines: a serial one, and a kernel by its workers, made, lent to what is tried, and let go.
+ghost use Rattle.std.specs.Prelude.{◌≡◌, All, IfOk, vec_len};
+ghost use Rattle.xh_kernel.specs.Histories.{IsLaw};
+
+use crate::answers::{Answer, Call, assert_answers};
+use crate::growths::assert_again;
+use crate::passing::{Passing, assert_passes};
+use crate::serving::assert_served;
+use crate::several::{Step, assert_deadlines, assert_steps, assert_turns};
+use crate::waiting::{Waiting, assert_wait};
+use crate::wiring::{Hold, assert_refused};
+use crate::without_memory::assert_whole;
+use std::alloc::{AllocError, Global};
+use std::marker::Brand;
+use std::process::Abort;
+use std::sync::Wait;
+use std::thread::Threads;
+use std::time::{Clock, Instant};
+use xh_books::close_kernel;
+use xh_core::{ArenaLine, Config, Ledger, PlaceLine, Refused, State};
+use xh_kernel::{Account, Answered, Kernel, Look, MAX_ENDS, Names, Parts};
+use xh_place::{Got, Taken};
+use xh_runner::{Gate, Machine, OpenGate, Worker, hire, leave_all};
+use xh_serial::Serial;
+
+/// A machine whose books can be looked into.
+pub trait Booked: Machine {
+    /// How many bytes of an arena were taken and given back. None where there is no such arena.
+    fn moved(&self, arena: u8) -> Option<(u64, u64)>;
+
+    /// How many bytes of an arena are out, and how many holes it has. None where there is no such arena, or the machine
+    /// can't tell before it is taken apart.
+    fn held(&self, arena: u8) -> Option<(u32, u32)>;
+}
+
+impl Booked for Serial {
+    fn moved(&self, arena: u8) -> Option<(u64, u64)> {
+        let ledger = self.ledger();
+        let line = ledger.arenas.get(usize::from(arena))?;
+        Some((line.taken, line.back))
+    }
+
+    fn held(&self, arena: u8) -> Option<(u32, u32)> {
+        let ledger = self.ledger();
+        let line = ledger.arenas.get(usize::from(arena))?;
+        Some((line.out, line.holes))
+    }
+}
+
+impl<'a, N: Names, R: Wait, G: Gate> Booked for Worker<'a, N, R, G> {
+    fn moved(&self, arena: u8) -> Option<(u64, u64)> {
+        self.account.moved(arena)
+    }
+
+    fn held(&self, _arena: u8) -> Option<(u32, u32)> {
+        None
+    }
+}
+
+/// What a take answered: at which of the ends, the message's tag, and nothing, or the name of a refusal, "Missing" among
+/// these where a block didn't come. The refusal of all ends together is at the 64th.
+pub type Told = (usize, u16, &'static str);
+
+fn told(at: usize, answer: Result<Taken, Refused>) -> Told {
+    match answer {
+        Ok(Taken { tag, blocks, .. }) => {
+            let mut refused = "";
+            for got in blocks.as_slice() {
+                if matches!(got, Got::Missing { .. }) {
+                    refused = "Missing";
+                }
+            }
+            (at, tag, refused)
+        }
+        Err(refused) => (at, 0, refused.name()),
+    }
+}
+
+fn told_at(answer: Result<Answered, Refused>) -> Told {
+    match answer {
+        Ok(Answered { at, answer }) => told(at, answer),
+        Err(refused) => (MAX_ENDS, 0, refused.name()),
+    }
+}
+
+/// A machine that others work on too, so that a take may wait, without an end or until a time.
+pub trait Shared: Booked {
+    /// A take at one endpoint, the first.
+    fn take_first(&mut self, p: u16, e: u16, until: Option<Instant>) -> Told;
+
+    fn take_any(&mut self, p: u16, ends: &[u16]) -> Told;
+
+    fn take_any_wait(&mut self, p: u16, ends: &[u16], until: Option<Instant>) -> Told;
+}
+
+impl<'a, N: Names, R: Wait + Clock, G: Gate> Shared for Worker<'a, N, R, G> {
+    fn take_first(&mut self, p: u16, e: u16, until: Option<Instant>) -> Told {
+        let (rt, gate) = (self.rt, self.gate);
+        let answer = match until {
+            Some(until) => self
+                .kernel
+                .take_wait_until(rt, p, e, until, &mut self.account, gate),
+            None => self.kernel.take_wait(rt, p, e, &mut self.account, gate),
+        };
+        told(0, answer)
+    }
+
+    fn take_any(&mut self, p: u16, ends: &[u16]) -> Told {
+        let (rt, gate) = (self.rt, self.gate);
+        told_at(self.kernel.take_any(rt, p, ends, &mut self.account, gate))
+    }
+
+    fn take_any_wait(&mut self, p: u16, ends: &[u16], until: Option<Instant>) -> Told {
+        let (rt, gate) = (self.rt, self.gate);
+        let answer = match until {
+            Some(until) => self
+                .kernel
+                .take_any_wait_until(rt, p, ends, until, &mut self.account, gate),
+            None => self
+                .kernel
+                .take_any_wait(rt, p, ends, &mut self.account, gate),
+        };
+        told_at(answer)
+    }
+}
+
+/// What is tried on a machine: calls and what they answer; the same, each made again where a growth was refused; calls
+/// that go without memory.
+#[derive(Clone, Copy)]
+pub enum Trial<'a> {
+    Answers(&'a [(Call<'a>, Answer)]),
+    Again(&'a [(Call<'a>, Answer)]),
+    WithoutMemory,
+}
+
+/// What is tried on a kernel: the same by its one worker; messages from one thread to another; a process that waits; a wire to a
+/// process that ends; takes at several endpoints, by what they answer, by their deadlines and by turns; a server of eight clients.
+#[derive(Clone, Copy)]
+pub enum Case<'a> {
+    Alone(Trial<'a>),
+    Passes(Passing),
+    Waits(Waiting<'a>),
+    Wires(&'a Hold),
+    Steps(&'a [Step<'a>]),
+    Deadlines,
+    Turns,
+    Serves,
+}
+
+fn try_on<M: Booked>(rt: &impl Abort, alloc: Global, machine: &mut M, trial: Trial) {
+    match trial {
+        Trial::Answers(calls) => assert_answers(rt, alloc, machine, calls),
+        Trial::Again(calls) => assert_again(rt, alloc, machine, calls),
+        Trial::WithoutMemory => assert_whole(rt, alloc, machine),
+    }
+}
+
+/// The trial on a new serial machine; its ledger.
+pub fn on_serial(
+    rt: &impl Abort,
+    alloc: Global,
+    config: Config,
+    trial: Trial,
+) -> Result<Ledger, Refused> {
+    match Serial::new(alloc, config) {
+        Ok(mut machine) => {
+            try_on(rt, alloc, &mut machine, trial);
+            Ok(machine.ledger())
+        }
+        Err(refused) => Err(refused),
+    }
+}
+
+/// Tries the case with the workers of a kernel.
+fn try_case<W: Shared + Send, R: Threads + Wait + Clock + Abort + Sync>(
+    rt: &R,
+    alloc: Global,
+    workers: &mut [W],
+    case: Case,
+) {
+    let Some((mine, others)) = workers.split_first_mut() else {
+        panic!(rt; "no worker");
+    };
+    match case {
+        Case::Alone(trial) => try_on(rt, alloc, mine, trial),
+        Case::Passes(what) => assert_passes(rt, alloc, mine, others, what),
+        Case::Waits(waiting) => assert_wait(rt, alloc, mine, others, waiting),
+        Case::Wires(hold) => assert_refused(rt, mine, others, hold),
+        Case::Steps(steps) => assert_steps(rt, alloc, mine, steps),
+        Case::Deadlines => assert_deadlines(rt, alloc, mine),
+        Case::Turns => assert_turns(rt, alloc, mine),
+        Case::Serves => assert_served(rt, alloc, mine, others),
+    }
+}
+
+/// The case by the workers of a kernel; what they have then.
+fn by_workers<N: Names + Send + Sync, R: Threads + Wait + Clock + Abort + Sync, G: Gate + Sync>(
+    rt: &R,
+    alloc: Global,
+    kernel: &Kernel<N>,
+    gate: &G,
+    accounts: Vec<Account<N>>,
+    looks: Vec<Look>,
+    case: Case,
+) -> Result<(Vec<Account<N>>, Vec<Look>), AllocError>
+    requires count { vec_len looks ≡ vec_len accounts }
+    requires own { All (λ l. l.table ≡ N.parts.histories) looks.items }
+    ensures count { IfOk result (λ r. vec_len r.0 ≡ vec_len accounts) }
+    ensures own { IfOk result (λ r. All (λ l. l.table ≡ N.parts.histories) r.1.items) }
+{
+    let mut workers = hire(rt, alloc, kernel, gate, accounts, looks)?;
+    try_case(rt, alloc, &mut workers, case);
+    leave_all(alloc, workers)
+}
+
+/// The case on a kernel of the parts; its ledger.
+fn on_parts<N: Names + Send + Sync, R: Threads + Wait + Clock + Abort + Sync, G: Gate + Sync>(
+    rt: &R,
+    alloc: Global,
+    parts: Parts,
+    gate: &G,
+    case: Case,
+) -> Result<Ledger, Refused>
+    requires names { parts ≡ N.parts }
+    requires law { IsLaw N.parts N.leads }
+{
+    let (kernel, accounts, looks) = match Kernel::<N>::new(alloc, parts) {
+        Ok(made) => made,
+        Err(refused) => return Err(refused),
+    };
+    match by_workers(rt, alloc, &kernel, gate, accounts, looks, case) {
+        Ok((accounts, looks)) => {
+            let books = close_kernel(alloc, kernel, accounts, looks)?;
+            Ok(books.ledger)
+        }
+        Err(_refused) => {
+            kernel.discard();
+            Err(Refused::OutOfMemory)
+        }
+    }
+}
+
+/// The case on a new kernel for so many workers, whose calls stop for the gate; its ledger.
+pub fn on_gated<R: Threads + Wait + Clock + Abort + Sync, G: Gate + Sync>(
+    rt: &R,
+    alloc: Global,
+    config: Config,
+    workers: u8,
+    gate: &G,
+    case: Case,
+) -> Result<Ledger, Refused> {
+    let parts = Parts::new(alloc, config, workers)?;
+    on_parts::<Brand, R, G>(rt, alloc, parts, gate, case)
+}
+
+/// The case on a new kernel for so many workers; its ledger.
+pub fn on_kernel<R: Threads + Wait + Clock + Abort + Sync>(
+    rt: &R,
+    alloc: Global,
+    config: Config,
+    workers: u8,
+    case: Case,
+) -> Result<Ledger, Refused> {
+    on_gated(rt, alloc, config, workers, &OpenGate, case)
+}
+
+/// What a line of an arena tells.
+fn of_arena(line: &ArenaLine) -> (u32, u32, u32, u64, u64) {
+    (line.size, line.out, line.holes, line.taken, line.back)
+}
+
+/// What a line of a place tells.
+fn of_place(line: &PlaceLine) -> (u16, State, u32, u64) {
+    (line.process, line.state, line.blocks, line.bytes)
+}
+
+fn assert_same_arenas(rt: &impl Abort, one: &[ArenaLine], other: &[ArenaLine]) {
+    assert_eq!(rt; one.len(), other.len());
+    for (line, other_line) in one.iter().zip(other.iter()) {
+        assert!(rt; of_arena(line) == of_arena(other_line));
+    }
+}
+
+fn assert_same_places(rt: &impl Abort, one: &[PlaceLine], other: &[PlaceLine]) {
+    assert_eq!(rt; one.len(), other.len());
+    for (line, other_line) in one.iter().zip(other.iter()) {
+        assert!(rt; of_place(line) == of_place(other_line));
+    }
+}
+
+/// Both ledgers have the same lines, and so the same sums.
+pub fn assert_same(rt: &impl Abort, one: &Ledger, other: &Ledger) {
+    assert_same_arenas(rt, one.arenas.as_slice(), other.arenas.as_slice());
+    assert_same_places(rt, one.places.as_slice(), other.places.as_slice());
+    assert_eq!(rt;
+        (one.owned, one.flight, one.out),
+        (other.owned, other.flight, other.out)
+    );
+}
+
+/// Makes each call on a new serial machine and on a new kernel, compares what it answers, and then both ledgers.
+pub fn assert_on<R: Threads + Wait + Clock + Abort + Sync>(
+    rt: &R,
+    alloc: Global,
+    config: Config,
+    calls: &[(Call, Answer)],
+) {
+    let trial = Trial::Answers(calls);
+    let serial = on_serial(rt, alloc, config, trial).expect(rt, "room");
+    let kernel = on_kernel(rt, alloc, config, 1, Case::Alone(trial)).expect(rt, "room");
+    assert_same(rt, &serial, &kernel);
+}
+
+/// A configuration of arenas of so many bytes and records.
+pub fn arenas_of(arenas: u8, bytes: u32, records: u16) -> Config {
+    Config {
+        arenas,
+        bytes,
+        records,
+        depth: 4,
+        wear: 1000,
+    }
+}

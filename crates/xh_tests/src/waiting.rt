@@ -1,0 +1,179 @@
+//! A process that waits for a message at one endpoint or at one of two, on threads.
+use crate::answers::Call::{self, Alloc, Close, Exit, Give, Kill, Spawn, Wire};
+use crate::answers::{Answer, answer_of, assert_row};
+use crate::machines::{Case, Shared, Told, arenas_of, on_kernel};
+use std::alloc::Global;
+use std::hint::spin_loop;
+use std::process::Abort;
+use std::sync::Wait;
+use std::thread;
+use std::thread::Threads;
+use std::time::{Clock, Duration, Instant};
+use xh_core::Config;
+
+/// The time after so many milliseconds, where the clock can be read.
+pub fn after<R: Clock>(rt: &R, millis: u64) -> Option<Instant> {
+    let now = Instant::now(rt).ok()?;
+    now.checked_add(Duration::from_millis(millis))
+}
+
+/// A process that waits at both its ends or at one; what ends its wait; the tag of the message that it takes then, or 0, and the
+/// refusal, or nothing.
+#[derive(Clone, Copy)]
+pub struct Waiting<'a> {
+    both: bool,
+    ender: Call<'a>,
+    want: (u16, &'static str),
+}
+
+fn pause(turns: u64) {
+    for _ in 0..turns {
+        spin_loop();
+    }
+}
+
+/// Process 0 has a block, ahead of its ends of two channels, 2 and 4, so that a budget of 1 doesn't reach these; process 1 has
+/// a block to give, 1, and the other ends.
+const BEFORE: &[Call] = &[
+    Spawn,
+    Spawn,
+    Alloc(0, 16, 0),
+    Alloc(1, 16, 0),
+    Wire(0, 1),
+    Wire(0, 1),
+];
+
+// The call by processes that came so much later to their places.
+fn later(call: Call, by: u16) -> Call {
+    match call {
+        Alloc(p, n, arena) => Alloc(p | by, n, arena),
+        Wire(p, q) => Wire(p | by, q | by),
+        Give(p, e, tag, blocks) => Give(p | by, e, tag, blocks),
+        Close(p, e) => Close(p | by, e),
+        Kill(p, q, budget) => Kill(p | by, q | by, budget),
+        Exit(p, budget) => Exit(p | by, budget),
+        other => other,
+    }
+}
+
+// What process 0 is told that waits after a pause, by one of the ways, a long time at most.
+fn wait_late<W: Shared, R: Clock>(rt: &R, worker: &mut W, both: bool, by: u16, seed: u64) -> Told {
+    let until = if seed % 2 == 0 {
+        None
+    } else {
+        after(rt, 20_000)
+    };
+    pause(seed % 211);
+    if both {
+        worker.take_any_wait(by, &[4, 2], until)
+    } else {
+        worker.take_first(by, 2, until)
+    }
+}
+
+// Does what ends the wait, after a pause.
+fn end_late<W: Shared>(alloc: Global, worker: &mut W, ender: Call, seed: u64) -> Answer {
+    pause((seed / 211) % 4001);
+    answer_of(worker, alloc, ender)
+}
+
+// The process that waits is told so, and of a message at which end, while another thread ends its wait; then both end.
+fn assert_round<W: Shared + Send, R: Threads + Clock + Abort + Sync>(
+    rt: &R,
+    alloc: Global,
+    mine: &mut W,
+    other: &mut W,
+    waiting: Waiting,
+    by: u16,
+    seed: u64,
+) {
+    let Waiting { both, ender, want } = waiting;
+    let mut last = Answer::Done;
+    for call in BEFORE {
+        last = answer_of(mine, alloc, later(*call, by));
+    }
+    assert_row(rt, 0, last, Answer::Two(4, 32, 5, 32));
+    let ((at, tag, refused), _answer) = thread::join(
+        rt,
+        || wait_late(rt, other, both, by, seed),
+        || end_late(alloc, mine, later(ender, by), seed),
+    );
+    assert!(rt; (tag, refused) == want, "{refused}");
+    assert!(rt; refused != "" || at == usize::from(both));
+    let _ended = (mine.exit(by, 4096).is_ok(), mine.exit(1 | by, 4096).is_ok());
+}
+
+/// In 32 rounds the process is always told so.
+pub fn assert_wait<W: Shared + Send, R: Threads + Clock + Abort + Sync>(
+    rt: &R,
+    alloc: Global,
+    mine: &mut W,
+    others: &mut [W],
+    waiting: Waiting,
+) {
+    let Some(other) = others.first_mut() else {
+        panic!(rt; "no other worker");
+    };
+    let mut seed = 1u64;
+    for round in 0..32u16 {
+        seed = seed
+            .wrapping_mul(6_364_136_223_846_793_005)
+            .wrapping_add(1_442_695_040_888_963_407);
+        assert_round(rt, alloc, mine, other, waiting, 32 * round, seed >> 20);
+    }
+}
+
+// In 2,048 rounds over 64 kernels it is, and all bytes come back.
+fn assert_waits<R: Threads + Wait + Clock + Abort + Sync>(
+    rt: &R,
+    alloc: Global,
+    both: bool,
+    ender: Call,
+    want: (u16, &'static str),
+) {
+    let config = Config {
+        wear: 1_000_000,
+        ..arenas_of(1, 256, 16)
+    };
+    let case = Case::Waits(Waiting { both, ender, want });
+    for _ in 0..64 {
+        let ledger = on_kernel(rt, alloc, config, 2, case);
+        assert!(rt; matches!(ledger, Ok(ledger) if ledger.out == 0));
+    }
+}
+
+/// A process that waits at its end 2 is given a block, or its peer closes; it is killed, in whole or before its end is reached;
+/// another thread closes its end, or gives it away.
+#[test]
+fn waits_at_one(rt: HostRuntime) {
+    const ENDERS: &[(Call, u16, &str)] = &[
+        (Give(1, 3, 7, &[1]), 7, ""),
+        (Close(1, 3), 0, "PeerClosed"),
+        (Kill(1, 0, 4096), 0, "Ended"),
+        (Kill(1, 0, 1), 0, "Ended"),
+        (Close(0, 2), 0, "NotOwned"),
+        (Give(0, 4, 7, &[2]), 0, "NotOwned"),
+    ];
+    for (ender, tag, refused) in ENDERS {
+        assert_waits(&rt, rt.alloc(), false, *ender, (*tag, *refused));
+    }
+}
+
+/// The same of one that waits at two ends; and it exits, or its peer is killed or exits.
+#[test]
+fn waits_at_two(rt: HostRuntime) {
+    const ENDERS: &[(Call, u16, &str)] = &[
+        (Give(1, 3, 7, &[1]), 7, ""),
+        (Close(1, 3), 0, "PeerClosed"),
+        (Kill(1, 0, 4096), 0, "Ended"),
+        (Kill(1, 0, 1), 0, "Ended"),
+        (Close(0, 2), 0, "NotOwned"),
+        (Give(0, 4, 7, &[2]), 0, "NotOwned"),
+        (Exit(0, 4096), 0, "Ended"),
+        (Kill(0, 1, 4096), 0, "PeerClosed"),
+        (Exit(1, 4096), 0, "PeerClosed"),
+    ];
+    for (ender, tag, refused) in ENDERS {
+        assert_waits(&rt, rt.alloc(), true, *ender, (*tag, *refused));
+    }
+}

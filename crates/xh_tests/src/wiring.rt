@@ -1,0 +1,83 @@
+//! A wire whose other process ends in between, on threads.
+use crate::machines::{Case, Shared, arenas_of, on_gated};
+use std::hint::spin_loop;
+use std::process::Abort;
+use std::sync::atomic::AtomicBool;
+use std::sync::atomic::Ordering::SeqCst;
+use std::thread;
+use std::thread::Threads;
+use xh_core::Refused;
+use xh_runner::{Gate, Point};
+
+/// It holds whoever has claimed a record until it is told to go on, or a long time has passed.
+#[derive(Drop)]
+pub struct Hold {
+    claimed: AtomicBool,
+    told: AtomicBool,
+}
+
+// Waits until it is set, or a long time has passed.
+fn wait_for(flag: &AtomicBool) {
+    for _ in 0..1_000_000_000u64 {
+        if flag.load(SeqCst) {
+            return;
+        }
+        spin_loop();
+    }
+}
+
+impl Gate for Hold {
+    fn before(&self, _place: u8, _command: u32) -> bool {
+        true
+    }
+
+    fn after(&self, _place: u8, _command: u32) {}
+
+    fn between(&self, _place: u8, point: Point) {
+        if point == Point::Claimed {
+            self.claimed.store(true, SeqCst);
+            wait_for(&self.told);
+        }
+    }
+}
+
+// Process 1 ends once the other has claimed a record, and the other is told to go on.
+fn end_between<W: Shared>(worker: &mut W, hold: &Hold) -> bool {
+    wait_for(&hold.claimed);
+    let ended = worker.exit(1, 4096).is_ok();
+    hold.told.store(true, SeqCst);
+    ended
+}
+
+/// A wire is refused whose other process ends once the first has claimed a record, and what it took is given back.
+pub fn assert_refused<W: Shared + Send, R: Threads + Abort>(
+    rt: &R,
+    mine: &mut W,
+    others: &mut [W],
+    hold: &Hold,
+) {
+    let Some(other) = others.first_mut() else {
+        panic!(rt; "no other worker");
+    };
+    let started = (mine.spawn(), mine.spawn());
+    assert!(rt; matches!(started, (Ok(0), Ok(1))));
+    let done = thread::join(
+        rt,
+        || matches!(mine.wire(0, 1, 0, None), Err(Refused::Ended)),
+        || end_between(other, hold),
+    );
+    assert!(rt; done == (true, true));
+    assert!(rt; mine.moved(0) == Some((64, 64)));
+}
+
+/// Where the other process ends before its end reaches it, both ends are reclaimed.
+#[test]
+fn wires_to_one_that_ends(rt: HostRuntime) {
+    let hold = Hold {
+        claimed: AtomicBool::new(false),
+        told: AtomicBool::new(false),
+    };
+    let case = Case::Wires(&hold);
+    let ledger = on_gated(&rt, rt.alloc(), arenas_of(1, 256, 16), 2, &hold, case);
+    assert!(&rt; ledger.is_ok());
+}
