@@ -185,8 +185,10 @@ impl<'a> Sheet<'a> {
     fn message(&mut self, y: u64, row: usize, reply: &Reply) -> Result<(), AllocError> {
         let x = MESSAGES;
         match reply {
-            Reply::Done(numbers) if self.word(row, 1) == b"give" => {
-                let number = numbers.first().copied().unwrap_or(0);
+            Reply::Done(numbers) if self.word(row, 1) == b"give".as_slice() => {
+                let Some(number) = numbers.first() else {
+                    return Ok(());
+                };
                 let tag = Shown(self.word(row, 3));
                 write!(
                     self.svg,
