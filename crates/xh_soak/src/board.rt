@@ -2,6 +2,7 @@
 use std::alloc::{AllocError, Global};
 use std::sync::atomic::AtomicU64;
 use std::sync::atomic::Ordering::SeqCst;
+use xh_model::limits::PLACES;
 
 /// So many places of blocks and of ends are known to all workers.
 pub(crate) const HINTS: u16 = 64;
@@ -50,7 +51,7 @@ impl Words {
 
 /// The process that each worker started last; which processes have started, and which somebody meant to end; where blocks
 /// and ends were seen, some of which are there no more; the blocks of each message by its tag; and at the end the records
-/// that have an owner.
+/// that have an owner, and how many blocks each place holds.
 #[derive(Drop)]
 pub(crate) struct Board {
     pub(crate) processes: Words,
@@ -60,6 +61,7 @@ pub(crate) struct Board {
     pub(crate) ends: Words,
     pub(crate) messages: Words,
     pub(crate) owned: Words,
+    pub(crate) held: Words,
     tags: AtomicU64,
 }
 
@@ -74,6 +76,7 @@ impl Board {
             ends: Words::new(alloc, HINTS)?,
             messages: Words::new(alloc, TAGS)?,
             owned: Words::new(alloc, 2048)?,
+            held: Words::new(alloc, u16::from(PLACES))?,
             tags: AtomicU64::new(0),
         })
     }

@@ -1,5 +1,5 @@
 //! The calls of a worker. Only `Hired` names the kernel: so the proofs of all that the workers do see none.
-use std::alloc::Global;
+use std::alloc::{AllocError, Global};
 use std::sync::Wait;
 use std::time::{Clock, Instant};
 use xh_core::{Block, Refused};
@@ -23,7 +23,7 @@ pub(crate) trait Caller: Drop {
     fn write(&mut self, p: u16, r: u16, at: u32, bytes: &[u8]) -> Told<()>;
 
     fn free(&mut self, p: u16, r: u16) -> Told<u32>;
-    /// Where a block did not come back that has to, that is what is told.
+
     fn give(&mut self, p: u16, e: u16, tag: u16, blocks: &[u16]) -> Told<u64>;
     /// At once, or until a time.
     fn take(&mut self, p: u16, e: u16, until: Option<Instant>) -> Told<Taken>;
@@ -40,10 +40,10 @@ pub(crate) trait Caller: Drop {
 /// A worker of a kernel, whose account is lent to it.
 #[derive(Drop)]
 pub(crate) struct Hired<'a, N: Names, R> {
-    pub(crate) rt: &'a R,
-    pub(crate) alloc: Global,
-    pub(crate) kernel: &'a Kernel<N>,
-    pub(crate) account: &'a mut Account<N>,
+    rt: &'a R,
+    alloc: Global,
+    kernel: &'a Kernel<N>,
+    account: &'a mut Account<N>,
 }
 
 fn told<T>(answer: Result<T, Refused>) -> Told<T> {
@@ -53,23 +53,10 @@ fn told<T>(answer: Result<T, Refused>) -> Told<T> {
     }
 }
 
-// The name of a refusal of a give of these blocks. All come back, but where the peer closes in between.
-fn told_back(refused: &Refused, blocks: &[u16]) -> &'static str {
-    let is_back = match refused {
-        Refused::Full { back } => back.as_slice() == blocks,
-        Refused::PeerClosed { back } => back.iter().all(|block| blocks.contains(block)),
-        _ => true,
-    };
-    if is_back {
-        refused.name()
-    } else {
-        "a block did not come back"
-    }
-}
-
 impl<'a, N: Names, R: Wait + Clock> Caller for Hired<'a, N, R> {
     fn spawn(&mut self) -> Told<u16> {
-        told(self.kernel.spawn(self.rt, self.account, &OpenGate))
+        let (kernel, rt) = (self.kernel, self.rt);
+        told(kernel.spawn(rt, self.account, &OpenGate))
     }
 
     fn wire(&mut self, p: u16, q: u16, arena: u32) -> Told<(Block, Block)> {
@@ -78,13 +65,13 @@ impl<'a, N: Names, R: Wait + Clock> Caller for Hired<'a, N, R> {
     }
 
     fn alloc(&mut self, p: u16, bytes: u32, arena: u32) -> Told<Block> {
-        let (kernel, rt, alloc) = (self.kernel, self.rt, self.alloc);
-        told(kernel.alloc(rt, alloc, p, bytes, arena, self.account, &OpenGate))
+        let (kernel, rt) = (self.kernel, self.rt);
+        told(kernel.alloc(rt, self.alloc, p, bytes, arena, self.account, &OpenGate))
     }
 
     fn split(&mut self, p: u16, r: u16, at: u32) -> Told<(Block, Block)> {
-        let (kernel, rt, alloc) = (self.kernel, self.rt, self.alloc);
-        told(kernel.split(rt, alloc, p, r, at, self.account, &OpenGate))
+        let (kernel, rt) = (self.kernel, self.rt);
+        told(kernel.split(rt, self.alloc, p, r, at, self.account, &OpenGate))
     }
 
     fn read(&mut self, p: u16, r: u16, at: u32) -> Told<u64> {
@@ -99,15 +86,13 @@ impl<'a, N: Names, R: Wait + Clock> Caller for Hired<'a, N, R> {
     }
 
     fn free(&mut self, p: u16, r: u16) -> Told<u32> {
-        told(self.kernel.free(self.rt, p, r, self.account, &OpenGate))
+        let (kernel, rt) = (self.kernel, self.rt);
+        told(kernel.free(rt, p, r, self.account, &OpenGate))
     }
 
     fn give(&mut self, p: u16, e: u16, tag: u16, blocks: &[u16]) -> Told<u64> {
         let (kernel, rt) = (self.kernel, self.rt);
-        match kernel.give(rt, p, e, tag, blocks, self.account, &OpenGate) {
-            Ok(number) => Ok(number),
-            Err(refused) => Err(told_back(&refused, blocks)),
-        }
+        told(kernel.give(rt, p, e, tag, blocks, self.account, &OpenGate))
     }
 
     fn take(&mut self, p: u16, e: u16, until: Option<Instant>) -> Told<Taken> {
@@ -124,14 +109,15 @@ impl<'a, N: Names, R: Wait + Clock> Caller for Hired<'a, N, R> {
             None => kernel.take_any(rt, p, ends, self.account, &OpenGate),
             Some(time) => kernel.take_any_wait_until(rt, p, ends, time, self.account, &OpenGate),
         };
-        told(match found {
-            Ok(Answered { at: _, answer }) => answer,
-            Err(refused) => Err(refused),
-        })
+        match found {
+            Ok(Answered { at: _, answer }) => told(answer),
+            Err(refused) => Err(refused.name()),
+        }
     }
 
     fn close(&mut self, p: u16, e: u16) -> Told<u64> {
-        told(self.kernel.close(self.rt, p, e, self.account, &OpenGate))
+        let (kernel, rt) = (self.kernel, self.rt);
+        told(kernel.close(rt, p, e, self.account, &OpenGate))
     }
 
     fn exit(&mut self, p: u16, budget: u16) -> Told<u64> {
@@ -143,4 +129,23 @@ impl<'a, N: Names, R: Wait + Clock> Caller for Hired<'a, N, R> {
         let (kernel, rt) = (self.kernel, self.rt);
         told(kernel.kill(rt, p, victim, budget, self.account, &OpenGate))
     }
+}
+
+/// A caller for each account.
+pub(crate) fn hire<'a, N: Names, R>(
+    rt: &'a R,
+    alloc: Global,
+    kernel: &'a Kernel<N>,
+    accounts: &'a mut [Account<N>],
+) -> Result<Vec<Hired<'a, N, R>>, AllocError> {
+    let mut callers = Vec::with_capacity(alloc, accounts.len())?;
+    for account in accounts {
+        callers.push(Hired {
+            rt,
+            alloc,
+            kernel,
+            account,
+        })?;
+    }
+    Ok(callers)
 }

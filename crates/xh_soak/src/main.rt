@@ -17,9 +17,9 @@ mod plan;
 mod round;
 mod worker;
 
+use crate::caller::Told;
 use crate::plan::Plan;
 use crate::round::play_round;
-use crate::worker::Wrong;
 use std::alloc::Global;
 use std::process::ExitCode;
 use std::sync::Wait;
@@ -39,11 +39,7 @@ fn read_words(words: &[String]) -> Option<(u64, u64, bool)> {
 }
 
 // Plays the round of a plan, and tells it: how many messages were taken.
-fn play<R: Threads + Wait + Clock + Print + Sync>(
-    rt: &R,
-    alloc: Global,
-    plan: Plan,
-) -> Result<u64, Wrong> {
+fn play<R: Threads + Wait + Clock + Print + Sync>(rt: &R, alloc: Global, plan: Plan) -> Told<u64> {
     let (seed, config) = (plan.seed, plan.config);
     let (taken, told) = match play_round(rt, alloc, plan) {
         Ok(played) => (
@@ -57,12 +53,12 @@ fn play<R: Threads + Wait + Clock + Print + Sync>(
             0,
             println!(rt; "seed {seed}: memory was refused to the round"),
         ),
-        Err(refused) => return Err(("round", refused.name())),
+        Err(refused) => return Err(refused.name()),
     };
     if told.is_ok() {
         Ok(taken)
     } else {
-        Err(("println", "it can't be written"))
+        Err("it can't be written")
     }
 }
 
@@ -85,8 +81,8 @@ fn main(rt: HostRuntime) -> ExitCode {
         let seed = first.wrapping_add(number);
         match play(&rt, alloc, Plan::new(seed, scarce)) {
             Ok(more) => taken = taken.saturating_add(more),
-            Err((call, what)) => {
-                let _ = eprintln!(rt; "xh_soak: seed {seed}: {call}: {what}");
+            Err(what) => {
+                let _ = eprintln!(rt; "xh_soak: seed {seed}: {what}");
                 return ExitCode::FAILURE;
             }
         }

@@ -21,42 +21,39 @@ fn is_past<R: Clock>(rt: &R, time: Instant) -> bool {
     Instant::now(rt).map_or(true, |now| now >= time)
 }
 
+// Records of the process that were seen, so many at most, and not this one. What is to go is taken from the board.
+fn gather(words: &Words, p: u16, not: u16, most: u32, goes: bool) -> ArrayVec<u16, 8> {
+    let mut found = ArrayVec::<u16, 8>::new();
+    for slot in 0..HINTS {
+        if let Some((q, r)) = words.seen(slot)
+            && q == p
+            && r != not
+            && (found.len() as u32) < most
+            && !found.contains(&r)
+            && found.try_push(r).is_ok()
+            && goes
+        {
+            words.set(slot, 0);
+        }
+    }
+    found
+}
+
 impl<'a, C: Caller, R: Clock> Worker<'a, C, R> {
     /// A channel between two processes of one group, or of one alone.
     pub(crate) fn wire(&mut self) {
         let (p, other) = (self.process(), self.process());
-        let is_one_group = p % self.plan.groups == other % self.plan.groups;
-        let q = if is_one_group { other } else { p };
+        let is_near = self.group(p) == self.group(other);
+        let q = if is_near { other } else { p };
         let arena = if self.plan.ends { 0 } else { self.arena() };
         let answer = self.caller.wire(p, q, arena);
-        let by = if self.board.aimed_at.get(p) == 0 {
-            q
-        } else {
-            p
-        };
+        let is_safe = self.board.aimed_at.get(p) == 0;
+        let by = if is_safe { q } else { p };
         let may = ["NoChannel", "NoRecord", "NoSpace", "Worn"];
-        if let Some((low, high)) = self.judge("wire", by, answer, &may) {
+        if let Some((low, high)) = self.judge(by, answer, &may) {
             self.meet(p, low.rec);
             self.meet(q, high.rec);
         }
-    }
-
-    // Records of the process that were seen, so many at most, and not this one. What is to go is taken from the board.
-    fn gather(&self, words: &Words, p: u16, not: u16, most: u32, goes: bool) -> ArrayVec<u16, 8> {
-        let mut found = ArrayVec::<u16, 8>::new();
-        for slot in 0..HINTS {
-            if let Some((q, r)) = words.seen(slot)
-                && q == p
-                && r != not
-                && (found.len() as u32) < most
-                && !found.contains(&r)
-                && found.try_push(r).is_ok()
-                && goes
-            {
-                words.set(slot, 0);
-            }
-        }
-        found
     }
 
     /// Blocks of the process, and at times an endpoint or any record. Where all processes are to end it is no endpoint, since
@@ -65,21 +62,17 @@ impl<'a, C: Caller, R: Clock> Worker<'a, C, R> {
         let board = self.board;
         let (p, e) = self.seen(&board.ends, false);
         let most = self.chance.below(4) * self.chance.below(4);
-        let mut load = self.gather(&board.blocks, p, e, most, true);
-        let words = if self.plan.ends {
-            &board.blocks
-        } else {
-            &board.ends
-        };
-        let (_, r) = self.seen(words, false);
-        if self.chance.one_in(4) && r != e && !load.contains(&r) {
+        let mut load = gather(&board.blocks, p, e, most, true);
+        let (_, r) = self.seen(&board.ends, false);
+        let is_more = !self.plan.ends && self.chance.one_in(4);
+        if is_more && r != e && !load.contains(&r) {
             let _room = load.try_push(r);
         }
         let tag = board.new_tag();
         board.messages.set(tag, load.iter().fold(1, joined));
         let answer = self.caller.give(p, e, tag, &load);
         let may = ["NotOwned", "NotEndpoint", "Full", "PeerClosed"];
-        if self.judge("give", p, answer, &may).is_none() {
+        if self.judge(p, answer, &may).is_none() {
             for r in &load {
                 self.meet(p, *r);
             }
@@ -88,26 +81,23 @@ impl<'a, C: Caller, R: Clock> Worker<'a, C, R> {
 
     /// A message comes once, with the blocks that it was given.
     pub(crate) fn take(&mut self) {
-        let (p, e) = self.seen(&self.board.ends, false);
+        let board = self.board;
+        let (p, e) = self.seen(&board.ends, false);
         let millis = self.chance.below(24);
-        let until = if millis < 3 {
-            after(self.rt, millis)
-        } else {
-            None
-        };
+        let until = after(self.rt, millis).filter(|_| millis < 3);
         let answer = if self.chance.one_in(2) {
             self.caller.take(p, e, until)
         } else {
-            let mut ends = self.gather(&self.board.ends, p, e, 7, false);
+            let mut ends = gather(&board.ends, p, e, 7, false);
             let _room = ends.try_push(e);
             self.caller.take_any(p, &ends, until)
         };
         if let Err("Empty") = answer {
             let is_past = until.is_none_or(|time| is_past(self.rt, time));
-            self.claim(is_past, "take", "Empty before its time");
+            self.claim(is_past, "Empty before its time");
         }
         let may = ["NotOwned", "NotEndpoint", "PeerClosed", "Empty"];
-        if let Some(message) = self.judge("take", p, answer, &may) {
+        if let Some(message) = self.judge(p, answer, &may) {
             let mut sum = 1;
             for got in &message.blocks {
                 if let Got::Here(block) = got {
@@ -115,8 +105,8 @@ impl<'a, C: Caller, R: Clock> Worker<'a, C, R> {
                     self.meet(p, block.rec);
                 }
             }
-            let given = self.board.messages.set(message.tag, 0);
-            self.claim(given == sum, "take", "a message twice, or other blocks");
+            let given = board.messages.set(message.tag, 0);
+            self.claim(given == sum, "a message twice, or other blocks");
             self.taken = self.taken.saturating_add(1);
         }
     }
@@ -124,8 +114,8 @@ impl<'a, C: Caller, R: Clock> Worker<'a, C, R> {
     pub(crate) fn close(&mut self) {
         let (p, e) = self.seen(&self.board.ends, true);
         let answer = self.caller.close(p, e);
-        if let Some(bytes) = self.judge("close", p, answer, &["NotOwned", "NotEndpoint"]) {
-            self.claim(bytes >= 32, "close", "less than its own bytes");
+        if let Some(bytes) = self.judge(p, answer, &["NotOwned", "NotEndpoint"]) {
+            self.claim(bytes >= 32, "less than its own bytes");
         }
     }
 
@@ -140,6 +130,6 @@ impl<'a, C: Caller, R: Clock> Worker<'a, C, R> {
         } else {
             self.caller.kill(by, p, budget)
         };
-        let _bytes = self.judge("end", p, answer, &[may]);
+        let _bytes = self.judge(p, answer, &[may]);
     }
 }

@@ -1,4 +1,6 @@
 //! How a round goes, by its seed.
+ghost use Rattle.std.specs.Prelude.{◌≤◌};
+
 use xh_core::Config;
 use xh_model::limits::MAX_WEAR;
 
@@ -8,12 +10,14 @@ pub(crate) struct Chance(pub(crate) u64);
 
 impl Chance {
     /// A number below a count, or 0.
-    pub(crate) fn below(&mut self, count: u32) -> u32 {
+    pub(crate) fn below(&mut self, count: u32) -> u32
+        ensures { result ≤ count }
+    {
         self.0 = self
             .0
             .wrapping_mul(6_364_136_223_846_793_005)
             .wrapping_add(1_442_695_040_888_963_407);
-        ((self.0 >> 33) % u64::from(count.max(1))) as u32
+        (self.0 >> 33) as u32 % count.max(1)
     }
 
     pub(crate) fn one_in(&mut self, count: u32) -> bool {
@@ -30,7 +34,7 @@ pub(crate) struct Plan {
     pub(crate) config: Config,
     pub(crate) workers: u8,
     pub(crate) processes: u8,
-    pub(crate) groups: u16,
+    pub(crate) groups: u8,
     pub(crate) commands: u32,
     pub(crate) ends: bool,
     pub(crate) scarce: bool,
@@ -49,12 +53,13 @@ impl Plan {
     pub(crate) fn new(seed: u64, scarce: bool) -> Plan {
         let mut chance = Chance(seed.wrapping_mul(1024).wrapping_add(1023));
         let _first = chance.below(1);
+        let wear = if chance.one_in(4) { 65_536 } else { MAX_WEAR };
         let small = Config {
             arenas: (chance.below(8) + 1) as u8,
             bytes: (chance.below(1024) + 1) * 16,
             records: (chance.below(96) + 2) as u16,
             depth: (chance.below(16) + 1) as u8,
-            wear: if chance.one_in(4) { 65_536 } else { MAX_WEAR },
+            wear,
         };
         let config = if chance.one_in(4) { LARGEST } else { small };
         let workers = chance.below(15) + 2;

@@ -2,12 +2,12 @@
 ghost use Rattle.std.specs.Prelude.{◌≡◌};
 ghost use Rattle.xh_kernel.specs.Histories.{IsLaw};
 
-use crate::audit::{Held, count, judge};
+use crate::audit::{count_all, judge};
 use crate::board::Board;
-use crate::caller::{Caller, Hired};
+use crate::caller::{Caller, Told, hire};
 use crate::plan::{Chance, Plan};
-use crate::worker::{Worker, Wrong};
-use std::alloc::Global;
+use crate::worker::Worker;
+use std::alloc::{AllocError, Global};
 use std::marker::Brand;
 use std::sync::Wait;
 use std::thread::{self, Threads};
@@ -16,11 +16,39 @@ use xh_books::{Books, close_kernel};
 use xh_core::Refused;
 use xh_kernel::{Account, Kernel, Names, Parts};
 
-// The workers work, each in a thread of its own. How many messages they took, and what there is at the end.
+// A worker for each caller.
+fn employ<'a, C: Caller, R>(
+    rt: &'a R,
+    alloc: Global,
+    plan: Plan,
+    board: &'a Board,
+    callers: Vec<C>,
+) -> Result<Vec<Worker<'a, C, R>>, AllocError> {
+    let mut workers = Vec::with_capacity(alloc, callers.len())?;
+    let mut number = 0u16;
+    for caller in callers {
+        let seed = plan.seed.wrapping_mul(1024);
+        workers.push(Worker {
+            rt,
+            board,
+            caller,
+            plan,
+            number,
+            chance: Chance(seed.wrapping_add(u64::from(number))),
+            is_known: true,
+            taken: 0,
+            wrong: None,
+        })?;
+        number = number.saturating_add(1);
+    }
+    Ok(workers)
+}
+
+// The workers work, each in a thread of its own. How many messages they took.
 fn work_all<C: Caller + Send, R: Threads + Clock + Sync>(
     rt: &R,
     workers: &mut [Worker<C, R>],
-) -> Result<(u64, Held), Wrong> {
+) -> Told<u64> {
     let threads = workers.len().max(1);
     thread::for_each_mut(rt, workers, threads, &|_, worker| worker.work());
     let mut taken = 0u64;
@@ -30,10 +58,10 @@ fn work_all<C: Caller + Send, R: Threads + Clock + Sync>(
         }
         taken = taken.saturating_add(worker.taken);
     }
-    match workers.first_mut() {
-        Some(first) => Ok((taken, count(&mut first.caller, first.board, first.plan)?)),
-        None => Err(("round", "no worker")),
+    if let Some(first) = workers.first_mut() {
+        count_all(&mut first.caller, first.board, first.plan)?;
     }
+    Ok(taken)
 }
 
 // A round on a kernel, with a worker for each account.
@@ -41,31 +69,12 @@ fn play_on<N: Names + Send + Sync, R: Threads + Wait + Clock + Sync>(
     rt: &R,
     alloc: Global,
     plan: Plan,
+    board: &Board,
     kernel: &Kernel<N>,
     accounts: &mut [Account<N>],
-) -> Result<Result<(u64, Held), Wrong>, Refused> {
-    let board = Board::new(alloc, plan.workers)?;
-    let mut workers = Vec::with_capacity(alloc, accounts.len())?;
-    let mut number = 0u16;
-    for account in accounts {
-        workers.push(Worker {
-            rt,
-            board: &board,
-            caller: Hired {
-                rt,
-                alloc,
-                kernel,
-                account,
-            },
-            plan,
-            number,
-            chance: Chance(plan.seed.wrapping_mul(1024).wrapping_add(u64::from(number))),
-            is_known: true,
-            taken: 0,
-            wrong: None,
-        })?;
-        number = number.saturating_add(1);
-    }
+) -> Result<Told<u64>, AllocError> {
+    let callers = hire(rt, alloc, kernel, accounts)?;
+    let mut workers = employ(rt, alloc, plan, board, callers)?;
     Ok(work_all(rt, &mut workers))
 }
 
@@ -74,13 +83,14 @@ fn play_named<N: Names + Send + Sync, R: Threads + Wait + Clock + Sync>(
     rt: &R,
     alloc: Global,
     plan: Plan,
+    board: &Board,
     parts: Parts,
-) -> Result<(Result<(u64, Held), Wrong>, Books), Refused>
+) -> Result<(Told<u64>, Books), Refused>
     requires names { parts ≡ N.parts }
     requires law { IsLaw N.parts N.leads }
 {
     let (kernel, mut accounts, looks) = Kernel::<N>::new(alloc, parts)?;
-    let played = play_on(rt, alloc, plan, &kernel, &mut accounts);
+    let played = play_on(rt, alloc, plan, board, &kernel, &mut accounts);
     let books = close_kernel(alloc, kernel, accounts, looks);
     Ok((played?, books?))
 }
@@ -90,11 +100,10 @@ pub(crate) fn play_round<R: Threads + Wait + Clock + Sync>(
     rt: &R,
     alloc: Global,
     plan: Plan,
-) -> Result<Result<u64, Wrong>, Refused> {
+) -> Result<Told<u64>, Refused> {
+    let board = Board::new(alloc, plan.workers)?;
     let parts = Parts::new(alloc, plan.config, plan.workers)?;
-    let (played, books) = play_named::<Brand, R>(rt, alloc, plan, parts)?;
-    Ok(match played {
-        Ok((taken, held)) => judge(&books.ledger, &held, plan).map(|()| taken),
-        Err(wrong) => Err(wrong),
-    })
+    let (played, books) = play_named::<Brand, R>(rt, alloc, plan, &board, parts)?;
+    let judged = judge(&books.ledger, &board, plan);
+    Ok(played.and_then(|taken| judged.map(|()| taken)))
 }

@@ -1,12 +1,11 @@
 //! A worker: random commands of any process on any record.
+ghost use Rattle.std.specs.Prelude.{◌<◌};
+
 use crate::board::{Board, HINTS, PROCESSES, Words};
 use crate::caller::{Caller, Told};
 use crate::plan::{Chance, Plan};
 use std::time::Clock;
 use xh_model::limits::MAX_WEAR;
-
-/// What was answered that must not be, and to which call.
-pub(crate) type Wrong = (&'static str, &'static str);
 
 /// A worker; how many messages it took, and the first wrong answer.
 #[derive(Drop)]
@@ -20,7 +19,7 @@ pub(crate) struct Worker<'a, C, R> {
     /// Whether each process that the command names has started.
     pub(crate) is_known: bool,
     pub(crate) taken: u64,
-    pub(crate) wrong: Option<Wrong>,
+    pub(crate) wrong: Option<&'static str>,
 }
 
 impl<'a, C: Caller, R: Clock> Worker<'a, C, R> {
@@ -44,7 +43,7 @@ impl<'a, C: Caller, R: Clock> Worker<'a, C, R> {
             return;
         }
         let answer = self.caller.spawn();
-        if let Some(p) = self.judge("spawn", 0, answer, &["NoPlace"]) {
+        if let Some(p) = self.judge(0, answer, &["NoPlace"]) {
             self.board.started.set(p, 1);
             self.board.processes.see(self.number, p, 0);
         }
@@ -65,21 +64,15 @@ impl<'a, C: Caller, R: Clock> Worker<'a, C, R> {
         }
     }
 
-    pub(crate) fn claim(&mut self, is_so: bool, call: &'static str, what: &'static str) {
+    pub(crate) fn claim(&mut self, is_so: bool, wrong: &'static str) {
         if !is_so {
-            self.wrong.get_or_insert((call, what));
+            self.wrong.get_or_insert(wrong);
         }
     }
 
     /// What a call of the process answered. A refusal has to be one of these, or that the process doesn't run.
-    pub(crate) fn judge<T>(
-        &mut self,
-        call: &'static str,
-        p: u16,
-        answer: Told<T>,
-        may: &[&'static str],
-    ) -> Option<T> {
-        match answer {
+    pub(crate) fn judge<T>(&mut self, p: u16, told: Told<T>, may: &[&'static str]) -> Option<T> {
+        match told {
             Ok(it) => Some(it),
             Err(why) => {
                 let is_so = match why {
@@ -89,7 +82,7 @@ impl<'a, C: Caller, R: Clock> Worker<'a, C, R> {
                     "Worn" => self.plan.config.wear < MAX_WEAR && may.contains(&why),
                     _ => may.contains(&why),
                 };
-                self.claim(is_so, call, why);
+                self.claim(is_so, why);
                 None
             }
         }
@@ -112,16 +105,18 @@ impl<'a, C: Caller, R: Clock> Worker<'a, C, R> {
 
     /// One of the arenas for a block, mostly the last, whose records run out. Where all processes are to end the first has
     /// endpoints alone, so that a record tells whether it is one.
-    pub(crate) fn arena(&mut self) -> u32 {
-        let arenas = u32::from(self.plan.config.arenas);
-        let arena = self.chance.below(2 * arenas);
-        arena.clamp(u32::from(self.plan.ends), arenas - 1)
+    pub(crate) fn arena(&mut self) -> u32
+        ensures { result < 256 }
+    {
+        let last = u32::from(self.plan.config.arenas).saturating_sub(1);
+        let arena = self.chance.below(2 * last + 2);
+        arena.max(u32::from(self.plan.ends)).min(last)
     }
 
     /// Any record that there may be, which is a stranger's mostly.
     pub(crate) fn record(&mut self) -> u16 {
-        let index = self.chance.below(u32::from(self.plan.config.records) + 1);
-        (self.arena() * 256 + index) as u16
+        let index = self.chance.below(u32::from(self.plan.config.records) + 1) as u16;
+        (self.arena() as u16).wrapping_mul(256).wrapping_add(index)
     }
 
     /// A process and a record: where one was seen, or by a stranger's numbers. What is to go is taken from the board.
@@ -139,14 +134,15 @@ impl<'a, C: Caller, R: Clock> Worker<'a, C, R> {
         }
     }
 
-    fn mark(&self, p: u16) -> [u8; 8] {
-        [(p % self.plan.groups) as u8 + 1; 8]
+    /// The group of a process, from 1 on.
+    pub(crate) fn group(&self, p: u16) -> u8 {
+        (p % u16::from(self.plan.groups.max(1))) as u8 + 1
     }
 
     // Bytes are 0, or those that are written for processes of the same group.
     fn claim_own(&mut self, p: u16, word: u64) {
-        let is_own = word == 0 || word == u64::from_le_bytes(self.mark(p));
-        self.claim(is_own, "read", "bytes of another group");
+        let is_own = word == 0 || word == u64::from_le_bytes([self.group(p); 8]);
+        self.claim(is_own, "bytes of another group");
     }
 
     /// Tells the others where a block or an end is, if it is there still.
@@ -155,7 +151,7 @@ impl<'a, C: Caller, R: Clock> Worker<'a, C, R> {
         match self.caller.read(p, r, 0) {
             Err("NotData") => self.board.ends.see(slot, p, r),
             answer => {
-                if let Some(word) = self.judge("read", p, answer, &["NotOwned"]) {
+                if let Some(word) = self.judge(p, answer, &["NotOwned"]) {
                     self.claim_own(p, word);
                     self.board.blocks.see(slot, p, r);
                 }
@@ -165,13 +161,13 @@ impl<'a, C: Caller, R: Clock> Worker<'a, C, R> {
 
     fn alloc(&mut self) {
         let (p, arena) = (self.process(), self.arena());
-        let most = [self.plan.config.bytes, 1024, 128, 128][self.chance.below(4) as usize];
-        let bytes = self.chance.below(most.min(self.plan.config.bytes)) + 1;
+        let most = self.plan.config.bytes >> (2 * self.chance.below(8));
+        let bytes = self.chance.below(most).saturating_add(1);
         let answer = self.caller.alloc(p, bytes, arena);
         let may = ["NoRecord", "NoSpace", "Worn", "OutOfMemory"];
-        if let Some(block) = self.judge("alloc", p, answer, &may) {
+        if let Some(block) = self.judge(p, answer, &may) {
             let is_whole = block.len == bytes.div_ceil(16).saturating_mul(16);
-            self.claim(is_whole, "alloc", "another length");
+            self.claim(is_whole, "another length");
             self.meet(p, block.rec);
         }
     }
@@ -181,23 +177,23 @@ impl<'a, C: Caller, R: Clock> Worker<'a, C, R> {
         let at = (self.chance.below(4) + 1) * 16;
         let answer = self.caller.split(p, r, at);
         let may = ["NotOwned", "NotData", "BadCut", "NoRecord", "OutOfMemory"];
-        if let Some((head, tail)) = self.judge("split", p, answer, &may) {
+        if let Some((head, tail)) = self.judge(p, answer, &may) {
             let is_cut = head.rec == r && head.len == at && tail.len > 0;
-            self.claim(is_cut, "split", "another cut");
+            self.claim(is_cut, "another cut");
             self.meet(p, tail.rec);
         }
     }
 
     fn read_or_write(&mut self) {
         let (p, r) = self.seen(&self.board.blocks, false);
-        let (at, bytes) = (self.chance.below(64) * 8, self.mark(p));
+        let (at, bytes) = (self.chance.below(64) * 8, [self.group(p); 8]);
         let answer = if self.chance.one_in(2) {
             self.caller.read(p, r, at)
         } else {
             let written = self.caller.write(p, r, at, &bytes);
             written.map(|()| u64::from_le_bytes(bytes))
         };
-        if let Some(word) = self.judge("read", p, answer, &["NotOwned", "NotData", "BadRange"]) {
+        if let Some(word) = self.judge(p, answer, &["NotOwned", "NotData", "BadRange"]) {
             self.claim_own(p, word);
         }
     }
@@ -205,8 +201,8 @@ impl<'a, C: Caller, R: Clock> Worker<'a, C, R> {
     fn free(&mut self) {
         let (p, r) = self.seen(&self.board.blocks, true);
         let answer = self.caller.free(p, r);
-        if let Some(bytes) = self.judge("free", p, answer, &["NotOwned", "NotData"]) {
-            self.claim(bytes > 0 && bytes % 16 == 0, "free", "no whole units");
+        if let Some(bytes) = self.judge(p, answer, &["NotOwned", "NotData"]) {
+            self.claim(bytes > 0 && bytes % 16 == 0, "no whole units");
         }
     }
 }
