@@ -115,8 +115,8 @@ impl<'a, C: Caller, R: Clock> Worker<'a, C, R> {
 
     /// Any record that there may be, which is a stranger's mostly.
     pub(crate) fn record(&mut self) -> u16 {
-        let index = self.chance.below(u32::from(self.plan.config.records) + 1) as u16;
-        (self.arena() as u16).wrapping_mul(256).wrapping_add(index)
+        let index = self.chance.below(u32::from(self.plan.config.records) + 1);
+        ((self.arena() * 256 + index) % 65_536) as u16
     }
 
     /// A process and a record: where one was seen, or by a stranger's numbers. What is to go is taken from the board.
