@@ -1,4 +1,5 @@
 //! Each call of a process, with ample memory.
+use std::alloc::Global;
 use xh_heap::{
     Answered, Config, Contract, Instant, Job, Process, Refused, Row, Taken, Team, block_of,
     one_arena, run,
@@ -92,19 +93,17 @@ fn channels<P: Process>(own: &mut P, other: &mut P) -> Result<[u64; 8], Refused>
     ])
 }
 
-/// Starts so many processes and keeps them all, if it can.
-fn spawn_all<P: Process>(own: &P, left: u8) -> u64 {
-    if left == 0 {
-        return 0;
+/// Starts so many processes, and keeps them until all are there.
+fn spawn_all<P: Process>(own: &P, alloc: Global, count: u8) -> Result<u64, Refused> {
+    let mut kept = Vec::new(alloc);
+    for _ in 0..count {
+        kept.push(own.spawn()?)?;
     }
-    match own.spawn() {
-        Ok(_kept) => spawn_all(own, left - 1),
-        Err(refused) => code(Err(refused)),
-    }
+    Ok(0)
 }
 
 /// Processes end, or are killed; of 33 handles 30 are left, which come back, and so do the places.
-fn endings<P: Process>(own: &mut P, other: &mut P) -> Result<[u64; 8], Refused> {
+fn endings<P: Process>(own: &mut P, other: &mut P, alloc: Global) -> Result<[u64; 8], Refused> {
     let mut third = own.spawn()?;
     third.alloc(16)?;
     Ok([
@@ -113,14 +112,15 @@ fn endings<P: Process>(own: &mut P, other: &mut P) -> Result<[u64; 8], Refused> 
         code(third.alloc(16).map(|b| u64::from(b.len))),
         code(other.exit().map(|_bytes| 0)),
         code(own.kill(77)),
-        spawn_all(own, 30),
-        spawn_all(own, 31),
+        code(spawn_all(own, alloc, 30)),
+        code(spawn_all(own, alloc, 31)),
         u64::from(own.spawn()?.number()),
     ])
 }
 
 /// All of these, by a process and one that it starts.
-struct Calls;
+#[derive(Drop)]
+struct Calls(Global);
 
 impl Job for Calls {
     type Plan = ();
@@ -137,7 +137,7 @@ impl Job for Calls {
             blocks(own)?,
             messages(own, &mut other)?,
             channels(own, &mut other)?,
-            endings(own, &mut other)?,
+            endings(own, &mut other, self.0)?,
         ])
     }
 }
@@ -154,7 +154,7 @@ fn each_call(rt: HostRuntime) {
         arenas: 2,
         ..one_arena(4096)
     };
-    let mut closed = run(&rt, rt.alloc(), config, 1, &Calls).expect(&rt, "room");
+    let mut closed = run(&rt, rt.alloc(), config, 1, &Calls(rt.alloc())).expect(&rt, "room");
     let answer = closed.answers.pop().expect(&rt, "a worker");
     assert_eq!(rt; answer.expect(&rt, "room"), EXPECTED);
 }

@@ -41,7 +41,7 @@ fn a_dropped_handle_ends_its_process(rt: HostRuntime) {
     const LEDGER: &str =
         "arena 0 1024 0 1 112 112\nprocess 0 ended 0 0\nprocess 1 ended 0 0\nowned 0\nflight 0\nout 0";
     let closed = run(&rt, rt.alloc(), one_arena(1024), 2, &Waits).expect(&rt, "room");
-    assert!(rt; matches!(closed.answers.first(), Some(Ok([1, 2, 1015]))));
+    assert_eq!(rt; told(closed.answers.first()), [1, 2, 1015]);
     let text = format!(in rt.alloc(); "{closed}").expect(&rt, "room");
     assert_eq!(rt; text.as_str(), LEDGER);
 }
@@ -64,14 +64,22 @@ fn limits_of_runs(rt: HostRuntime) {
     }
 }
 
+/// What a worker answered.
+fn told(answer: Option<&Heard>) -> [u64; 3] {
+    match answer {
+        Some(Ok(heard)) => *heard,
+        _ => [0; 3],
+    }
+}
+
 /// Whether a run was whole. Else memory was refused to it, or to the second worker, whose end the first was told.
-fn is_whole(rt: &impl Abort, ran: Result<Closed<(u16, u16), Heard>, Refused>) -> bool {
+fn is_whole(rt: &impl Abort, ran: &Result<Closed<(u16, u16), Heard>, Refused>) -> bool {
     match ran {
-        Ok(closed) => match closed.answers.as_slice() {
-            [Ok([1, 2, 1015]), Ok(_)] => true,
-            [Ok([1015, 1015, 1015]), Err(Refused::OutOfMemory)] => false,
-            _ => panic!(rt; "an answer"),
-        },
+        Ok(closed) => {
+            let first = told(closed.answers.first());
+            assert!(rt; first == [1, 2, 1015] || first == [1015; 3]);
+            first == [1, 2, 1015]
+        }
         Err(refused) => {
             assert_eq!(rt; refused.name(), "OutOfMemory");
             false
@@ -83,8 +91,8 @@ fn is_whole(rt: &impl Abort, ran: Result<Closed<(u16, u16), Heard>, Refused>) ->
 #[test]
 fn growths_of_a_run(rt: HostRuntime) {
     let first = run(&rt, rt.alloc(), one_arena(1024), 2, &Waits);
-    if !is_whole(&rt, first) {
+    if !is_whole(&rt, &first) {
         let second = run(&rt, rt.alloc(), one_arena(1024), 2, &Waits);
-        assert!(rt; is_whole(&rt, second));
+        assert!(rt; is_whole(&rt, &second));
     }
 }

@@ -42,7 +42,7 @@ pub(crate) struct Plan {
     answers: Link,
 }
 
-fn link((out, into): (Block, Block)) -> Link {
+fn link_of((out, into): (Block, Block)) -> Link {
     Link {
         out: out.rec,
         into: into.rec,
@@ -58,16 +58,16 @@ impl Job for Pipeline {
         Ok(Plan {
             first: team.at(FIRST)?.number(),
             watched: [
-                link(team.wire(PRODUCER, SUPERVISOR)?),
-                link(team.wire(FIRST, SUPERVISOR)?),
-                link(team.wire(SECOND, SUPERVISOR)?),
+                link_of(team.wire(PRODUCER, SUPERVISOR)?),
+                link_of(team.wire(FIRST, SUPERVISOR)?),
+                link_of(team.wire(SECOND, SUPERVISOR)?),
             ],
             data: [
-                link(team.wire(PRODUCER, FIRST)?),
-                link(team.wire(FIRST, SECOND)?),
-                link(team.wire(SECOND, SINK)?),
+                link_of(team.wire(PRODUCER, FIRST)?),
+                link_of(team.wire(FIRST, SECOND)?),
+                link_of(team.wire(SECOND, SINK)?),
             ],
-            answers: link(team.wire(SINK, PRODUCER)?),
+            answers: link_of(team.wire(SINK, PRODUCER)?),
         })
     }
 
