@@ -11,7 +11,7 @@ ghost use Rattle.xh_kernel.specs.Histories.{IsLaw};
 ghost use Rattle.xh_model.specs.Config.{IsConfig};
 ghost use Rattle.xh_model.specs.declared.limits.TheConstants.{MAX_WORKERS, PLACES};
 ghost use Rattle.xh_runner.specs.Reports.{HasArenas};
-ghost use Rattle.xh_runner.specs.Runs.{HasRun};
+ghost use Rattle.xh_runner.specs.Runs.{HasRun, RanOn};
 ghost use Rattle.xh_runner.specs.inner.Runs.{HasPlayed};
 ghost use Rattle.xh_script.specs.Scripts.{listing_of};
 
@@ -76,8 +76,8 @@ fn run_script<N: Names + Send + Sync, R: Threads + Wait + Sync, G: Gate + Sync>(
 fn report_of<N: Names>(alloc: Global, kernel: Kernel<N>, ended: Ended<N>) -> Result<Report, Fault>
     requires count { (vec_len ended.accounts ≡ N.parts.workers) × (length ended.names.items ≡ PLACES) }
     requires looks { All (λ l. l.table ≡ N.parts.histories) ended.looks.items }
-    ensures run { IfOk result (λ r. (config : _) (script : _) → AreMadeBy config MAX_WORKERS N.parts → IsLaw N.parts N.leads
-        → HasPlayed N.parts N.leads script ended.answers.items ended.names.items ended.accounts.items ended.looks.items → HasRun config script r) }
+    ensures run { IfOk result (λ r. (config : _) (script : _) → AreMadeBy config MAX_WORKERS N.parts
+        → HasPlayed N.parts N.leads script ended.answers.items ended.names.items ended.accounts.items ended.looks.items → RanOn N.parts N.leads config script r) }
     ensures same { IfOk result (λ r. r.answers.items ≡ ended.answers.items) }
     ensures arenas { IfOk result (λ r. (length r.ledger.arenas.items ≡ length N.parts.records.shape.names) × All (λ a. a.size ≡ N.parts.size) r.ledger.arenas.items) }
     ensures flight { IfOk result (λ r. AreFlightLines r.ledger.flight r.flight.items) }
@@ -113,7 +113,7 @@ fn run_named<N: Names + Send + Sync, R: Threads + Wait + Sync, G: Gate + Sync>(
     requires names { parts ≡ N.parts }
     requires made { AreMadeBy config MAX_WORKERS parts }
     requires law { IsLaw N.parts N.leads }
-    ensures run { IfOk result (HasRun config (listing_of script.now)) }
+    ensures run { IfOk result (RanOn N.parts N.leads config (listing_of script.now)) }
     ensures answers { IfOk result (λ r. AreAnswersTo script.now.lines.items r.answers.items) }
     ensures arenas { IfOk result (λ r. HasArenas config r.ledger) }
     ensures flight { IfOk result (λ r. AreFlightLines r.ledger.flight r.flight.items) }

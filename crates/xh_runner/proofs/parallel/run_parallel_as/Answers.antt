@@ -13,7 +13,7 @@ use Rattle.xh_runner.proofs.parallel.run_parallel_as.Goals as goal
 
 told : (flight : Bool) (config : Config) (s : Script) (r : Report) → HasRun config (listing_of s) r → AreAnswersTo s.lines.items r.answers.items → HasArenas config r.ledger
     → AreFlightLines r.ledger.flight r.flight.items → IsReportTold flight config (listing_of s) (told_text flight r)
-told flight config s r run lines arenas in_flight = record { report = r; run = run; lines = lines; arenas = arenas; balanced = run.closed.balanced; in_flight = in_flight; text = refl }
+told flight config s r run lines arenas in_flight = record { report = r; run = run; lines = lines; arenas = arenas; balanced = run.1.closed.balanced; in_flight = in_flight; text = refl }
 
 pub returns-clause-ok : goal.returns-clause-ok
 returns-clause-ok g c =

@@ -1,11 +1,8 @@
 use Rattle.xh_runner.proofs.threads.report_of.Goals as goal
 
 pub returns-in-Ok-clause-run : goal.returns-in-Ok-clause-run
-returns-in-Ok-clause-run g c = λ config script made law p. record {
-  parts = g.N.Names.parts;
+returns-in-Ok-clause-run g c = λ config script made p. record {
   made = made;
-  leads = g.N.Names.leads;
-  law = law;
   workers = p.workers;
   left = p.left;
   are_new = p.are_new;
