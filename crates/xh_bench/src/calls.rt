@@ -73,7 +73,7 @@ struct Player<'a, N: Names, R> {
     ends: (u16, u16),
     blocks: Vec<u16>,
     bytes: Vec<u8>,
-    ghost own: { look.glances ≡ N.parts.glances },
+    ghost own: { look.table ≡ N.parts.histories },
 }
 
 impl<'a, N: Names, R: Wait> Player<'a, N, R> {
@@ -237,20 +237,24 @@ impl<'a, R: Host> Trial<'a, R> {
     }
 
     // On the kernel of the parts.
-    fn over<N: Names + Send + Sync>(&self, parts: Parts, call: Call) -> Option<Times>
+    fn over<N: Names + Send + Sync>(
+        &self,
+        parts: Parts,
+        call: Call,
+    ) -> Result<Option<Times>, Refused>
         requires names { parts ≡ N.parts }
         requires law { IsLaw N.parts N.leads }
     {
-        let (heap, mut accounts, looks) = Kernel::<N>::new(self.alloc, parts).ok()?;
+        let (heap, mut accounts, looks) = Kernel::<N>::new(self.alloc, parts)?;
         let times = self.on(&heap, &mut accounts, looks, call);
         heap.discard();
         drop(accounts);
-        times
+        Ok(times)
     }
 
     /// A process for each thread, which does this.
     pub(crate) fn of_call(&self, call: Call) -> Option<Times> {
         let parts = Parts::new(self.alloc, CONFIG, self.threads).ok()?;
-        self.over::<Brand>(parts, call)
+        self.over::<Brand>(parts, call).ok()?
     }
 }
