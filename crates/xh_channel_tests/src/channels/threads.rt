@@ -180,7 +180,7 @@ fn a_hundred_thousand_messages_come_in_order(rt: HostRuntime) {
 
 #[test]
 fn a_put_races_a_shut(rt: HostRuntime) {
-    for _ in 0..64 {
+    for _ in 0..16 {
         play(&rt, rt.alloc(), 16, Scene::Each(FREE, Act::PutAndShut, 64));
     }
 }
@@ -196,7 +196,7 @@ fn a_take_races_a_put_and_a_shut(rt: HostRuntime) {
         (1, Rouse, Done),
         (1, Takes(2, Busily), Count(1)),
     ];
-    for _ in 0..50 {
+    for _ in 0..16 {
         let act = Act::SideBySide(0, ROWS);
         play(&rt, rt.alloc(), 1, Scene::Each(FREE, act, 64));
     }
