@@ -1,5 +1,5 @@
 //! A gate that notes where calls stop for it.
-use crate::held::word_of;
+use crate::held::{code_of, word_of};
 use arrayvec::ArrayVec;
 use std::alloc::Global;
 use std::cell::{Cell, RefCell};
@@ -7,11 +7,11 @@ use std::io::Write;
 use xh_runner::{Gate, Point};
 use xh_script::{Fault, Watched, write_bytes};
 
-/// The line whose command is done, and the line, the place and the word of each stop, up to the 64th.
+/// The line whose command is done, and the line, the place and the point's code of each stop, up to the 64th.
 #[derive(Drop)]
 pub(crate) struct Points {
     line: Cell<u32>,
-    stops: RefCell<ArrayVec<(u32, u8, &'static str), 64>>,
+    stops: RefCell<ArrayVec<(u32, u8, u32), 64>>,
 }
 
 impl Points {
@@ -30,7 +30,8 @@ impl Points {
     /// Writes a line for each stop.
     pub(crate) fn write<W: Write>(&self, alloc: Global, out: &mut Watched<W>) -> Result<(), Fault> {
         if let Ok(stops) = self.stops.try_borrow() {
-            for (line, place, word) in stops.iter() {
+            for (line, place, code) in stops.iter() {
+                let word = word_of(*code);
                 let text = format!(in alloc; "{line} at {place} {word}\n")?;
                 write_bytes(out, text.as_bytes())?;
             }
@@ -49,7 +50,7 @@ impl Gate for Points {
     fn between(&self, place: u8, point: Point) {
         if let Ok(mut stops) = self.stops.try_borrow_mut() {
             let _full = stops
-                .try_push((self.line.get(), place, word_of(point)))
+                .try_push((self.line.get(), place, code_of(point)))
                 .is_err();
         }
     }
