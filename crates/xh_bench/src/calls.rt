@@ -31,8 +31,6 @@ pub(crate) enum Call {
     /// It reads or writes all bytes of a block.
     Read(u32),
     Write(u32),
-    /// It makes a channel and closes both ends.
-    OpenClose,
     /// It kills a process that has so many blocks.
     Kill(u16),
     /// It looks at a place.
@@ -121,14 +119,6 @@ impl<'a, N: Names, R: Wait> Player<'a, N, R> {
         freed.ok().map(drop)
     }
 
-    fn open_close(&mut self) -> Option<()> {
-        let (rt, heap, p) = (self.rt, self.heap, self.process);
-        let (low, high) = self.wire(p)?;
-        heap.close(rt, p, low, self.account, &OpenGate).ok()?;
-        heap.close(rt, p, high, self.account, &OpenGate).ok()?;
-        Some(())
-    }
-
     // Gives the blocks, once there is room.
     fn give(&mut self) -> Option<()> {
         let (rt, heap, p, end) = (self.rt, self.heap, self.process, self.ends.0);
@@ -172,7 +162,6 @@ impl<'a, N: Names, R: Wait> Step for Player<'a, N, R> {
             Call::GiveTake(_) => self.give().and(self.take(false)),
             Call::Read(_) => heap.read(rt, p, block?, 0, bytes, account, gate).ok(),
             Call::Write(_) => heap.write(rt, p, block?, 0, bytes, account, gate).ok(),
-            Call::OpenClose => self.open_close(),
             Call::Kill(_) => {
                 let victim = self.blocks.pop()?;
                 let killed = heap.kill(rt, p, victim, MAX_BUDGET, account, gate);

@@ -1,10 +1,8 @@
 //! The table of measures.
 use crate::calls::Call;
-use crate::calls::Call::{
-    AllocFree, Give, GiveTake, Glance, Kill, OpenClose, PingPong, Read, Write,
-};
+use crate::calls::Call::{AllocFree, Give, GiveTake, Glance, Kill, PingPong, Read, Write};
 use crate::parts::Part::{
-    Channel, Copied, Exchange, Load, Lock, Pass, PushPop, PutTake, Script, ToAndFro, Zeroed,
+    Copied, Exchange, Load, Lock, Pass, PushPop, PutTake, Script, ToAndFro, Zeroed,
 };
 use crate::parts::Parts;
 use crate::turns::{Host, Step, Times, by_turns, slice};
@@ -52,7 +50,6 @@ pub(crate) const MEASURES: &[Row] = &[
     ("read_4096", 1, Of(Read(4096)), 200, COPY_4K),
     ("write_16", 1, Of(Write(16)), 200, COPY_16),
     ("write_4096", 1, Of(Write(4096)), 200, COPY_4K),
-    ("open_close", 1, Of(OpenClose), 200, &[(2, Channel)]),
     ("kill_16", 1, Of(Kill(16)), 250, KILL_16),
     ("kill_256", 1, Of(Kill(256)), 250, KILL_256),
     ("glance", 1, Of(Glance), 200, &[(1, Load)]),

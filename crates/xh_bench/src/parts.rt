@@ -27,9 +27,7 @@ pub(crate) enum Part {
     Copied(usize),
     /// A message is pushed to a queue of `crossbeam_queue` and popped.
     PushPop,
-    /// A channel of `crossbeam_channel` is made and dropped.
-    Channel,
-    /// The first of two threads sends a message by such a channel, and the second receives it.
+    /// The first of two threads sends a message by a channel of `crossbeam_channel`, and the second receives it.
     Pass,
     /// The first sends a message and waits for one; the second waits for it and sends one.
     ToAndFro,
@@ -117,7 +115,6 @@ impl Worker {
                 self.queue.push(rt, MESSAGE).ok()?;
                 self.queue.pop(rt)?;
             }
-            Part::Channel => drop(bounded::<Message, Global>(self.alloc, 16).ok()?),
             Part::Pass => return self.pass(rt, first),
             Part::ToAndFro => return self.pass(rt, first).and(self.pass(rt, !first)),
             Part::PutTake => return self.put_take(rt),
