@@ -1,7 +1,7 @@
-// Preloaded into a program: refuses its N-th growth of memory, N from REFUSE_GROWTH, and where REFUSE_REST is set
-// each growth after it too; it then makes the file that REFUSE_TOLD names. Every other growth is granted. Where
-// REFUSE_THREAD is set, the growths are those of one thread: of the first, 0, or of the one that was made so many threads
-// after it; the file that REFUSE_BEGUN names is then there if that thread began.
+// Preloaded into a program: refuses its N-th growth of memory, N from REFUSE_GROWTH, and where REFUSE_REST is set each
+// growth after it too; every other growth is granted. Where REFUSE_THREAD is set, the growths are those of one thread:
+// of the first, 0, or of the one that was made so many threads after it. The file that REFUSE_TOLD names is told
+// 'refused' of each growth that is refused, and 'begun' where that thread began.
 #define _GNU_SOURCE
 #include <dlfcn.h>
 #include <errno.h>
@@ -10,13 +10,15 @@
 #include <pthread.h>
 #include <stdatomic.h>
 #include <stdlib.h>
+#include <string.h>
 #include <unistd.h>
 
 #define EARLY __attribute__((tls_model("initial-exec")))
-#define THREADS 1024
 
-static void *(*grant)(size_t);
-static void *(*regrow)(void *, size_t);
+// The C library's own.
+void *__libc_malloc(size_t);
+void *__libc_realloc(void *, size_t);
+
 static atomic_long count;
 // The numbers of the growths that are refused, from the first to the last.
 static long first = LONG_MAX;
@@ -28,67 +30,60 @@ static _Thread_local EARLY long own;
 static _Thread_local EARLY long own_count;
 
 // What a thread begins with.
-static struct {
+struct begun {
     void *(*start)(void *);
     void *argument;
-} begun[THREADS];
+    long number;
+};
 
-static void tell(const char *name) {
-    const char *file = getenv(name);
-    if (file)
-        close(open(file, O_CREAT | O_WRONLY, 0600));
+static void tell(const char *word) {
+    int file = open(getenv("REFUSE_TOLD"), O_WRONLY | O_APPEND);
+    if (write(file, word, strlen(word)) < 0)
+        abort();
+    close(file);
 }
 
 __attribute__((constructor)) static void start(void) {
-    const char *number = getenv("REFUSE_GROWTH");
     const char *of = getenv("REFUSE_THREAD");
-    grant = dlsym(RTLD_NEXT, "malloc");
-    regrow = dlsym(RTLD_NEXT, "realloc");
-    atomic_store(&count, 0);
-    own_count = 0;
-    first = number ? atol(number) : LONG_MAX;
+    count = own_count = 0;
+    first = atol(getenv("REFUSE_GROWTH"));
     last = getenv("REFUSE_REST") ? LONG_MAX : first;
     thread = of ? atol(of) : -1;
     if (thread == 0)
-        tell("REFUSE_BEGUN");
+        tell("begun\n");
 }
 
 static int is_refused(void) {
     if (thread >= 0 && own != thread)
         return 0;
-    long number = thread >= 0 ? ++own_count : atomic_fetch_add(&count, 1) + 1;
+    long number = thread >= 0 ? ++own_count : ++count;
     if (number < first || number > last)
         return 0;
-    tell("REFUSE_TOLD");
+    tell("refused\n");
     errno = ENOMEM;
     return 1;
 }
 
 void *malloc(size_t size) {
-    if (!grant)
-        grant = dlsym(RTLD_NEXT, "malloc");
-    return is_refused() ? NULL : grant(size);
+    return is_refused() ? NULL : __libc_malloc(size);
 }
 
 void *realloc(void *old, size_t size) {
-    if (!regrow)
-        regrow = dlsym(RTLD_NEXT, "realloc");
-    return is_refused() ? NULL : regrow(old, size);
+    return is_refused() ? NULL : __libc_realloc(old, size);
 }
 
-static void *begin(void *number) {
-    own = (long)number;
+static void *begin(void *given) {
+    struct begun it = *(struct begun *)given;
+    free(given);
+    own = it.number;
     if (own == thread)
-        tell("REFUSE_BEGUN");
-    return begun[own].start(begun[own].argument);
+        tell("begun\n");
+    return it.start(it.argument);
 }
 
 int pthread_create(pthread_t *to, const pthread_attr_t *how, void *(*start)(void *), void *argument) {
     int (*make)(pthread_t *, const pthread_attr_t *, void *(*)(void *), void *) = dlsym(RTLD_NEXT, "pthread_create");
-    long number = atomic_fetch_add(&made, 1) + 1;
-    if (number >= THREADS)
-        return EAGAIN;
-    begun[number].start = start;
-    begun[number].argument = argument;
-    return make(to, how, begin, (void *)number);
+    struct begun *it = __libc_malloc(sizeof *it);
+    *it = (struct begun){start, argument, ++made};
+    return make(to, how, begin, it);
 }

@@ -1,17 +1,16 @@
-"""What a script answers, by docs/SCRIPT.md and by nothing of the program: a heap that does commands one by one (`serial`), and
+"""What a script answers, by docs/SCRIPT.md and by nothing of the program: a heap that does commands one by one, and
 what is so of a run on threads whatever its schedule was (`follow`)."""
 import soak_reader
+from judging import claim, claim_same
 
 REFUSALS = """OutOfMemory BadSize NoArena NoSpace NoRecord NotOwned NotData NotEndpoint BadCut BadRange NoProcess Ended
 NoChannel Full PeerClosed Empty TooMany Twice Worn Unfinished NoPlace Protocol""".split()
+# These are done by a process that runs.
+BY_RUNNING = b"open alloc split read write free give take await close".split()
 
 
 class Refused(Exception):
     """Its words are those of the reply: a name, and what is counted."""
-
-
-class Wrong(Exception):
-    pass
 
 
 class Later(Exception):
@@ -25,11 +24,6 @@ class Unsure(Exception):
 def need(is_so, *words):
     if not is_so:
         raise Refused(*words)
-
-
-def claim(is_so, text):
-    if not is_so:
-        raise Wrong(text)
 
 
 class Arena:
@@ -54,8 +48,8 @@ class Block:
 
 
 class Channel:
-    """For each side: whether it is open, the messages on their way to it by their numbers, and the latest that was sent to it
-    and taken there."""
+    """For each side: whether it is open, the messages on their way to it by their numbers, and the latest that was
+    sent to it and taken there."""
 
     def __init__(self, rows):
         self.rows, self.is_open, self.waiting, self.sent, self.taken = rows, [True, True], ({}, {}), [0, 0], [0, 0]
@@ -88,9 +82,9 @@ def size_of(blocks):
 
 
 class Heap:
-    """`said`: in a run on threads the words that a command was answered with; they decide what others have a part in. Then
-    `mortal` are the names of processes that ended at some time, and `victims` of those that were killed; `reclaimed` counts
-    the bytes that endings and closings gave back, all of them unless the run `is_partial`."""
+    """`said`: in a run on threads the words that a command was answered with; they decide what others have a part in.
+    Then `mortal` are the names of processes that ended at some time, and `victims` of those that were killed;
+    `reclaimed` counts the bytes that endings and closings gave back, all of them unless the run `is_partial`."""
 
     def __init__(self, options):
         self.options, self.said, self.reclaimed, self.is_partial = options, None, 0, False
@@ -102,6 +96,7 @@ class Heap:
         """The reply, without the line's number."""
         self.said = said
         try:
+            by = self.running(by) if verb in BY_RUNNING else by
             words = ["ok", *(getattr(self, f"do_{verb.decode()}")(by, *values) or [])]
         except Refused as refused:
             words = ["no", REFUSALS.index(refused.args[0]) + 1, *refused.args]
@@ -122,7 +117,8 @@ class Heap:
         return process.state == "ended" or self.is_replaced(process)
 
     def running(self, name, *states):
-        """A process that runs, or is in one of these states. On threads one that has ended says so until it starts again."""
+        """A process that runs, or is in one of these states. On threads one that has ended says so until it starts
+        again."""
         process = self.process(name)
         if self.said and "Ended" in self.said:
             claim(name in self.mortal, f"{name} has ended, and nobody ended it")
@@ -156,7 +152,8 @@ class Heap:
         return len(block)
 
     def new_process(self, name):
-        at = next((at for at, it in enumerate(self.places) if it.state == "ended" and it.number < 4064), len(self.places))
+        free = (at for at, it in enumerate(self.places) if it.state == "ended" and it.number < 4064)
+        at = next(free, len(self.places))
         self.ask(at < 32, "NoPlace")
         number = int(self.said[1]) if self.said else self.places[at].number + 32 if at < len(self.places) else at
         claim(number < 4096, f"no process: {self.said}")
@@ -181,19 +178,18 @@ class Heap:
         p.bind(e, Block(number, start, bytearray(32), channel, 0))
         q.bind(f, Block(number, start + 32, bytearray(32), channel, 1))
 
-    def do_open(self, by, e, f, *rest):
-        self.do_wire(by, by, e, by, f, *rest)
+    def do_open(self, process, e, f, *rest):
+        self.do_wire(None, process.name, e, process.name, f, *rest)
 
-    def do_alloc(self, by, x, count, number):
-        process, arena = self.running(by), self.arena(number)
+    def do_alloc(self, process, x, count, number):
+        arena = self.arena(number)
         need(0 < count <= arena.size, "BadSize")
         self.ask(True, "OutOfMemory")
         data = bytearray(-(-count // 16) * 16)
         process.bind(x, Block(number, self.carve(arena, len(data), 1), data))
         return [len(data)]
 
-    def do_split(self, by, x, at, t):
-        process = self.running(by)
+    def do_split(self, process, x, at, t):
         block = process.block(x, False)
         need(at % 16 == 0 and 0 < at < len(block), "BadCut")
         self.ask(True, "OutOfMemory")
@@ -205,37 +201,37 @@ class Heap:
         process.bind(t, tail)
         return [len(block), len(tail)]
 
-    def bytes_of(self, by, x, at, count):
-        block = self.running(by).block(x, False)
+    def bytes_of(self, process, x, at, count):
+        block = process.block(x, False)
         need(at + count <= len(block), "BadRange")
         return block.data
 
-    def do_read(self, by, x, at, count):
-        return [self.bytes_of(by, x, at, count)[at : at + count].hex()]
+    def do_read(self, process, x, at, count):
+        return [self.bytes_of(process, x, at, count)[at : at + count].hex()]
 
-    def do_write(self, by, x, at, text):
+    def do_write(self, process, x, at, text):
         new = bytes.fromhex(text.decode())
-        self.bytes_of(by, x, at, len(new))[at : at + len(new)] = new
+        self.bytes_of(process, x, at, len(new))[at : at + len(new)] = new
 
-    def do_free(self, by, x):
-        process = self.running(by)
+    def do_free(self, process, x):
         block = process.block(x, False)
         process.unbind([block])
         return [self.give_back(block)]
 
     def move(self, end, side, tag):
-        """The end's state after a message of this tag by this side; None where its contract allows none, or it has none."""
-        return next((to for state, word, by, to in end.channel.rows or () if (state, word, by) == (end.state, tag, side)), None)
+        """The end's state after a message of this tag by this side; None where its contract allows none, or it has
+        none."""
+        return next((row[3] for row in end.channel.rows or () if row[:3] == (end.state, tag, side)), None)
 
-    def do_give(self, by, e, tag, *names):
-        process = self.running(by)
+    def do_give(self, process, e, tag, *names):
         end = process.block(e, True)
         channel, to, state = end.channel, 1 - end.side, self.move(end, end.side, tag)
         need(len(names) <= 8, "TooMany")
         blocks = [process.block(name) for name in names]
         need(len({*blocks, end}) > len(blocks), "Twice")
         need(not channel.rows or state is not None, "Protocol")
-        if self.said and "PeerClosed" in self.said:  # in the midst of it, perhaps: what was sent is reclaimed at the peer
+        if self.said and "PeerClosed" in self.said:
+            # In the midst of it, perhaps: what was sent is reclaimed at the peer.
             back = int(self.said[3])
             if 0 < back < len(blocks):
                 raise Unsure
@@ -249,8 +245,7 @@ class Heap:
         channel.waiting[to][channel.sent[to]] = tag, blocks
         return [channel.sent[to]]
 
-    def do_take(self, by, e, *names, waits=False):
-        process = self.running(by)
+    def do_take(self, process, e, *names, waits=False):
         end = process.block(e, True)
         channel, side = end.channel, end.side
         number = channel.taken[side] + 1
@@ -269,8 +264,8 @@ class Heap:
         process.held += blocks
         return [number, tag, *map(len, blocks)]
 
-    def do_await(self, by, e, *names):
-        return self.do_take(by, e, *names, waits=True)
+    def do_await(self, process, e, *names):
+        return self.do_take(process, e, *names, waits=True)
 
     def sweep(self, process, at, budget):
         """The bytes that so many blocks gave back, from this one of the process on."""
@@ -285,8 +280,7 @@ class Heap:
             count += self.give_back(block)
         return count
 
-    def do_close(self, by, e):
-        process = self.running(by)
+    def do_close(self, process, e):
         end = process.block(e, True)
         process.unbind([end])
         if self.said:
@@ -349,12 +343,13 @@ class Heap:
 
     def flight(self):
         """Each direction on which blocks wait, and these."""
-        ways = ((2 * at + side, channel.blocks_to(side)) for at, channel in enumerate(self.channels) for side in (0, 1))
-        return [way for way in ways if way[1]]
+        ways = [channel.blocks_to(side) for channel in self.channels for side in (0, 1)]
+        return [(way, blocks) for way, blocks in enumerate(ways) if blocks]
 
     def ledger(self):
         for at, it in enumerate(self.arenas):
-            yield f"arena {at} {it.size} {it.taken - it.back} {sum(map(bool, it.units.split(b'#')))} {it.taken} {it.back}"
+            holes = sum(map(bool, it.units.split(b"#")))
+            yield f"arena {at} {it.size} {it.taken - it.back} {holes} {it.taken} {it.back}"
         for it in self.places:
             yield f"process {it.name.decode()} {it.state} {len(it.held)} {size_of(it.held)}"
         yield f"owned {sum(size_of(it.held) for it in self.places)}"
@@ -364,21 +359,16 @@ class Heap:
             yield from (f"direction {way} {len(blocks)} {size_of(blocks)}" for way, blocks in self.flight())
 
 
-def serial(script, options):
-    """What the serial machine prints."""
-    heap = Heap(options)
-    lines = [f"{number} {heap.step(by, verb, values)}" for number, by, verb, values in script.commands]
-    return [*lines, *heap.ledger()]
-
-
-def follow(script, options, lines, may_starve):
-    """Claims what is so of a run on threads: each process's commands in their order, a take behind its give. Numbers of
-    messages, lengths and bytes are certain, since who holds an endpoint is; what is left to the schedule is as was said."""
+def follow(commands, options, lines, may_starve):
+    """Claims what is so of a run on threads: each process's commands in their order, a take behind its give. Numbers
+    of messages, lengths and bytes are certain, since who holds an endpoint is; what is left to the schedule is as was
+    said."""
     heap, waiting = Heap(options), {}
     claim(sum("OutOfMemory" in line for line in lines) <= may_starve, "OutOfMemory")
-    for (number, by, verb, values), line in zip(script.commands, lines):
+    for (number, by, verb, values), line in zip(commands, lines):
         at, *said = line.split(" ")
-        claim(at == str(number) and said[:1] in (["ok"], ["no"]) and all(map(str.isalnum, said)), f"no reply of line {number}: {line}")
+        is_reply = at == str(number) and said[:1] in (["ok"], ["no"]) and all(map(str.isalnum, said))
+        claim(is_reply, f"no reply of line {number}: {line}")
         waiting.setdefault(by, []).append((verb, values, said))
         if verb in (b"exit", b"kill") and (said[0] == "ok" or "Unfinished" in said):
             heap.mortal.add(by if verb == b"exit" else values[0])
@@ -389,7 +379,7 @@ def follow(script, options, lines, may_starve):
         pass
     claim(not any(waiting.values()), f"what was taken there nobody gave: {[it[0] for it in waiting.values() if it]}")
     claim(not any(heap.drained), "what was given to an end was not taken there, and its peer is closed")
-    judge_ledger(heap, [line.split(" ") for line in lines[len(script.commands) :]])
+    judge_ledger(heap, [line.split(" ") for line in lines[len(commands) :]])
 
 
 def follow_one(heap, by, commands):
@@ -412,24 +402,25 @@ def judge_ledger(heap, rows):
     for at, (row, arena) in enumerate(zip(arenas, heap.arenas)):
         claim(row[:3] == ["arena", str(at), str(arena.size)] and len(row) == 7, f"no line of an arena: {row}")
         here, holes, came, went = map(int, row[3:])
-        claim(came == arena.taken and here == came - went and here <= arena.size and went >= arena.back, f"an arena: {row}")
-        claim((holes > 0) == (here < arena.size) and holes * 16 <= arena.size - here, f"holes: {row}")
+        is_so = came == arena.taken and here == came - went and here <= arena.size and went >= arena.back
+        claim(is_so and (holes > 0) == (here < arena.size) and holes * 16 <= arena.size - here, f"an arena: {row}")
         out, back = out + here, back + went
     wanted = sum(it.back for it in heap.arenas) + heap.reclaimed
     claim(back == wanted or heap.is_partial and back > wanted, f"{back} came back, by the replies {wanted}")
     places = [row for row in rows[len(arenas) :] if row[0] == "process"]
     owned = sum(judge_place(heap, at, *row[1:]) for at, row in enumerate(places))
     sums, flight = rows[len(arenas) + len(places) :][:3], rows[len(arenas) + len(places) + 3 :]
-    claim(sums == [["owned", str(owned)], ["flight", str(out - owned)], ["out", str(out)]], f"{owned} owned, {out} out: {sums}")
+    claim(sums == [["owned", str(owned)], ["flight", str(out - owned)], ["out", str(out)]], f"{owned}, {out}: {sums}")
     judge_flight(heap, out - owned, flight, all(row[2] == "ended" for row in places))
 
 
 def judge_place(heap, at, name, state, *held):
     process, (blocks, count) = heap.processes.get(name.encode()), map(int, held)
-    claim(process and count % 16 == 0 and count >= 16 * blocks and (count == 0) == (blocks == 0), f"{name} holds {held}")
-    claim({"running": True, "ending": blocks > 0, "ended": blocks == 0}[state], f"{name} is {state} with {held}")
-    if heap.is_certain(process) and process.number % 32 == at:
-        claim((state, blocks, count) == ("running", len(process.held), size_of(process.held)), f"{name} is {state} with {held}")
+    is_so = process and count % 16 == 0 and count >= 16 * blocks and (count == 0) == (blocks == 0)
+    is_so = is_so and {"running": True, "ending": blocks > 0, "ended": blocks == 0}[state]
+    if is_so and heap.is_certain(process) and process.number % 32 == at:
+        is_so = (state, blocks, count) == ("running", len(process.held), size_of(process.held))
+    claim(is_so, f"{name} is {state} with {held}")
     return count
 
 
@@ -440,31 +431,26 @@ def judge_flight(heap, count, rows, is_over):
         there = {(it.channel, it.side) for blocks in ways.values() for it in blocks if it.channel}
         kept = {way: blocks for way, blocks in ways.items() if way in there}
         is_over, ways = len(kept) < len(ways), kept
-    numbers = [tuple(map(int, row[1:])) for row in rows]
-    claim(all(row[0] == "direction" for row in rows) and numbers == sorted(numbers), f"no lines of directions: {rows}")
-    claim(sum(it[2] for it in numbers) == count or "--flight" not in heap.options, f"{count} in flight: {rows}")
-    most = sum(map(size_of, ways.values()))
-    claim(count <= most and len(rows) <= len(ways) and (heap.mortal or heap.reclaimed or count == most), f"{count} in flight: {rows}, by the replies {most}")
+    numbers, most = [tuple(map(int, row[1:])) for row in rows], sum(map(size_of, ways.values()))
+    is_so = all(row[0] == "direction" for row in rows) and numbers == sorted(numbers) and len(rows) <= len(ways)
+    is_so = is_so and ("--flight" not in heap.options or sum(it[2] for it in numbers) == count) and count <= most
+    claim(is_so and (heap.mortal or heap.reclaimed or count == most), f"{count} of {most} in flight: {rows}")
 
 
-def judge(text, options, is_serial, may_starve, status, out, err):
-    """What is wrong with an answer, or None. Where a growth may have been refused, that may be the answer."""
-    script, fault = soak_reader.read(text)
-    if fault or may_starve and status == 3:
-        told = f"line {fault[0]}: {fault[1]}" if fault and status != 3 else "out of memory"
-        wanted = (1 if status != 3 else 3, b"", f"xheap: {told}\n".encode())
-        return None if (status, out, err) == wanted and (may_starve or status != 3) else f"wanted {wanted}, it was {(status, out, err)}"
-    if status != 0 or err or not out.endswith(b"\n"):
-        return f"status {status}, {err!r}, {out!r}"
-    lines = out.decode("ascii", "replace")[:-1].split("\n")
-    is_alone = [it[2] for it in script.commands].count(b"process") == 1
-    if is_serial or is_alone and not may_starve:
-        wanted = serial(script, options)
-        return None if wanted == lines else f"wanted and printed: {[it for it in zip(wanted, lines) if it[0] != it[1]][:3]}"
-    try:
-        follow(script, options, lines, may_starve)
-    except (Wrong, ValueError, IndexError) as wrong:
-        return str(wrong)
-    except Unsure:
-        pass
-    return None
+def judge(text, options, is_serial, answer):
+    """Where a growth was refused, that may be the answer."""
+    commands, fault = soak_reader.read(text)
+    if answer.is_refused and answer.status == 3:
+        claim_same(answer, (3, b"", b"xheap: out of memory\n"))
+    elif fault:
+        claim_same(answer, (1, b"", "xheap: line {}: {}\n".format(*fault).encode()))
+    elif is_serial or [it[2] for it in commands].count(b"process") == 1 and not answer.is_refused:
+        heap = Heap(options)
+        lines = [f"{number} {heap.step(by, verb, values)}" for number, by, verb, values in commands]
+        claim_same(answer, (0, "\n".join([*lines, *heap.ledger(), ""]).encode(), b""))
+    else:
+        claim(answer.status == 0 and not answer.err and answer.out.endswith(b"\n"), str(answer))
+        try:
+            follow(commands, options, answer.out.decode("ascii", "replace")[:-1].split("\n"), answer.is_refused)
+        except Unsure:
+            pass

@@ -1,26 +1,30 @@
-"""Small random scripts for threads, and the search for an order of their commands in which the heap of soak_machine.py gives
-the same replies and the same ledger."""
+"""Small random scripts for threads, and the search for an order of their commands in which the heap of soak_machine.py
+gives the same replies and the same ledger."""
 import pickle
 import random
 import re
 
 import soak_machine
 import soak_reader
+from judging import claim
 
 # No search has more steps of the heap than this.
 STEPS = 4000
 # What a process does, with a block and an endpoint of its own at random.
-WORKING = """alloc {x} {size} 0|alloc {x} {size} 0|alloc {x} {size} 0|split {x} 16 {x}|read {x} 0 4|write {x} 1 0{digit}
-give {e} {digit} {x}|give {e} {digit} {x}|give {e} 9 {x} {x}|give {e} 10 {e}|take {e} {x}|take {e} {x}|take {e} {x} {x}
-free {x}|free {x}|glance {me}"""
-# Where processes and channels end a give carries at most one block, and only the first process kills, which doesn't end.
+WORKING = """alloc {x} {size} 0|alloc {x} {size} 0|alloc {x} {size} 0|split {x} 16 {x}|read {x} 0 4
+write {x} 1 0{digit}|give {e} {digit} {x}|give {e} {digit} {x}|give {e} 9 {x} {x}|give {e} 10 {e}|take {e} {x}
+take {e} {x}|take {e} {x} {x}|free {x}|free {x}|glance {me}"""
+# Where processes and channels end a give carries at most one block, and only the first process kills, which doesn't
+# end.
 ENDING = """alloc {x} {size} 0|alloc {x} {size} 0|alloc {x} {size} 0|give {e} {digit} {x}|give {e} {digit} {x}
-give {e} {digit} {x}|give {e} 10|take {e} {x}|take {e} {x}|free {x}|glance {me}|close {e}|close {e}|{end}|{end} 1|{again}"""
+give {e} {digit} {x}|give {e} 10|take {e} {x}|take {e} {x}|free {x}|glance {me}|close {e}|close {e}|{end}|{end} 1
+{again}"""
 CARRYING = """alloc {x} 16 7|give {e} 65535 u v w x y|give {e} 40000 y x w v u z|give {e} 32768 z y x w v u s t
 give {e} {digit} {x}|take {e} u v w x y z s t|take {e} s t u v w x y z|free {x}"""
 EIGHT = "alloc u 16 7|alloc v 512 6|alloc w 16 7|alloc x 48 5|alloc y 16 7|alloc z 16 0|alloc s 32 7|alloc t 16 1"
 PAIR, RING, STAR = ["a e b f"], ["a e b f", "b g c h", "c i a j"], ["a e b f", "a g c h"]
-# Arenas, their bytes and the depth; the wires; the commands that each process begins with, and those that it has at random.
+# Arenas, their bytes and the depth; the wires; the commands that each process begins with, and those that it has at
+# random.
 SETTINGS = [
     ((1, 144, 1), PAIR, "", WORKING),
     ((1, 256, 1), RING, "", WORKING),
@@ -32,70 +36,73 @@ SETTINGS = [
 
 
 def make(seed):
-    """The script and its options. All wait for a process z, so that they begin at once; and between their commands are reads of nothing, which take time."""
-    chance = random.Random(seed)
+    """The script and its options. All wait for a process z, so that they begin at once; and between their commands are
+    reads of nothing, which take time."""
+    chance, ends = random.Random(seed), {}
     (arenas, size, depth), wires, first, commands = SETTINGS[seed % len(SETTINGS)]
-    ends = {}
-    for name, end in (it for wire in wires for it in (wire.split()[:2], wire.split()[2:])):
+    for name, end in re.findall(r"(\w) (\w)", " ".join(wires)):
         ends.setdefault(name, []).append(end)
-    lines = [f"process {name}" for name in [*ends, "z"]] + [f"wire {wire} 0" for wire in wires] + [f"wire z {name} {name} start 0" for name in ends]
+    lines = [f"process {name}" for name in [*ends, "z"]]
+    lines += [f"wire {it} 0" for it in [*wires, *(f"z {name} {name} start" for name in ends)]]
     for me, own in ends.items():
         end, again = ("kill b", "kill c") if me == "a" else ("exit", "again")
-        words = {"x": "xyz", "e": own, "size": ["16", "32", "48"], "digit": "012345678", "me": [me], "end": [end], "again": [again]}
+        words = {"x": "xyz", "e": own, "size": ["16", "32", "48"], "digit": "012345678"}
+        words |= {"me": [me], "end": [end], "again": [again]}
         drawn = [chance.choice(re.split(r"\||\n", commands)) for _ in range(chance.randint(1, 7))]
         lines.append(f"{me} await start")
         for it in filter(None, [*first.split("|"), *drawn]):
             lines += [f"{me} read nothing 0 1"] * chance.randint(0, 160)
             lines.append(f"{me} " + re.sub(r"{(\w+)}", lambda at: chance.choice(words[at[1]]), it))
     lines += ["z read nothing 0 1"] * 400 + [f"z give {name} 0" for name in ends]
-    options = {"--arenas": arenas, "--bytes": size + 64 * len(ends), "--depth": depth, "--records": 256, "--wear": 1_000_000}
-    return "\n".join(lines).encode(), options
+    options = {"--arenas": arenas, "--bytes": size + 64 * len(ends), "--depth": depth, "--records": 256}
+    return "\n".join(lines).encode(), {**options, "--wear": 1_000_000}
 
 
 def is_answer(heap, command, line):
-    """Does the command. A give that found its peer closed in its midst may have been sent: then the peer's end reclaimed it."""
+    """Does the command. A give that found its peer closed in its midst may have been sent: then the peer's end
+    reclaimed it."""
     said, wanted = heap.step(*command[1:]), line.partition(" ")[2]
     return said == wanted or wanted == "no 15 PeerClosed 0" and said.startswith("ok")
 
 
 def read_on(heap, waiting, at):
-    """The places in the processes' commands behind all reads that answer so now; these change nothing, whenever they come."""
+    """The places in the processes' commands behind all reads that answer so now; these change nothing, whenever they
+    come."""
     at = list(at)
-    for number, commands in enumerate(waiting):
-        while at[number] < len(commands) and commands[at[number]][0][2] == b"read" and is_answer(heap, *commands[at[number]]):
+    for number, own in enumerate(waiting):
+        while at[number] < len(own) and own[at[number]][0][2] == b"read" and is_answer(heap, *own[at[number]]):
             at[number] += 1
     return tuple(at)
 
 
-def judge(text, options, *answer):
-    """What is wrong with an answer, or None. The numbers of holes have to be the same of two processes where nothing ends."""
-    if wrong := soak_machine.judge(text, options, *answer):
-        return wrong
+def judge(text, options, is_serial, answer):
+    """The numbers of holes have to be the same of two processes where nothing ends."""
+    soak_machine.judge(text, options, is_serial, answer)
     is_exact = options["--depth"] == 1 and b"process c" not in text
-    return "no order has these replies and this ledger" if has_order(text, options, is_exact, answer[3]) is False else None
+    is_found = has_order(soak_reader.read(text)[0], options, is_exact, answer.out.decode().splitlines())
+    claim(is_found is not False, "no order has these replies and this ledger")
 
 
-def has_order(text, options, is_exact, out):
+def has_order(commands, options, is_exact, lines):
     """Whether there is one, each process's commands in their own order; None where the search is cut off."""
-    commands, lines = soak_reader.read(text)[0].commands, out.decode().splitlines()
     heap, waiting = soak_machine.Heap(options), {}
     for command, line in zip(commands, lines):
         if not command[1] and not is_answer(heap, command, line):
             return False
         own = waiting.setdefault(command[1], [])
-        is_same = own and command[2] == b"read" and (own[-1][0][2:], own[-1][1].split(" ")[1:]) == (command[2:], line.split(" ")[1:])
-        own += [] if is_same else [(command, line)]
-    waiting, ledger = [own for by, own in waiting.items() if by], without_holes(lines[len(commands) :], is_exact)
+        reply = command[2:], line.split(" ")[1:]
+        if command[2] != b"read" or not own or (own[-1][0][2:], own[-1][1].split(" ")[1:]) != reply:
+            own.append((command, line))
+    waiting = [own for by, own in waiting.items() if by]
+    ledger = without_holes(lines[len(commands) :], is_exact)
     begun = [(pickle.dumps(heap), (0,) * len(waiting))]
     seen, steps = set(begun), 0
     while begun and steps <= STEPS:
         state, at = begun.pop()
         heap = pickle.loads(state)
         at = read_on(heap, waiting, at)
-        if all(at[number] == len(own) for number, own in enumerate(waiting)):
-            if without_holes(heap.ledger(), is_exact) == ledger:
-                return True
-            continue
+        if at == tuple(map(len, waiting)) and without_holes(heap.ledger(), is_exact) == ledger:
+            return True
         state = pickle.dumps(heap)
         for number, own in enumerate(waiting):
             if at[number] < len(own):

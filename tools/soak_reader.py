@@ -1,14 +1,16 @@
-"""Reads a script as docs/SCRIPT.md says it, by code that shares nothing with the program's own: its commands, or its first fault."""
+"""Reads a script as docs/SCRIPT.md says it, by code that shares nothing with the program's own: its commands, or its
+first fault."""
 import re
 
 WORDS = {"name": rb"[a-z][a-z0-9]{0,15}", "hex": rb"(?:[0-9a-f]{2}){1,32}", "number": rb"0|[1-9][0-9]{0,9}"}
 RANGES = {"number": (0, 4_294_967_295), "length": (1, 32), "tag": (0, 65_535), "budget": (1, 4096)}
 # For each verb the sorts of its words; the last may be repeated, so often at least and at most.
-HEADS = {b"process": ["process"], b"wire": "process name process name number known*0,1".split(), b"contract": ["contract", "row*1,16"]}
-VERBS = """alloc name number number|split name number name|read name number length|write name number hex|free name|close name
+VERBS = """process process|wire process name process name number known*0,1|contract contract row*1,16
+alloc name number number|split name number name|read name number length|write name number hex|free name|close name
 open name name number known*0,1|give name tag name*0,16|take name name*0,8|await name name*0,8
 exit budget*0,1|kill process budget*0,1|again budget*0,0|glance process"""
-VERBS = {verb.encode(): sorts for verb, *sorts in map(str.split, VERBS.replace("\n", "|").split("|"))}
+VERBS = {verb.encode(): sorts for verb, *sorts in map(str.split, re.split(r"[|\n]", VERBS))}
+HEADS = b"process", b"wire", b"contract"
 
 
 class Fault(Exception):
@@ -42,33 +44,31 @@ def value_of(sort, word):
 def split_line(line):
     """The verb, the process that it is by, and the words behind it with their sorts."""
     need(all(0x20 <= byte <= 0x7E for byte in line), "BadByte")
-    words, by, shape = line.split(b" "), None, None
+    words = line.split(b" ")
     need(b"" not in words, "BadWord")
-    if words[0] in HEADS:
-        shape = HEADS[words[0]]
-    else:
+    by = None
+    if words[0] not in HEADS:
         by = value_of("name", words.pop(0))
         need(words, "BadCount")
-        need(words[0] in VERBS, "BadWord")
-        shape = VERBS[words[0]]
-    last, _, bounds = shape[-1].partition("*")
+        need(words[0] in VERBS and words[0] not in HEADS, "BadWord")
+    *sorts, last = VERBS[words[0]]
+    last, _, bounds = last.partition("*")
     low, high = map(int, (bounds or "1,1").split(","))
-    count = len(words) - len(shape)
+    count = len(words) - 1 - len(sorts)
     need(low <= count <= high, "BadCount")
-    return words[0], by, words[1:], shape[:-1] + [last] * count
+    return words[0], by, words[1:], sorts + [last] * count
 
 
 class Script:
     """What was read: a command is its line's number, its process, its verb and its words."""
 
     def __init__(self):
-        self.commands, self.processes, self.names, self.contracts, self.is_late = [], set(), {}, set(), False
+        self.commands, self.processes, self.names, self.contracts = [], set(), {}, set()
 
     def add(self, number, line):
         verb, by, words, sorts = split_line(line)
         values = [value_of(sort, word) for sort, word in zip(sorts, words)]
-        need(not (verb in HEADS and self.is_late), "LateHead")
-        self.is_late = self.is_late or verb not in HEADS
+        need(not (verb in HEADS and any(it[1] for it in self.commands[-1:])), "LateHead")
         if verb == b"contract":
             sides = {state: side for state, _, side, _ in values[1:]}
             need(values[0] not in self.contracts and all(sides[row[0]] == row[2] for row in values[1:]), "BadContract")
@@ -89,10 +89,10 @@ class Script:
 
 
 def read(text):
-    """The script, and None; or None, and the line and the kind of its fault."""
+    """The commands, and None; or None, and the line and the kind of its fault."""
+    script = Script()
     if len(text) > 1_048_576:
         return None, (0, "TooLong")
-    script = Script()
     for number, line in enumerate(text.split(b"\n"), 1):
         try:
             need(len(line) <= 256, "LongLine")
@@ -100,4 +100,4 @@ def read(text):
                 script.add(number, line)
         except Fault as fault:
             return None, (number, str(fault))
-    return script, None
+    return script.commands, None

@@ -6,17 +6,18 @@ import soak_machine
 import soak_reader
 
 # How often each line comes, and what it is made of.
-LINES = """14 alloc {x} {size} {arena}|6 split {data} {cut} {x}|8 read {data} {at} {count}|8 write {data} {at} {bytes}|6 free {data}
-4 open {e} {e} {arena}{under}|14 give {end} {tag}{names}|12 take {end}{news}|4 await {end}{news}|2 close {end}
-1 exit{budget}|1 kill {process}{budget}|2 again|3 glance {process}"""
-LINES = [line for it in LINES.replace("\n", "|").split("|") for line in [it.partition(" ")[2]] * int(it.partition(" ")[0])]
+LINES = """14 alloc {x} {size} {arena}|6 split {data} {cut} {x}|8 read {data} {at} {count}|8 write {data} {at} {bytes}
+6 free {data}|4 open {e} {e} {arena}{under}|14 give {end} {tag}{names}|12 take {end}{news}|4 await {end}{news}
+2 close {end}|1 exit{budget}|1 kill {process}{budget}|2 again|3 glance {process}"""
+OFTEN, LINES = zip(*(line.split(" ", 1) for line in re.split(r"[|\n]", LINES)))
+LINES = [line for often, line in zip(map(int, OFTEN), LINES) for _ in range(often)]
 TOP = 4_294_967_295
 
 
 class Maker:
-    """Names are few, so that they are bound to something mostly. `waits`: there may be an await on threads; then the first
-    process neither awaits nor ends, nobody starts again, and at its end it kills all others, so that each wait ends.
-    `ends`: at last each process exits."""
+    """Names are few, so that they are bound to something mostly. `waits`: there may be an await on threads; then the
+    first process neither awaits nor ends, nobody starts again, and at its end it kills all others, so that each wait
+    ends. `ends`: at last each process exits."""
 
     def __init__(self, seed):
         chance = random.Random(seed)
@@ -51,18 +52,22 @@ class Maker:
             "bytes": lambda: chance.randbytes(pick([1, 4, 32])).hex(),
             "under": lambda: f" {pick(contracts)}" if contracts and below(1) else "",
             "tag": lambda: below(3) if below(9) else 65_535,
-            "names": lambda: self.fill(" {end}" if not below(3) else " {data}" * pick([0, 1, 1, 1, 2, 3, 4, 8, 9, 16])),
-            "news": lambda: self.fill("".join(pick([" {e}", " {x}", " {x}"]) for _ in range(pick([0, 1, 1, 2, 3, 8])))),
+            "names": lambda: " {end}" if not below(3) else " {data}" * pick([0, 1, 1, 1, 2, 3, 4, 8, 9, 16]),
+            "news": lambda: "".join(pick([" {e}", " {x}", " {x}"]) for _ in range(pick([0, 1, 1, 2, 3, 8]))),
             "budget": lambda: pick(["", "", " 1", " 2", " 4096"]),
             "rows": lambda: "".join(self.rows(state, below(1)) for state in range(below(3) + 1)),
         }
         self.heads = [f"contract {name}{{rows}}" for name in contracts]
 
     def rows(self, state, side):
-        return "".join(f" {state}:{tag}:{side}:{self.below(3)}" for tag in range(4) if tag == state or not self.below(2))
+        tags = (tag for tag in range(4) if tag == state or not self.below(2))
+        return "".join(f" {state}:{tag}:{side}:{self.below(3)}" for tag in tags)
 
     def fill(self, line):
-        return re.sub(r"{(\w+)}", lambda it: str(self.fields[it[1]]()), line)
+        """Fields within a field are filled in turn."""
+        while "{" in line:
+            line = re.sub(r"{(\w+)}", lambda it: str(self.fields[it[1]]()), line)
+        return line
 
     def process(self):
         """Mostly one that runs."""
@@ -103,7 +108,8 @@ class Maker:
             line = f"{self.by} {self.fill(self.pick(LINES))}"
             if len(self.lines) < 3900 and self.may(line):
                 self.add(line, False)
-        for line in [f"p0 kill {name}" for name in self.processes[1:] if self.waits] + [f"{name} exit" for name in named if self.ends]:
+        endings = [f"p0 kill {name}" for name in self.processes[1:] if self.waits]
+        for line in endings + [f"{name} exit" for name in named if self.ends]:
             self.add(line)
 
 
@@ -111,4 +117,5 @@ def make(seed):
     """The script and its options."""
     maker = Maker(seed)
     maker.add_all()
-    return ("\n".join(["# A comment, and an empty line.", "", *maker.lines]) + "\n" * maker.below(1)).encode(), maker.options
+    text = "\n".join(["# A comment, and an empty line.", "", *maker.lines]) + "\n" * maker.below(1)
+    return text.encode(), maker.options
