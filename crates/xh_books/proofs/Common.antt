@@ -15,7 +15,7 @@ pub use Rattle.std.specs.{Coded.le_prop, List.cons_option, List.range_with_len, 
 pub use Rattle.std.specs.Prelude.{Err, IfOk, IsSomeAnd, MatchResult, None, Ok, Option, Result, Some, count_by, is_some, nat_lt, option_map, slice_get, slice_index}
 pub use Rattle.std.specs.Prelude.{slice_index_or, slice_set, ◌==◌}
 pub use Rattle.xh_arena.specs.Views.{LotOf, Move, TallyOf, VaultOf}
-pub use Rattle.xh_books.specs.{Closing.IsClosed, Closing.IsSumOver, Flight.IsInFlight, Flight.Stands, Flight.WasPassed, Flight.flight_line, Flight.flight_lines, declared.closing.Books.Books}
+pub use Rattle.xh_books.specs.{Closing.IsClosed, Closing.IsSumOver, Flight.IsInFlight, Flight.IsPart, Flight.Stands, Flight.flight_line, Flight.flight_lines, declared.closing.Books.Books}
 pub use Rattle.xh_books.specs.Ledgers.{IsBalanced, all_back, all_lengths, all_taken, arena_line, arena_lines, arenas_of, back_of, bytes_in_flight, bytes_owned, is_listed, place_lines, taken_of}
 pub use Rattle.xh_books.specs.Sums.{AllBegan, AllWorked, AreLawful, MakesOne, Reaches, SeesOthers, Worked, Works, arena_count, back_in, sum_of, sum_of_all, taken_in}
 pub use Rattle.xh_books.specs.inner.Steps.{AreAt, AreBooks, AreFronts, AreGathered, AreSeats, IsFull, IsSeatOfPlace, closed_line, lens_of, with_accounts, with_tallies, with_tally}
@@ -27,7 +27,8 @@ pub use Rattle.xh_core.specs.{Flight.AreFlightLines, Statuses.is_over, declared.
 pub use Rattle.xh_core.specs.{declared.flight.FlightLine.FlightLine, declared.glance.Glance.Glance, declared.ledger.ArenaLine.ArenaLine, declared.ledger.Ledger.Ledger}
 pub use Rattle.xh_core.specs.{declared.ledger.PlaceLine.PlaceLine, declared.refused.Refused.Refused, declared.status.Status.Status, declared.status.Status.TheVariants.Vacant}
 pub use Rattle.xh_history.specs.Histories.{HasSeen, History, PenOf, at, calls_of}
-pub use Rattle.xh_kernel.specs.{Accounts.AccountOf, Accounts.HasBack, Accounts.HasTaken, Accounts.IsUnmoved, Accounts.fresh, Calls.Calls, Calls.Makes, Calls.Moves, Histories.IsLawfulHistory, Histories.Leads}
+pub use Rattle.xh_kernel.specs.{Accounts.AccountOf, Accounts.HasBack, Accounts.HasTaken, Accounts.IsUnmoved, Accounts.fresh, Calls.Calls, Calls.Makes, Calls.Moves, Histories.IsLawfulHistory}
+pub use Rattle.xh_kernel.specs.{Histories.Leads}
 pub use Rattle.xh_kernel.specs.{Kept.AreKept, Places.places_of, Wires.Connects, Wires.HandsOver, Wires.OpensBoth, Wires.Wires}
 pub use Rattle.xh_model.proofs.{Keyed.no_key, Keyed.none_at, Keyed.value_here, Keyed.value_there, Lengths.length-lengths}
 pub use Rattle.xh_model.proofs.{Lengths.length_at, Totals.sum_add, Totals.sum_same, Totals.sum_zero, Words.arena_of_number, Words.index_back, Words.number_back, Words.place_of_number}
@@ -37,9 +38,10 @@ pub use Rattle.xh_model.specs.Words.{IsDone, IsHeldBy, IsHolder, Ownership, numb
 pub use Rattle.xh_model.specs.declared.event.Holder.TheVariants.{Direction, Process}
 pub use Rattle.xh_model.specs.declared.limits.TheConstants.{DIRECTIONS, END_BYTES, MAX_RECORDS, PLACES}
 pub use Rattle.xh_place.proofs.{Swept.gave_some}
-pub use Rattle.xh_place.specs.{Moves.moves, Seen.PlaceSeen, Tallies.ids_of, Tallies.took, declared.body.Body.Body}
+pub use Rattle.xh_place.specs.{Seen.PlaceSeen, Tallies.ids_of, Tallies.took, declared.body.Body.Body}
 pub use Rattle.xh_place.specs.Places.{IsPlaceOf, Item, Lists, PlaceOf, item_of, line, line_in, total_of}
 pub use Rattle.xh_records.proofs.{Elements.elem_slice, Elements.in_range, Elements.is_there, Elements.slice_elem, Keeps.never, Keeps.one_holder, Keeps.same_place}
+pub use Rattle.xh_records.specs.{Deeds.Deed, Deeds.IsLeft, Deeds.carried, Deeds.deeds_by, Deeds.events}
 pub use Rattle.xh_records.specs.{History.LeadsTo, History.StartsWith, History.all_free, History.by_place, Showing.IsLotAt, Showing.IsSmall, declared.shape.Shape.Shape}
 pub use Rattle.xh_records.specs.Seats.{Ends, Held, IsSeatOf, RecordsOf, lot_in}
 pub use mathlib.Core.Logic.{dite, ∥∥₁_elim}

@@ -7,7 +7,6 @@ pub mod Ending
 pub mod Flying
 pub mod Owning
 pub mod FlightLines
-pub mod Passing
 pub mod Closed
 pub mod LedgerLines
 pub mod Sums

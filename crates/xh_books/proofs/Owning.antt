@@ -3,10 +3,10 @@ use Rattle.xh_books.proofs.Common.{All, AllZip-left, AllZip-right, AreAt, AreFli
 use Rattle.xh_books.proofs.Common.{IsInFlight, IsLotAt, IsPlaceOf, IsSeatOf, IsSeatOfPlace, IsSomeAnd, Item, List, LotOf, MatchOption-at_some, None, Option, PlaceOf, PlaceSeen, Process, RecordsOf}
 use Rattle.xh_books.proofs.Common.{Shape, Some, Stands, StartsWith, TellFlight, ap, arena_of_number, arith, below_get, by_place, bytes_in_flight, bytes_owned, elem_slice, false}
 use Rattle.xh_books.proofs.Common.{false_from_ne_true, flight_lines, get_or, get_or_from_slice_get, in_range, index_back, index_of, is_listed, is_there, item_of, length, length-map, lens_of}
-use Rattle.xh_books.proofs.Common.{lot_in, map, mod-lt, moves, never, number_back, number_of, one_holder, option_map, place_of, place_of_number, places_of, refl, same_Some, same_place, slice_elem}
+use Rattle.xh_books.proofs.Common.{lot_in, map, mod-lt, never, number_back, number_of, one_holder, option_map, place_of, place_of_number, places_of, refl, same_Some, same_place, slice_elem}
 use Rattle.xh_books.proofs.Common.{slice_get, slice_get-map, subst, sum, sym, there, value_at, word_of, zip, ℕ, ◌%◌, ◌+◌, ◌<◌, ◌∙◌, ◌≡◌, ◌≤◌}
+use Rattle.xh_books.proofs.Common.{IsLeft, IsPart, carried, deeds_by, events}
 use Rattle.xh_books.proofs.Audited.{len_at}
-use Rattle.xh_books.proofs.Passing.{was_passed}
 use Rattle.xh_books.proofs.FlightLines.{all_full, are_lines, flying_is}
 use Rattle.xh_books.proofs.Flying.{ListsAt, all_lists, listed_at}
 
@@ -136,23 +136,33 @@ module _ (fits : Body → ℕ → Bool) (all : RecordsOf) (seats : List (Held Bo
   quiet : (k m : ℕ) (h : Option Holder) → slice_get (lens_of lots) k ≡ Some m → IsHeldBy ends.owners k h → Stands ps (number_of n k) m h
   quiet k m h at held = let t = len_at lots k m at in stands k m h t.0 t.1 t.2 held
 
-  -- the moves of each place are its part of the log
-  parts : All (λ p. p.moved ≡ moves (by_place (place_of p.process) ends.log)) ps
+  -- the events of each place are its part of the log, and so is what moved by them
+  parts : All (IsPart ends.log) ps
   parts j d below =
-      let p : PlaceOf = get_or ps j d in let s = seat_at seats ps j p are (there ps j d below) in
-      sym s.2.moved ∙ ap moves (ends.parts j s.0 s.1) ∙ ap (λ (z : ℕ). moves (by_place (place_of z) ends.log)) s.2.same.2
+      let p : PlaceOf = get_or ps j d in let s = seat_at seats ps j p are (there ps j d below) in (
+        sym s.2.events.0 ∙ ends.parts j s.0 s.1 ∙ ap (λ (z : ℕ). by_place (place_of z) (events ends.log)) s.2.same.2,
+        sym s.2.events.1 ∙ ap (map item_of) (ends.moved j s.0 s.1) ∙ ap (λ (z : ℕ). map item_of (carried (deeds_by (place_of z) ends.log))) s.2.same.2,
+      )
+
+  -- what is in flight was passed there last, and has its length
+  passed : (k d : ℕ) → IsHeldBy ends.owners k (Some (Direction d)) → (l : LotOf Body) × (slice_get (lens_of lots) k ≡ Some l.len) × IsLeft ends.log (number_of n k) d l
+  passed k d held =
+      let below = in_range ends.owners k (Some (Direction d)) held in
+      let here = is_there lots k (let e : length lots ≡ length ends.owners = ends.lots_long in omega arith) in
+      let at : slice_get lots k ≡ Some here.0 = elem_slice lots k here.0 here.1 in
+      (here.0, slice_get-map (λ (z : LotOf Body). z.len) lots k ∙ ap (option_map (λ (z : LotOf Body). z.len)) at, ends.left k d here.0 held at)
 
   long : length ends.owners ≡ length (lens_of lots)
   long = sym (length-map lots (λ (l : LotOf Body). l.len) ∙ ends.lots_long)
 
   -- and each has seen a beginning of it
-  seen : AreFronts seats places → All (λ p. StartsWith ends.log p.front) places
+  seen : AreFronts seats places → All (λ p. StartsWith (events ends.log) p.front) places
   seen fronts j d below =
       let p : PlaceSeen = get_or places j d in let at = there places j d below in
       let s = seat_at seats ps j p.place are (slice_get-map (λ (q : PlaceSeen). q.place) places j ∙ ap (option_map (λ (q : PlaceSeen). q.place)) at) in
       let same : s.0.front ≡ p.front = same_Some s.0.front p.front (ap (option_map (λ (x : Held Body). x.front)) (sym s.1) ∙ sym (slice_get-map (λ (x : Held Body). x.front) seats j)
       ∙ ap (λ (l : List (List Event)). slice_get l j) fronts ∙ slice_get-map (λ (q : PlaceSeen). q.front) places j ∙ ap (option_map (λ (q : PlaceSeen). q.front)) at) in
-      subst (StartsWith ends.log) same (ends.fronts j s.0 s.1)
+      subst (StartsWith (events ends.log)) same (ends.fronts j s.0 s.1)
 
   in_flight : AreFronts seats places → (lines : List FlightLine) → lines ≡ flight_lines (zip words (lens_of lots)) → IsInFlight all.shape places (lens_of lots) lines
   in_flight fronts lines e = record {
@@ -163,7 +173,8 @@ module _ (fits : Body → ℕ → Bool) (all : RecordsOf) (seats : List (Held Bo
     owners = ends.owners;
     count = long;
     leads = ends.leads;
-    passed = λ k d held. was_passed n (length ends.owners) ends.log ends.owners k d ends.leads held;
+    arrives = ends.arrives;
+    passed = passed;
     quiet = quiet;
     full = λ j d below. (seat_at seats ps j (get_or ps j d) are (there ps j d below)).2.whole;
     lines_are = e ∙ ap (λ ws. flight_lines (zip ws (lens_of lots))) ends.words_are;

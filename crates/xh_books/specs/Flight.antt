@@ -1,20 +1,20 @@
 -- What is in flight when the books are closed, direction by direction.
-use Rattle.std.specs.Prelude.{◌≡◌, ◌≢◌, ◌∷◌, ◌++◌, ℕ, ◌==◌, ◌<◌, false, cond, count_by, filter, List, All, Any, IsSomeAnd, length, map, nat_lt, slice_get, Option, Some, None}
+use Rattle.std.specs.Prelude.{◌≡◌, ℕ, ◌==◌, ◌<◌, false, cond, count_by, filter, List, All, Any, IsSomeAnd, length, map, nat_lt, slice_get, Option, Some, None}
 use Rattle.std.specs.List.{range_with_len, sum_by, zip}
 use Rattle.xh_core.specs.declared.flight.FlightLine.{FlightLine}
 use Rattle.xh_kernel.specs.Places.{places_of}
 use Rattle.xh_model.specs.declared.event.Event.{Event}
-use Rattle.xh_model.specs.declared.event.Event.TheVariants.{Pass}
 use Rattle.xh_model.specs.declared.event.Holder.{Holder}
 use Rattle.xh_model.specs.declared.event.Holder.TheVariants.{Process, Direction}
 use Rattle.xh_model.specs.declared.limits.TheConstants.{DIRECTIONS}
 use Rattle.xh_model.specs.Keyed.{Among, value_at}
-use Rattle.xh_model.specs.Slots.{index_of}
-use Rattle.xh_model.specs.Words.{IsHeldBy, Ownership, number_of, place_of, record_of, word_of}
-use Rattle.xh_place.specs.Moves.{moves}
-use Rattle.xh_place.specs.Places.{Item, PlaceOf}
+use Rattle.xh_model.specs.Words.{IsHeldBy, Ownership, number_of, place_of, word_of}
+use Rattle.xh_place.specs.declared.body.Body.{Body}
+use Rattle.xh_place.specs.Places.{Item, PlaceOf, item_of}
 use Rattle.xh_place.specs.Seen.{PlaceSeen}
 use Rattle.xh_records.specs.declared.shape.Shape.{Shape}
+use Rattle.xh_arena.specs.Views.{LotOf}
+use Rattle.xh_records.specs.Deeds.{Arrives, Deed, IsLeft, carried, deeds_by, events}
 use Rattle.xh_records.specs.History.{LeadsTo, StartsWith, all_free, by_place, process_of}
 use Rattle.xh_books.specs.Ledgers.{is_listed}
 
@@ -41,23 +41,23 @@ Stands places r n None = (n ≡ 0) × (is_listed r places ≡ false)
 Stands places r n (Some (Process p)) = (0 < n) × Any (λ q. (q.process ≡ p) × IsSomeAnd (value_at r q.blocks) (λ x. x.len ≡ n)) places
 Stands places r n (Some (Direction d)) = (0 < n) × (is_listed r places ≡ false)
 
--- the last event of the log on the record at the index k, with n records in an arena, is a pass to the direction
-abbrev pub WasPassed : ℕ → List Event → ℕ → ℕ → Type 0
-WasPassed n log k d =
-    (before after : List Event) × (p r : ℕ) × (log ≡ before ++ Pass p r d ∷ after) × (index_of n r ≡ k) × ((e : Event) → Among after e → index_of n (record_of e) ≢ k)
+-- a place's events are its part of the log, and what left and came by them is what the log has beside each
+abbrev pub IsPart : List (Deed Body) → PlaceOf → Type 0
+IsPart log p = (p.events ≡ by_place (place_of p.process) (events log)) × (p.moved ≡ map item_of (carried (deeds_by (place_of p.process) log)))
 
--- These lines are what is in flight, of records that have these lengths. There is one log of all record events, each by a process of these places, of which each place's passes and accepts are
--- its part, and of which each place has seen a beginning. It leads from where all records are free to the owners by which each record stands where it does, and the lines are those of these
--- owners. It is quiet: whatever a process or a direction has has bytes.
+-- These lines are what is in flight, of records that have these lengths. There is one log of all record events, each by a process of these places, of which each place's events are its part,
+-- and of which each place has seen a beginning. It leads from where all records are free to the owners by which each record stands where it does, and the lines are those of these owners.
+-- What arrives is what was given: whatever was accepted, or is in flight, is as the last pass of its record left it. It is quiet: whatever a process or a direction has has bytes.
 pub record IsInFlight (s : Shape) (places : List PlaceSeen) (lengths : List ℕ) (lines : List FlightLine) : Type 0 where
-  pub log : List Event
-  pub theirs : (e : Event) → Among log e → place_of (process_of e) < s.places
-  pub parts : All (λ p. p.moved ≡ moves (by_place (place_of p.process) log)) (places_of places)
-  pub seen : All (λ p. StartsWith log p.front) places
+  pub log : List (Deed Body)
+  pub theirs : (e : Event) → Among (events log) e → place_of (process_of e) < s.places
+  pub parts : All (IsPart log) (places_of places)
+  pub seen : All (λ p. StartsWith (events log) p.front) places
   pub owners : Ownership
   pub count : length owners ≡ length lengths
-  pub leads : LeadsTo s.records (all_free (length owners)) log owners
-  pub passed : (k d : ℕ) → IsHeldBy owners k (Some (Direction d)) → WasPassed s.records log k d
+  pub leads : LeadsTo s.records (all_free (length owners)) (events log) owners
+  pub arrives : Arrives log
+  pub passed : (k d : ℕ) → IsHeldBy owners k (Some (Direction d)) → (l : LotOf Body) × (slice_get lengths k ≡ Some l.len) × IsLeft log (number_of s.records k) d l
   pub quiet : (k n : ℕ) (h : Option Holder) → slice_get lengths k ≡ Some n → IsHeldBy owners k h → Stands (places_of places) (number_of s.records k) n h
   pub full : All (λ p. (r : ℕ) (x : Item) → value_at r p.blocks ≡ Some x → 0 < x.len) (places_of places)
   pub lines_are : lines ≡ flight_lines (zip (map word_of owners) lengths)

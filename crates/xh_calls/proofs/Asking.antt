@@ -1,6 +1,6 @@
 -- A refusal for want of space is that of the arena's vault.
 use Rattle.xh_calls.proofs.Common.{Block, END_BYTES, Err, FrontOf, IfErr, IsRefusedBy, IsUnopened, LacksSpace, Leaves, MatchOption, None, Ok, OnOk, Option, PartsOf, Refused, Result, Some, Tests}
-use Rattle.xh_calls.proofs.Common.{Unopened, VaultOf, first_refusal, inl, inr, ℕ, ⊎_elim, ⊤, ◌*◌, ◌<◌, ◌≡◌}
+use Rattle.xh_calls.proofs.Common.{Unopened, VaultOf, first_refusal, inl, inr, ℕ, ⊎_elim, ◌*◌, ◌<◌, ◌≡◌}
 use Rattle.xh_arena.specs.declared.refused.Refused.{Refused as Reason}
 use Rattle.xh_arena.specs.declared.refused.Refused.TheVariants as arena
 use Rattle.xh_core.specs.declared.refused.Refused.TheVariants as refused
@@ -46,13 +46,13 @@ module _ {V : Type 0} (old new : V) (front : V → FrontOf VaultOf) (parts : Par
   abbrev pub LacksSo : Refused → Type 0
   LacksSo = LacksSpace parts a full (front old) (front new)
 
-  pub unopened : IsUnopened tests S Lacks opened → IsUnopened tests ⊤ LacksSo opened
-  unopened = go (first_refusal tests) where
+  pub unopened : (Q : Type 0) → IsUnopened tests (S × Q) Lacks opened → IsUnopened tests Q LacksSo opened
+  unopened Q = go (first_refusal tests) where
     each : (r : Result (Block × Block) Unopened) → IfErr r (λ u. Lacks u.why) → IfErr r (λ u. LacksSo u.why)
     each (Ok ends) h = tt
     each (Err u) h = lacks (λ x y. Leaves parts (front x) (front y)) old new parts (front old) (front new) a (λ v w. w) full u.why h
 
-    go : (o : Option Refused) → MatchOption o (IfErr opened (λ u. Lacks u.why)) (λ e. IfErr opened (λ u. u.why ≡ e) × OnOk opened ⊥ × S)
-        → MatchOption o (IfErr opened (λ u. LacksSo u.why)) (λ e. IfErr opened (λ u. u.why ≡ e) × OnOk opened ⊥ × ⊤)
+    go : (o : Option Refused) → MatchOption o (IfErr opened (λ u. Lacks u.why)) (λ e. IfErr opened (λ u. u.why ≡ e) × OnOk opened ⊥ × (S × Q))
+        → MatchOption o (IfErr opened (λ u. LacksSo u.why)) (λ e. IfErr opened (λ u. u.why ≡ e) × OnOk opened ⊥ × Q)
     go None h = each opened h
-    go (Some e) h = (h.0, h.1, tt)
+    go (Some e) h = (h.0, h.1, h.2.1)

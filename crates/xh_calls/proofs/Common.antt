@@ -5,7 +5,7 @@ pub use Rattle.std.proofs.Common.{inr, length, length-append, map, not, refl, ru
 pub use Rattle.std.proofs.Common.{◌++◌, ◌+◌, ◌/◌, ◌<◌, ◌∙◌, ◌∷◌, ◌≡◌, ◌≤◌, ◌⊎◌}
 pub use Rattle.std.proofs.lemmas.List.{length-replicate, map_push, places}
 pub use Rattle.std.proofs.lemmas.List.Elements.{All-push}
-pub use Rattle.std.specs.Prelude.{⊤}
+pub use Rattle.std.specs.Prelude.{option_map, ⊤}
 pub use Rattle.std.specs.Vec.Iter.{into_iter_items, into_iter_len}
 pub use Rattle.xh_arena.specs.Views.{AreLots, LotOf, TallyOf, VaultOf}
 pub use Rattle.xh_calls.specs.Endings.{Closes, IsUntouched, Stops}
@@ -29,11 +29,11 @@ pub use Rattle.xh_core.specs.declared.status.Status.TheVariants.{Running}
 pub use Rattle.xh_history.specs.Histories.{FrontOf, HasSeen, History, PenOf, at, fresh_pen}
 pub use Rattle.xh_model.specs.declared.limits.TheConstants.{END_BYTES, MAX_RECORDS}
 pub use Rattle.xh_place.specs.Bodies.{Content, IsEndAt, bytes, endpoint, fits_in, kind_of}
-pub use Rattle.xh_place.specs.Ending.{HasGivenBack, IsClosed, IsStopped, alone, back_of, but_back, last}
+pub use Rattle.xh_place.specs.Ending.{HasGivenBack, IsClosed, IsStopped, back_of, but_back, last}
 pub use Rattle.xh_place.specs.Ends.{Accepts, AreListed, EndDoes, IsUnopened, Opens, RefusedOr, end_block}
 pub use Rattle.xh_place.specs.Messages.{IsUntaken, is_listed}
-pub use Rattle.xh_place.specs.Places.{AreBlocks, Fits, IsPlaceOf, Item, PlaceOf, entry_of, found, with_blocks}
-pub use Rattle.xh_place.specs.Seen.{FindsFull, IsSamePlace, IsSeen, PlaceSeen, SeesMore, Stays}
+pub use Rattle.xh_place.specs.Places.{alone, AreBlocks, Fits, IsPlaceOf, Item, PlaceOf, found, header_of, with_blocks}
+pub use Rattle.xh_place.specs.Seen.{FindsFull, IsSamePlace, IsSeen, PlaceSeen, Stays}
 pub use Rattle.xh_place.specs.Tallies.{gave, ids_of}
 pub use Rattle.xh_place.specs.declared.body.Body.{Body}
 pub use Rattle.xh_place.specs.declared.opening.Unopened.{Unopened}

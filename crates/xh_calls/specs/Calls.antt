@@ -1,5 +1,5 @@
 -- What each call of a process does to its place, and why it is refused.
-use Rattle.std.specs.Prelude.{◌≡◌, ℕ, ◌/◌, Bool, true, false, List, [], ◌∷◌, ◌++◌, length, replicate, Option, Some, Result, Err, IfErr, IfOk, MatchOption, OnErr, OnOk}
+use Rattle.std.specs.Prelude.{◌≡◌, ℕ, ◌/◌, ◌≤◌, Bool, true, false, List, [], ◌∷◌, ◌++◌, length, replicate, Option, Some, Result, Err, IfErr, IfOk, MatchOption, OnErr, OnOk}
 use Rattle.xh_arena.specs.Views.{VaultOf}
 use Rattle.xh_core.specs.declared.block.Block.{Block}
 use Rattle.xh_core.specs.declared.refused.Refused.{Refused}
@@ -8,10 +8,11 @@ use Rattle.xh_core.specs.Statuses as statuses
 use Rattle.xh_core.specs.Refusing.{Tested, first_refusal}
 use Rattle.xh_model.specs.declared.limits.TheConstants.{MAX_RECORDS}
 use Rattle.xh_model.specs.Arena.{ArenaState, HasNoSpace, IsLawfulArena, IsWorn}
-use Rattle.xh_model.specs.Keyed.{put, value_at, without}
+use Rattle.xh_model.specs.declared.event.Event.TheVariants.{Claim}
+use Rattle.xh_model.specs.Keyed.{put, value_at}
 use Rattle.xh_model.specs.Words.{generation_of}
 use Rattle.xh_place.specs.Bodies.{bytes, part, patched}
-use Rattle.xh_place.specs.Places.{found, Item, PlaceOf, started, with_blocks}
+use Rattle.xh_place.specs.Places.{found, Item, LetsGo, PlaceOf, started, with_blocks, with_events, with_freed}
 use Rattle.xh_core.specs.Calls.{alloc_tests, data_tests, range_tests, split_tests}
 use Rattle.xh_core.specs.Headers.{len_in}
 use Rattle.xh_core.specs.Space.{rounded}
@@ -51,22 +52,23 @@ IsLack parts full a n NoSpace = IsOfSome parts a (HasNoSpace n)
 IsLack parts full a n Worn = IsOfSome parts a (IsWorn n)
 IsLack parts full a n _ = ⊥
 
--- a new data block of at least n bytes of the arena, all of them zero, is the last of the list
+-- a new data block of at least n bytes of the arena, all of them zero, is the last of the list, and its record was claimed; or a record was claimed in vain, if any, and none where a test refused
 pub record Allocates (parts : PartsOf) (p n arena : ℕ) (old new : PlaceSeen) (result : Result Block Refused) : Type 0 where
-  pub made : IfOk result (λ b. new.place ≡ with_blocks old.place (old.place.blocks ++ (b.rec, record { len = b.len; content = bytes (replicate b.len 0) }) ∷ []))
+  pub made : IfOk result (λ b. new.place ≡ with_events (with_blocks old.place (old.place.blocks ++ (b.rec, record { len = b.len; content = bytes (replicate b.len 0) }) ∷ []))
+      (Claim old.place.process b.rec ∷ []))
   pub block : IfOk result (λ b. (b.len ≡ rounded n) × (b.rec / MAX_RECORDS ≡ arena))
-  pub refused : OnErr result (new.place ≡ old.place)
+  pub refused : OnErr result (LetsGo (λ claims. length claims ≤ 1) arena old.place new.place)
   pub why : MatchOption (first_refusal (start p old.place ++ alloc_tests arena (length parts.records.shape.names) n parts.size))
-      (IfErr result (IsLack parts (FindsFull old new arena) arena (rounded n))) (λ refused. result ≡ Err refused)
+      (IfErr result (IsLack parts (FindsFull 0 old new arena) arena (rounded n))) (λ refused. (result ≡ Err refused) × (new.place ≡ old.place))
 
 -- ---- split
 
--- the block is cut after its first k bytes
+-- the block is cut after its first k bytes; or a record was claimed in vain, if any, and none where a test refused
 pub record Splits (p r k : ℕ) (old new : PlaceSeen) (result : Result (Block × Block) Refused) : Type 0 where
   pub cut : IfOk result (λ ends. IsSplit old.place new.place r k ends.0 ends.1)
-  pub refused : OnErr result (new.place ≡ old.place)
+  pub refused : OnErr result (LetsGo (λ claims. length claims ≤ 1) (r / MAX_RECORDS) old.place new.place)
   pub why : MatchOption (first_refusal (start p old.place ++ split_tests (found old.place r) k))
-      (IfErr result (IsUncut (FindsFull old new (r / MAX_RECORDS)))) (λ refused. result ≡ Err refused)
+      (IfErr result (IsUncut (FindsFull 0 old new (r / MAX_RECORDS)))) (λ refused. (result ≡ Err refused) × (new.place ≡ old.place))
 
 -- ---- read, write
 
@@ -83,8 +85,8 @@ pub record Writes (p r at : ℕ) (xs : List ℕ) (old new : PlaceOf) (result : R
 
 -- ---- free
 
--- the block is gone, and its length is the answer
+-- the block is gone, its record was vacated, and its length is the answer
 pub record Frees (p r : ℕ) (old new : PlaceOf) (result : Result ℕ Refused) : Type 0 where
-  pub freed : OnOk result (new ≡ with_blocks old (without r old.blocks))
+  pub freed : OnOk result (new ≡ with_freed r old)
   pub length : Tested (start p old ++ data_tests (found old r)) result (λ n. n ≡ len_in (found old r))
   pub refused : OnErr result (new ≡ old)

@@ -1,5 +1,5 @@
 -- What opening a channel does to a place.
-use Rattle.std.specs.Prelude.{◌≡◌, ◌⊎◌, ℕ, ◌*◌, ◌<◌, true, false, List, [], ◌∷◌, ◌++◌, length, Option, None, Some, Result, Err, IfErr, IfOk, MatchOption, OnErr}
+use Rattle.std.specs.Prelude.{◌≡◌, ◌⊎◌, ℕ, ◌*◌, ◌<◌, ◌≤◌, true, false, List, ◌++◌, length, Option, None, Some, Result, Err, IfErr, IfOk, MatchOption, OnErr}
 use Rattle.xh_channel.specs.Pairs.{IsPair}
 use Rattle.xh_channel.specs.Queues.{Posted}
 use Rattle.xh_core.specs.Calls.{arena_tests}
@@ -11,8 +11,8 @@ use Rattle.xh_model.specs.Arena.{HasNoSpace, IsWorn}
 use Rattle.xh_model.specs.declared.limits.TheConstants.{END_BYTES}
 use Rattle.xh_model.specs.declared.row.Row.{Row}
 use Rattle.xh_model.specs.Rows.{row_at}
-use Rattle.xh_place.specs.Ends.{end_block, IsEndIn}
-use Rattle.xh_place.specs.Places.{with_blocks}
+use Rattle.xh_place.specs.Ends.{IsEndIn, with_both}
+use Rattle.xh_place.specs.Places.{LetsGo}
 use Rattle.xh_place.specs.Seen.{FindsFull, PlaceSeen}
 use Rattle.xh_calls.specs.Calls.{IsOfSome}
 use Rattle.xh_calls.specs.Parts.{PartsOf}
@@ -20,25 +20,26 @@ use Rattle.xh_calls.specs.Places.{start}
 
 -- ---- open
 
--- no channel was had; or no two records were free, as `full` says; or 64 bytes could not be carved of the arena
-abbrev pub IsNoChannel : PartsOf → Type 0 → ℕ → Refused → Type 0
-IsNoChannel parts full a NoChannel = Unit {0}
-IsNoChannel parts full a NoRecord = full
-IsNoChannel parts full a NoSpace = (parts.size < 2 * END_BYTES) ⊎ IsOfSome parts a (HasNoSpace (2 * END_BYTES))
-IsNoChannel parts full a Worn = IsOfSome parts a (IsWorn (2 * END_BYTES))
-IsNoChannel parts full a _ = ⊥
+-- no channel was had, and nothing was done, as `same` says; or no two records were free, as `full` says; or 64 bytes could not be carved of the arena
+abbrev pub IsNoChannel : PartsOf → Type 0 → Type 0 → ℕ → Refused → Type 0
+IsNoChannel parts same full a NoChannel = same
+IsNoChannel parts same full a NoRecord = full
+IsNoChannel parts same full a NoSpace = (parts.size < 2 * END_BYTES) ⊎ IsOfSome parts a (HasNoSpace (2 * END_BYTES))
+IsNoChannel parts same full a Worn = IsOfSome parts a (IsWorn (2 * END_BYTES))
+IsNoChannel parts same full a _ = ⊥
 
 -- the end's channel goes by the contract, from its first state on, or by none
 abbrev pub GoesBy : Option (List Row) → Posted → Type 0
 GoesBy None end = end.has_contract ≡ false
 GoesBy (Some rows) end = (end.has_contract ≡ true) × (end.rows ≡ rows) × (end.state ≡ (row_at rows 0).state)
 
--- both ends of a new channel, which goes by the contract or by none, side 0 first, each of 32 bytes of the arena, are the last blocks of the list;
+-- both ends of a new channel, which goes by the contract or by none, side 0 first, each of 32 bytes of the arena, are the last blocks of the list, and their records were claimed in this order;
+-- or records were claimed in vain, at most two, and none where a test refused;
 -- as many messages may wait in a direction of it as the parts were made for
 pub record Opens (parts : PartsOf) (p arena : ℕ) (contract : Option (List Row)) (old new : PlaceSeen) (result : Result (Block × Block) Refused) : Type 0 where
   pub opened : IfOk result (λ ends. (low : Posted) × (high : Posted) × IsPair low high × (low.depth ≡ parts.depth) × GoesBy contract low
-      × (new.place ≡ with_blocks old.place (old.place.blocks ++ (ends.0.rec, end_block low) ∷ (ends.1.rec, end_block high) ∷ [])))
+      × (new.place ≡ with_both low high ends old.place))
   pub blocks : IfOk result (λ ends. IsEndIn arena ends.0 × IsEndIn arena ends.1)
-  pub refused : OnErr result (new.place ≡ old.place)
+  pub refused : OnErr result (LetsGo (λ claims. length claims ≤ 2) arena old.place new.place)
   pub why : MatchOption (first_refusal (start p old.place ++ arena_tests arena (length parts.records.shape.names)))
-      (IfErr result (IsNoChannel parts (FindsFull old new arena) arena)) (λ refused. result ≡ Err refused)
+      (IfErr result (IsNoChannel parts (new.place ≡ old.place) (FindsFull 1 old new arena) arena)) (λ refused. (result ≡ Err refused) × (new.place ≡ old.place))

@@ -10,7 +10,8 @@ ghost use Rattle.xh_place.specs.Ending.{HasGivenBack};
 ghost use Rattle.xh_place.specs.Ends.{AreListed, IsUnopened, Opens as OpensEnds};
 ghost use Rattle.xh_place.specs.Starts.{start as starts};
 ghost use Rattle.xh_place.specs.Places.{IsPlaceOf};
-ghost use Rattle.xh_place.specs.Seen.{FindsFull, IsSamePlace, PlaceSeen, SeesMore, Stays};
+ghost use Rattle.xh_place.specs.Seen.{FindsFull, IsSamePlace, PlaceSeen, Stays};
+ghost use Rattle.xh_records.specs.History.{StartsWith};
 ghost use Rattle.xh_place.specs.Tallies.{took};
 ghost use Rattle.xh_records.specs.Seats.{IsRecord};
 ghost use Rattle.xh_calls.specs.Channels.{GoesBy, Opens};
@@ -90,8 +91,8 @@ impl<N: Names> Heap<N> {
         requires fresh { IsPair low high }
         ensures same { IsSamePlace place.old place.new × IsTillOf N.parts till.new }
         ensures opened { OpensEnds arena low high place.old.place place.new.place till.old.tallies.items till.new.tallies.items result }
-        ensures why { IsUnopened (starts place.old.place.state ++ arena_tests arena (length place.old.place.shape.names)) ⊤
-            (LacksSpace N.parts arena (FindsFull place.old place.new arena) till.old.seen till.new.seen) result }
+        ensures why { IsUnopened (starts place.old.place.state ++ arena_tests arena (length place.old.place.shape.names)) (place.new.place ≡ place.old.place)
+            (LacksSpace N.parts arena (FindsFull 1 place.old place.new arena) till.old.seen till.new.seen) result }
     {
         let tallies = till.tallies.as_mut_slice();
         at_desk!(rt, self, gate, till, tallies, desk => place.open(&mut desk, low, high, arena))
@@ -196,7 +197,7 @@ impl<N: Names> Heap<N> {
     )
         requires { IsServed N.parts place.old.place till.old }
         ensures same { IsSamePlace place.old place.new × IsTillOf N.parts till.new }
-        ensures closed { (from : PlaceSeen) × Stays place.old from × SeesMore from place.new × (bytes : ℕ) × ClosesAgain p channel r from place.new bytes
+        ensures closed { (from : PlaceSeen) × Stays place.old from × StartsWith place.new.front from.front × (bytes : ℕ) × ClosesAgain p channel r from place.new bytes
             × HasGivenBack bytes till.old.tallies.items till.new.tallies.items }
     {
         if let Err(_refused) = check_start(place, p) {

@@ -3,7 +3,8 @@ ghost use Rattle.std.specs.Prelude.{◌≡◌, ◌<◌, ◌-◌, ◌^◌, IfOk, 
 ghost use Rattle.xh_core.specs.declared.refused.Refused.TheVariants as refused;
 ghost use Rattle.xh_core.specs.Refusing.{Tested};
 ghost use Rattle.xh_place.specs.Places.{IsPlaceOf};
-ghost use Rattle.xh_place.specs.Seen.{IsSamePlace, PlaceSeen, SeesMore, Stays};
+ghost use Rattle.xh_place.specs.Seen.{IsSamePlace, PlaceSeen, Stays};
+ghost use Rattle.xh_records.specs.History.{StartsWith};
 ghost use Rattle.xh_calls.specs.inner.Looking.{AreEndsOf, AreReady, first_of};
 ghost use Rattle.xh_calls.specs.Several.{TakesAny, TakesFirst, each_end, several_tests};
 
@@ -126,7 +127,7 @@ impl<N: Names> Heap<N> {
     ) -> Result<Answered, Refused>
         requires { IsPlaceOf N.parts.records place.old.place }
         ensures same { IsSamePlace place.old place.new }
-        ensures taken { (from : PlaceSeen) × Stays place.old from × SeesMore from place.new × TakesAny p ends.now from place.new result }
+        ensures taken { (from : PlaceSeen) × Stays place.old from × StartsWith place.new.front from.front × TakesAny p ends.now from place.new result }
     {
         test_several(&self.records, place, p, ends)?;
         self.take_first(rt, place, p, ends, gate)

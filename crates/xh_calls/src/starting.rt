@@ -5,7 +5,7 @@ ghost use Rattle.xh_core.specs.Refusing.{Tested};
 ghost use Rattle.xh_core.specs.Statuses.{is_over};
 ghost use Rattle.xh_model.specs.Words.{place_of};
 ghost use Rattle.xh_place.specs.Places.{IsPlaceOf};
-ghost use Rattle.xh_place.specs.Seen.{SeesMore};
+ghost use Rattle.xh_records.specs.History.{StartsWith};
 ghost use Rattle.xh_calls.specs.Calls.{Spawns};
 ghost use Rattle.xh_calls.specs.Places.{start, status_of, stop};
 
@@ -47,7 +47,7 @@ impl<N: Names> Heap<N> {
     /// latest was the 128th.
     pub fn spawn(&self, place: &mut Place) -> Option<u16>
         requires { IsPlaceOf N.parts.records place.old.place }
-        ensures same { IsPlaceOf N.parts.records place.new.place × SeesMore place.old place.new × (place_of place.new.place.process ≡ place_of place.old.place.process) }
+        ensures same { IsPlaceOf N.parts.records place.new.place × StartsWith place.new.front place.old.front × (place_of place.new.place.process ≡ place_of place.old.place.process) }
         ensures spawns { Spawns place.old.place place.new.place result }
     {
         let again = place.process() / u16::from(PLACES) + 1 < GENERATIONS;

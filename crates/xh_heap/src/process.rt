@@ -24,8 +24,8 @@ use xh_kernel::{Answered, Taken};
 /// dropped the process ends, where it didn't before; whoever waits for a message of it is told PeerClosed then.
 ///
 /// A block is named by its record's number, in the calls of the process that has it alone; to all others it is NotOwned. Each
-/// call is refused Ended once the process is ending or has ended, and the first refusal that applies, in the order told at
-/// the call. A refusal leaves everything as it was, but where the call says otherwise.
+/// call but `spawn` is refused Ended once the process is ending or has ended (`exit` once it has ended), and the first refusal
+/// that applies, in the order told at the call. A refusal leaves everything as it was, but where the call says otherwise.
 pub trait Process: Drop {
     /// The kernel's parts, and to which places its histories lead.
     ghost parts: { PartsOf };
@@ -45,7 +45,8 @@ pub trait Process: Drop {
     fn number(&self) -> u16
         ensures { result ≡ (handle self.now).number };
 
-    /// A new process, by a handle of its own. NoPlace where 32 processes run or are ending, or 33 handles are there.
+    /// A new process, by a handle of its own. NoPlace where 33 handles are there, or each of the 32 places has a process that runs
+    /// or is ending, or had its 128.
     fn spawn(&self) -> Result<Self, Refused>
         ensures { IfOk result (λ p. (before : AccountOf) × SpawnsAt leads before (handle p).account (Ok (handle p).number)) };
 

@@ -15,7 +15,7 @@ pub use Rattle.xh_history.specs.Histories.{FrontOf, LookOf, PenOf, fresh_front, 
 pub use Rattle.xh_calls.specs.Leading.{Leading}
 pub use Rattle.xh_calls.specs.Messages.{Takes}
 pub use Rattle.xh_calls.specs.Several.{TakesAny}
-pub use Rattle.xh_records.proofs.History.{starts_itself}
+pub use Rattle.xh_place.proofs.Seeing.{starts_same}
 pub use Rattle.xh_kernel.specs.Accounts.{AccountOf, AreFresh, IsUnmoved, seen_of}
 pub use Rattle.xh_kernel.specs.Calls.{Calls, Noted, Steps}
 pub use Rattle.xh_kernel.specs.Finished.{AreInOrder, AreSeen, HasLooked, histories_of, tallies_of}

@@ -1,6 +1,6 @@
 -- The last call of a history, by its word; and what is kept of each place.
 use Rattle.xh_kernel.proofs.Common.{All, All-cons, AreKept, Entry, Glance, IsHistoryOf, IsKept, IsPlaceOf, IsUnused, List, PartsOf, PenOf, PlaceSeen, Some, [], add-zero, ap, arith, fresh_pen}
-use Rattle.xh_kernel.proofs.Common.{last_glance, last_of, places_of, refl, starts_itself, subst, sym, ℕ, ◌++◌, ◌∙◌, ◌∷◌, ◌≡◌}
+use Rattle.xh_kernel.proofs.Common.{last_glance, last_of, places_of, refl, starts_same, subst, sym, ℕ, ◌++◌, ◌∙◌, ◌∷◌, ◌≡◌}
 use Rattle.std.specs.Prelude.{MatchOption, None, Option, option_map, unwrap_or}
 use Rattle.xh_core.specs.declared.status.Status.TheVariants.{Vacant}
 use Rattle.xh_history.specs.Histories.{History, Shown}
@@ -21,7 +21,7 @@ glance_push k h n e = ap (λ (o : Option (ℕ × Entry)). unwrap_or (option_map 
 -- a place that nobody has had yet, whose history has no call
 pub history_first : (parts : PartsOf) (p : PlaceSeen) (pen : PenOf Entry) (k : ℕ) → IsUnused parts k p.place → pen ≡ fresh_pen parts.histories k → IsHistoryOf parts pen.number pen.history p
 history_first parts p pen k unused is =
-    let first : IsHistoryOf parts k [] p = ∣ (p, unused, (refl, starts_itself p.front)) ∣₁ in subst (λ (z : PenOf Entry). IsHistoryOf parts z.number z.history p) (sym is) first
+    let first : IsHistoryOf parts k [] p = ∣ (p, unused, (refl, starts_same refl)) ∣₁ in subst (λ (z : PenOf Entry). IsHistoryOf parts z.number z.history p) (sym is) first
 
 -- one place more, and its pen
 pub kept_push : (parts : PartsOf) (ps : List PlaceSeen) (all : List (PenOf Entry)) (p : PlaceSeen) (pen : PenOf Entry) → AreKept parts ps all → IsKept parts p pen

@@ -18,7 +18,8 @@ use Rattle.xh_kernel.specs.Calls.{Calls}
 use Rattle.xh_kernel.specs.Places.{IsFound}
 use Rattle.xh_model.specs.Words.{place_of}
 use Rattle.xh_place.specs.Places.{IsPlaceOf, PlaceOf, glance_of}
-use Rattle.xh_place.specs.Seen.{PlaceSeen, SeesMore, Stays}
+use Rattle.xh_records.specs.History.{StartsWith}
+use Rattle.xh_place.specs.Seen.{PlaceSeen, Stays}
 
 -- ---- one call
 
@@ -46,7 +47,7 @@ pub record Goes (parts : PartsOf) (c : ℕ × Entry) (old new : PlaceSeen) : Typ
   pub worker : c.0 < parts.workers
   pub does : Does parts c.1.call old new
   pub found : IsFound parts new.place
-  pub seen : SeesMore old new
+  pub seen : StartsWith new.front old.front
   pub glance : c.1.glance ≡ glance_of new.place
 
 -- ---- a history

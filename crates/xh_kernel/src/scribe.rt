@@ -10,7 +10,8 @@ ghost use Rattle.xh_kernel.specs.Words.{IsPackable};
 ghost use Rattle.xh_model.specs.declared.limits.TheConstants.{GENERATIONS};
 ghost use Rattle.xh_model.specs.Words.{generation_of, place_of};
 ghost use Rattle.xh_place.specs.Places.{AreBlocks, IsPlaceOf, glance_of};
-ghost use Rattle.xh_place.specs.Seen.{PlaceSeen, SeesMore, Stays};
+ghost use Rattle.xh_place.specs.Seen.{PlaceSeen, Stays};
+ghost use Rattle.xh_records.specs.History.{StartsWith};
 
 use crate::shared::Shared;
 use crate::words::pack;
@@ -89,7 +90,7 @@ impl Scribe {
         requires front { (front.old.table ≡ N.parts.histories) × (front.old.number < N.parts.workers) }
         requires place { IsPlaceOf N.parts.records place.now.place × (place_of place.now.place.process ≡ self.old.pen.number) × (generation_of place.now.place.process < GENERATIONS) }
         requires does { (old : PlaceSeen) × (from : PlaceSeen) × IsHistoryOf N.parts self.old.pen.number self.old.pen.history old × Stays old from
-            × Does N.parts call from place.now × SeesMore from place.now }
+            × Does N.parts call from place.now × StartsWith place.now.front from.front }
         ensures pen { (self.new.pen.table ≡ N.parts.histories) × (self.new.pen.number ≡ self.old.pen.number) }
         ensures told { IsTold place.now.place self.new.pen }
         ensures lawful { IsLawful place.now.place }

@@ -1,6 +1,6 @@
 -- A worker's tallies and desk.
 use Rattle.xh_place.proofs.Words.{◌≡◌, ℕ, zero, suc, ◌+◌, ◌<◌, List, [], ◌∷◌, length, get_or, set, refl, sym, ap, ◌∙◌, subst, arith, Some, slice_get, TableId, TallyOf, ids_of, took, gave, Held}
-use Rattle.xh_place.proofs.Words.{Body, IsSameDesk, IsSeatAt, Item, with_blocks, IsSamePlace, PlaceSeen, SeesMore}
+use Rattle.xh_place.proofs.Words.{StartsWith, Body, IsSameDesk, IsSeatAt, Item, with_blocks, IsSamePlace, PlaceSeen}
 use Rattle.xh_place.specs.declared.desk.Desk.{Desk}
 
 pub ids_long : (ts : List TallyOf) → length (ids_of ts) ≡ length ts
@@ -52,5 +52,5 @@ module _ {R V G : Type 0} (names : V → List TableId) where
     )
 
 -- a place with other blocks is the same place
-pub same_place : (old new : PlaceSeen) (xs : List (ℕ × Item)) → new.place ≡ with_blocks old.place xs → SeesMore old new → IsSamePlace old new
+pub same_place : (old new : PlaceSeen) (xs : List (ℕ × Item)) → new.place ≡ with_blocks old.place xs → StartsWith new.front old.front → IsSamePlace old new
 same_place old new xs e more = (ap (λ p. p.table) e, ap (λ p. p.shape) e, ap (λ p. p.process) e, more)

@@ -1,8 +1,8 @@
 -- An endpoint of a place that takes one message after another.
 use Rattle.xh_place.proofs.Words.{on_err_weaker, ◌≡◌, ℕ, ◌≤◌, inl, inr, List, [], ◌∷◌, ◌++◌, append_assoc, append-nil, length, refl, sym, ap, ◌∙◌, subst, Some, None, Option, Ok, Err, Result}
 use Rattle.xh_place.proofs.Words.{MatchResult, map-append, Message, Posted, Refused, put, value_at, front_at, put_at, put_same, put_twice, Content, bytes, endpoint, kind_of, toward, Taken, AreGot}
-use Rattle.xh_place.proofs.Words.{AreUnpacked, EndsWith, IsDrained, Shuts, Takes, TakesEach, blocks_of, record_of, EndDoes, end_block, toward_in, away_in, Clears, Drains, IsUntaken, Unpacks, IsSent}
-use Rattle.xh_place.proofs.Words.{IsTaken, Item, PlaceOf, with_blocks, with_more, IsSeen, PlaceSeen, SawAfter, Stays, Event, Pass}
+use Rattle.xh_place.proofs.Words.{AreUnpacked, EndsWith, IsDrained, Shuts, Takes, TakesEach, blocks_of, record_of, EndDoes, end_block, toward_in, Clears, Drains, IsUntaken, Unpacks, IsSent}
+use Rattle.xh_place.proofs.Words.{IsTaken, Item, PlaceOf, with_blocks, with_more, IsSeen, PlaceSeen, Stays}
 use Rattle.xh_place.proofs.Words.{true, false, ⊎_elim, ◌+◌, arith}
 use Rattle.std.proofs.Common.{true≢false}
 use Rattle.std.proofs.lemmas.Bool.{false_from_ne_true}
@@ -11,8 +11,8 @@ use Rattle.xh_channel.specs.declared.refused.Refused.{Refused as NoMessage}
 use Rattle.xh_model.specs.declared.limits.TheConstants.{MAX_MESSAGES}
 use Rattle.xh_place.proofs.Listing.{put_front}
 use Rattle.xh_place.proofs.Ends.{found_none, way_shut, way_taken}
-use Rattle.xh_place.proofs.Seeing.{got_both, all_got_as, unpacked_as, away_as, came_before, seen_wide, starts_same}
-use Rattle.xh_place.proofs.Moves.{more_none, more_twice}
+use Rattle.xh_place.proofs.Seeing.{got_both, all_got_as, unpacked_as, seen_wide, starts_more, starts_same}
+use Rattle.xh_place.proofs.Events.{more_none, more_twice}
 use Rattle.xh_core.specs.declared.header.Kind.TheVariants as kind
 
 -- ---- one endpoint
@@ -200,7 +200,6 @@ taken_from e old mid new (Err refused) same is = subst (λ (p : PlaceOf). IsUnta
 
 pub sent_from : (e tag : ℕ) (given : List ℕ) (old mid new : PlaceSeen) (result : Result ℕ Refused) → Stays old mid → IsSent e tag given mid new result → IsSent e tag given old new result
 sent_from e tag given old mid new result same is =
-    let seen : PlaceSeen = record { place = mid.place; front = old.front } in
     subst (λ (p : PlaceOf). IsSent e tag given (record { place = p; front = old.front }) new result) same.0 (record {
       mid = is.mid;
       blocks = is.blocks;
@@ -210,7 +209,6 @@ sent_from e tag given old mid new result same is =
       made = is.made;
       moved = is.moved;
       lost = on_err_weaker is.answered (λ h r among missed.
-          let d : ℕ = away_in (value_at e mid.place.blocks) in let passed : Event = Pass mid.place.process r d in
-          away_as (SawAfter passed mid new) (SawAfter passed seen new) (λ q word w. (w.0, came_before passed old.front same.1 w.1, w.2)) d r (h r among missed)) is.lost;
+          let w = h r among missed in (w.0, starts_more old.front same.1 w.1, w.2)) is.lost;
       answer = is.answer;
     })

@@ -1,7 +1,9 @@
 -- What a call that names a block of the list knows of it, and what the value of a place keeps.
 use Rattle.xh_place.proofs.Words.{◌≡◌, ℕ, List, refl, sym, ap, ◌∙◌, subst, Some, None, Option, LotOf, Status, Among, value_at, put, put_same, Held, IsRecord, IsSeatOf, RecordsOf, with_lots, Body}
-use Rattle.xh_place.proofs.Words.{Item, PlaceOf, entry_of, item_of, IsBlock, IsPlace, IsPlaceOf, ◌≤◌, true, rules, Shape, End, content_of, fits_in, AreBlocks, Fits, IsWhole, Lists, item_at, Bool}
+use Rattle.xh_place.proofs.Words.{Item, PlaceOf, option_map, header_of, item_of, IsBlock, IsPlace, IsPlaceOf, ◌≤◌, true, rules, Shape, End, content_of, fits_in, AreBlocks, Fits, IsWhole, Lists}
+use Rattle.xh_place.proofs.Words.{item_at, Bool}
 use Rattle.xh_place.proofs.Words.{⊎_elim, inl, inr, [], ◌∷◌, map, eq-eqb, dite, ℕ_discrete, MatchBool, ◌==◌, Process, keys, index_of, word_of, Knows, owned_by}
+use Rattle.xh_place.proofs.Words.{◌+◌, ◌*◌, ◌%◌, slice_index, HasFound, SawFull, SawTaken}
 use Rattle.xh_core.specs.Headers.{has_end}
 use Rattle.xh_core.specs.declared.header.Header.{Header}
 use Rattle.xh_records.specs.Seats.{view_of as seen_of}
@@ -30,11 +32,11 @@ module _ {seat : Held Body} {xs : List (ℕ × Item)} {room total : ℕ} {state 
       let shape : seat.shape ≡ all.shape = ap (λ (q : PlaceOf). q.shape) shows ∙ own.1 in
       ((ap (λ (q : PlaceOf). q.table) shows ∙ own.0, shape), subst (λ z. IsRecord z r) shape (found r at).block.exists)
 
-pub entry_some : (o : Option Item) (s : Header) → entry_of o ≡ Some s → (x : Item) × (o ≡ Some x)
+pub entry_some : (o : Option Item) (s : Header) → option_map header_of o ≡ Some s → (x : Item) × (o ≡ Some x)
 entry_some None s e = absurd (cc)
 entry_some (Some x) s e = (x, refl)
 
-pub end_listed : (o : Option Item) → has_end (entry_of o) ≡ true → (x : Item) × (o ≡ Some x)
+pub end_listed : (o : Option Item) → has_end (option_map header_of o) ≡ true → (x : Item) × (o ≡ Some x)
 end_listed None e = absurd (cc)
 end_listed (Some x) e = (x, refl)
 
@@ -89,3 +91,16 @@ word_holds seat r word own is all knows same =
     (among_index seat.shape (keys seat.lots) r all is.1 (owns_key seat.process k ks (mine.0 (e ∙ same)))))
     (λ n. subst (λ (b : Bool). MatchBool b (Among (keys seat.lots) r) (Among (keys seat.lots) r → ⊥)) (sym (unequal word own n))
     (λ a. n (mine.1 (key_owns seat.process k ks (among_map (index_of seat.shape.records) (keys seat.lots) r a)) ∙ sym same)))
+
+-- a claim found no record free: where a word was the seat's own, the seat holds the record
+pub no_record : (arena : ℕ) (words : List ℕ) (x y : Held Body) → ((q : ℕ) → Among (keys x.lots) q → IsRecord x.shape q) → SawTaken arena words x y
+    → SawFull x.process (keys x.lots) x.shape x.front y.front arena
+no_record arena words x y all h = λ r exists near.
+    let look = h.1 (r % 256) exists.1 in let word : ℕ = slice_index words (r % 256) in let n : ℕ = x.shape.records in
+    let at : arena * n + r % 256 ≡ index_of n r = ap (λ (a : ℕ). a * n + r % 256) (sym near) in
+    let found = subst (λ (k : ℕ). HasFound k word x look.1) at look.4 in (
+      word,
+      look.0,
+      (λ own. among_index x.shape (keys x.lots) r all exists.1 (owns_key x.process (index_of n r) (map (index_of n) (keys x.lots)) ((found.0.1 x.process (inl refl)).0 own))),
+      (look.1, look.2, look.3, found.1),
+    )

@@ -2,9 +2,9 @@
 use Rattle.xh_place.proofs.Words.{dec_among, map-append, arith, eqb, eq-eqb, ◌≡◌, ℕ, Bool, true, false, ⊎_elim, List, [], ◌∷◌, refl, sym, ap, ◌∙◌, ◌==◌, ◌||◌, ◌&&◌, Option, Some, None, is_some}
 use Rattle.xh_place.proofs.Words.{nat_tests, list_all, list_any, first_refusal, Among, Distinct, value_at, given_tests, is_listed, Item, ◌≢◌, ◌+◌, ◌*◌, ◌≤◌, inl, inr, length, subst, cond, dite}
 use Rattle.xh_place.proofs.Words.{ℕ_discrete, LotOf, Status, is_over, keys, put, without, distinct_without, put_at, put_keys, put_other, without_at, without_other, Held, with_lots, HasNow, AreBack}
-use Rattle.xh_place.proofs.Words.{lens, less_all, Body, item_at, item_of, item_in, shown, total_of, with_blocks, IsBlock, IsPlace, settle, settled, append-nil, length-append}
+use Rattle.xh_place.proofs.Words.{lens, less_all, Body, item_at, item_of, item_in, shown, total_of, with_blocks, IsBlock, IsPlace, settle, settled, length-append}
 use Rattle.xh_place.proofs.Words.{◌++◌, Event, Accept}
-use Rattle.xh_place.proofs.Words.{Pass, among_either, last_at, last_other, did, accepted_on, moves, passed_on, SeatSaw, SeatSeesMore, with_done, IsElsewhere, CameBack}
+use Rattle.xh_place.proofs.Words.{StartsWith, Pass, among_either, last_at, last_other, did, accepted_on, passed_on, SawAt, with_done, IsElsewhere, CameBack}
 use Rattle.xh_place.proofs.Words.{among_back, among_front}
 use Rattle.xh_place.proofs.Words.{ArePassed, Came}
 use Rattle.xh_core.specs.Several.{has_twice}
@@ -13,7 +13,8 @@ use Rattle.std.proofs.lemmas.List.Folds.{list_any-append}
 use Rattle.xh_place.proofs.Steps.{IsNow, is_now, quiet_alive, turned}
 use Rattle.xh_place.proofs.Listing.{keys_settled, lens_none, lens_same, shown_keys, total_put, total_without, lens_one, unequal}
 use Rattle.xh_place.proofs.Seeing.{came_before, came_more, away_as, saw_later, starts_same}
-use Rattle.xh_place.proofs.Moves.{moved_twice, own_lots}
+use Rattle.xh_place.proofs.Words.{alone, bare, carrying, map, picked, values}
+use Rattle.xh_place.proofs.Events.{moved_none, moved_twice, own_lots, picked_append, picked_one, picked_same}
 
 neither : (a b : Bool) → (a || b) ≡ false → (a ≡ false) × (b ≡ false)
 neither true b e = absurd (cc)
@@ -126,6 +127,20 @@ some_item (Some l) = refl
 pub shown_look : (lots : List (ℕ × LotOf Body)) (rs : List ℕ) (r : ℕ) → list_any (λ q. q == r) rs ≡ is_some (value_at r lots) → value_at r (shown lots rs) ≡ item_at (value_at r lots)
 shown_look lots rs r e = shown_if lots rs r ∙ ap (λ (b : Bool). cond b (Some (item_in (value_at r lots))) None) e ∙ item_if (value_at r lots)
 
+any_of : (e : ℕ) (rs : List ℕ) → Among rs e → list_any (λ q. q == e) rs ≡ true
+any_of e [] a = absurd a
+any_of e (r ∷ rs) a = grind (arith, nat_tests, any_of e rs)
+
+-- those that came back, as blocks
+shown_items : (rs : List ℕ) (lots : List (ℕ × LotOf Body)) → ((r : ℕ) → Among rs r → (l : LotOf Body) × (value_at r lots ≡ Some l)) → map item_of (values (picked rs lots)) ≡ values (shown lots rs)
+shown_items [] lots has = refl
+shown_items (r ∷ rs) lots has = let h = has r (inl refl) in
+    ap (λ (o : Option (LotOf Body)). map item_of (values (alone r o ++ picked rs lots))) h.1 ∙ (λ i. item_in (sym h.1 i) ∷ shown_items rs lots (λ q a. has q (inr a)) i)
+
+pub back_items : (given back : List ℕ) (seat : Held Body) → AreBack given back seat → map item_of (values (picked back seat.lots)) ≡ values (shown seat.lots back)
+back_items given back seat came =
+    shown_items back seat.lots (λ r a. some_of (value_at r seat.lots) (sym (came.here r (came.only r a)) ∙ any_of r back a))
+
 -- After a give, whatever came back: each given record has what its seat has for it now, and its old place; all others are as they were.
 settled_place : (seat last : Held Body) (rs ys given back : List ℕ) (room cap total total' : ℕ) (state : Status) → (is_over state ≡ true → ⊥)
     → IsPlace seat (shown seat.lots rs) room total state → Distinct given → ((r : ℕ) → Among given r → (k : LotOf Body) × (value_at r seat.lots ≡ Some k))
@@ -178,29 +193,28 @@ module _ {seat last : Held Body} (rs : List ℕ) {ys given back : List ℕ} {roo
 
 -- ---- the loops of a give over its blocks
 
--- a seat that did nothing yet
-pub told_none : (seat : Held Body) → HasNow (with_done [] seat) seat.lots seat
-told_none seat = ap (λ (es : List Event). record seat { done = moves es; front = [] }) (sym (append-nil seat.done))
-
 -- of the given records those in `more` are to be passed on the direction, and the others, `gone`, were
 abbrev pub IsPassing : ℕ → List ℕ → List ℕ → List ℕ → Held Body → Held Body → Type 0
-IsPassing d given gone more old seat = HasNow (with_done (passed_on old.process d gone) old) seat.lots seat
+IsPassing d given gone more old seat = HasNow (with_done (passed_on old.process d gone) (carrying (values (picked gone old.lots)) old)) seat.lots seat
     × ((r : ℕ) → (Among more r → ⊥) → Among given r → value_at r seat.lots ≡ None)
     × ((r : ℕ) → Among more r → value_at r seat.lots ≡ value_at r old.lots)
     × ((r : ℕ) → (Among given r → ⊥) → value_at r seat.lots ≡ value_at r old.lots)
     × Distinct more
 
-pub passing : (d : ℕ) (given gone more : List ℕ) (r : ℕ) (old seat last : Held Body) → Among given r → IsPassing d given gone (r ∷ more) old seat
-    → HasNow (did (Pass seat.process r d) seat) (without r seat.lots) last → IsPassing d given (gone ++ r ∷ []) more old last
-passing d given gone more r old seat last among is new =
+pub passing : (d : ℕ) (given gone more : List ℕ) (r : ℕ) (l : LotOf Body) (old seat last : Held Body) → Among given r → IsPassing d given gone (r ∷ more) old seat → value_at r old.lots ≡ Some l
+    → HasNow (did (Pass seat.process r d) (carrying (l ∷ []) seat)) (without r seat.lots) last → IsPassing d given (gone ++ r ∷ []) more old last
+passing d given gone more r l old seat last among is here new =
     let p : ℕ = old.process in
     let whose : seat.process ≡ p = ap (λ (h : Held Body). h.process) is.0 in
     let log : passed_on p d gone ++ Pass seat.process r d ∷ [] ≡ passed_on p d (gone ++ r ∷ []) =
     (λ i. passed_on p d gone ++ Pass (whose i) r d ∷ []) ∙ sym (map-append (λ (z : ℕ). Pass p z d) gone (r ∷ [])) in
+    let lots : values (picked gone old.lots) ++ l ∷ [] ≡ values (picked (gone ++ r ∷ []) old.lots) =
+    ap (λ (z : List (LotOf Body)). values (picked gone old.lots) ++ z) (sym (picked_one r l old.lots here)) ∙ sym (picked_append gone (r ∷ []) old.lots) in
     let at : (q : ℕ) → value_at q last.lots ≡ value_at q (without r seat.lots) = λ q. ap (λ (h : Held Body). value_at q h.lots) new in
     let other : (q : ℕ) → r ≢ q → value_at q last.lots ≡ value_at q seat.lots = λ q n. at q ∙ without_other q r seat.lots n in (
-      subst (λ (es : List Event). HasNow (with_done es old) last.lots last) log
-          (moved_twice old seat last (passed_on p d gone) (Pass seat.process r d ∷ []) is.0 (own_lots (did (Pass seat.process r d) seat) last _ new)),
+      subst (λ (z : List Event × List (LotOf Body)). HasNow (with_done z.0 (carrying z.1 old)) last.lots last) (λ i. (log i, lots i))
+          (moved_twice old seat last (passed_on p d gone) (Pass seat.process r d ∷ []) (values (picked gone old.lots)) (l ∷ []) seat.lots last.lots is.0
+          (own_lots (did (Pass seat.process r d) (carrying (l ∷ []) seat)) last _ new)),
       (λ q n a. dite (ℕ_discrete r q)
           (λ e. at q ∙ subst (λ (z : ℕ). value_at z (without r seat.lots) ≡ None) e (without_at r seat.lots))
           (λ o. other q o ∙ is.1 q (λ h. ⊎_elim (λ (e : q ≡ r). o (sym e)) n h) a)),
@@ -221,7 +235,7 @@ passed_bytes given more gone d r bytes n l old seat last once among is at new le
 
 -- of the given records those in `more` are still away; of the others those that came back are in the seat
 abbrev pub IsAccepting : ℕ → List ℕ → List ℕ → Held Body → Held Body → List ℕ → ℕ → Type 0
-IsAccepting d given more old seat back bytes = HasNow (with_done (accepted_on old.process d back) old) seat.lots seat
+IsAccepting d given more old seat back bytes = HasNow (with_done (accepted_on old.process d back) (carrying (values (picked back seat.lots)) old)) seat.lots seat
     × AreBack given back seat
     × ((r : ℕ) → Among more r → value_at r seat.lots ≡ None)
     × ((r : ℕ) → (Among given r → ⊥) → value_at r seat.lots ≡ value_at r old.lots)
@@ -238,7 +252,7 @@ back_none given seat back new none = subst (λ (l : List ℕ). AreBack given l s
 pub accepting_none : (d : ℕ) (given : List ℕ) (seat : Held Body) (back : List ℕ) → back ≡ [] → ((r : ℕ) → Among given r → value_at r seat.lots ≡ None) → Distinct given
     → IsAccepting d given given seat seat back 0
 accepting_none d given seat back new none once = subst (λ (l : List ℕ). IsAccepting d given given seat seat l 0) (sym new) (
-  told_none seat,
+  moved_none seat,
   back_none given seat [] refl none,
   none,
   (λ r n. refl),
@@ -252,7 +266,8 @@ accepting d given more r bytes n old seat last back new once among is came = ⊎
     (λ h. let lots : last.lots ≡ seat.lots = ap (λ (k : Held Body). k.lots) h.1 in let shape : seat.shape ≡ last.shape = sym (ap (λ (k : Held Body). k.shape) h.1) in
     let sum : bytes + n ≡ bytes = (let z : n ≡ 0 = h.2 in omega arith) in
     subst (λ (z : List ℕ). IsAccepting d given more old last z (bytes + n)) (sym h.0) (
-      own_lots (with_done (accepted_on old.process d back) old) last _ (h.1 ∙ is.0),
+      own_lots (with_done (accepted_on old.process d back) (carrying (values (picked back last.lots)) old)) last _
+          (h.1 ∙ is.0 ∙ ap (λ (ls : List (ℕ × LotOf Body)). bare (with_lots (with_done (accepted_on old.process d back) (carrying (values (picked back ls)) old)) seat.lots)) (sym lots)),
       record {
         here = λ q a. is.1.here q a ∙ ap (λ (l : List (ℕ × LotOf Body)). is_some (value_at q l)) (sym lots);
         only = is.1.only;
@@ -267,17 +282,23 @@ accepting d given more r bytes n old seat last back new once among is came = ⊎
     let p : ℕ = old.process in let whose : seat.process ≡ p = ap (λ (k : Held Body). k.process) is.0 in
     let log : accepted_on p d back ++ accepted_on seat.process d (r ∷ []) ≡ accepted_on p d new =
     (λ i. accepted_on p d back ++ accepted_on (whose i) d (r ∷ [])) ∙ sym (map-append (λ (z : ℕ). Accept p z d) back (r ∷ [])) ∙ ap (accepted_on p d) (sym h.1) in
-    let now = own_lots (did (Accept seat.process r d) seat) last _ h.3 in
+    let now = own_lots (did (Accept seat.process r d) (carrying (l ∷ []) seat)) last _ h.3 in
     let lots : last.lots ≡ seat.lots ++ (r, l) ∷ [] = ap (λ (k : Held Body). k.lots) h.3 in
     let mine : value_at r last.lots ≡ Some l = ap (value_at r) lots ∙ last_at r l seat.lots h.2 in
     let at : (q : ℕ) → r ≢ q → value_at q last.lots ≡ value_at q seat.lots = λ q o. ap (value_at q) lots ∙ last_other q r l seat.lots o in
+    let away : Among back r → ⊥ = none_of r back (is.1.here r among ∙ ap is_some none) in
+    let kept : picked back seat.lots ≡ picked back last.lots =
+    picked_same back seat.lots last.lots (λ q a. sym (at q (λ e. away (subst (λ (z : ℕ). Among back z) (sym e) a)))) in
+    let moved : values (picked back seat.lots) ++ l ∷ [] ≡ values (picked new last.lots) =
+    (λ i. values (kept i) ++ sym (picked_one r l last.lots mine) i) ∙ sym (picked_append back (r ∷ []) last.lots) ∙ ap (λ (z : List ℕ). values (picked z last.lots)) (sym h.1) in
     let any : (q : ℕ) → list_any (λ z. z == q) new ≡ (list_any (λ z. z == q) back || (r == q || false)) = λ q. ap (list_any (λ z. z == q)) h.1 ∙ list_any-append (λ z. z == q) back (r ∷ []) in
     let shape : seat.shape ≡ last.shape = sym (ap (λ (k : Held Body). k.shape) h.3) in
     let more_bytes : lens given (λ q. value_at q last.lots) ≡ lens given (λ q. value_at q seat.lots) + (item_in (value_at r last.lots)).len =
     lens_one given r (λ q. value_at q seat.lots) (λ q. value_at q last.lots) once among none at in
     let len : (item_in (value_at r last.lots)).len ≡ l.len = ap (λ (o : Option (LotOf Body)). (item_in o).len) mine in let told : n ≡ l.len = h.5 in
     let before : bytes ≡ lens given (λ q. value_at q seat.lots) = is.5 in (
-      subst (λ (es : List Event). HasNow (with_done es old) last.lots last) log (moved_twice old seat last (accepted_on p d back) (accepted_on seat.process d (r ∷ [])) is.0 now),
+      subst (λ (z : List Event × List (LotOf Body)). HasNow (with_done z.0 (carrying z.1 old)) last.lots last) (λ i. (log i, moved i))
+          (moved_twice old seat last (accepted_on p d back) (accepted_on seat.process d (r ∷ [])) (values (picked back seat.lots)) (l ∷ []) seat.lots last.lots is.0 now),
       record {
         here = λ q a. dite (ℕ_discrete r q)
             (λ e. subst (λ (z : ℕ). list_any (λ y. y == z) new ≡ is_some (value_at z last.lots)) e
@@ -298,7 +319,7 @@ accepting d given more r bytes n old seat last back new once among is came = ⊎
     came
 
 -- one more was passed
-pub passed_more : (d : ℕ) (gone : List ℕ) (r : ℕ) (old seat last : Held Body) → seat.process ≡ old.process → SeatSeesMore old seat → SeatSeesMore seat last
+pub passed_more : (d : ℕ) (gone : List ℕ) (r : ℕ) (old seat last : Held Body) → seat.process ≡ old.process → StartsWith seat.front old.front → StartsWith last.front seat.front
     → ArePassed d gone old seat → Came (Pass seat.process r d) seat.front last.front → ArePassed d (gone ++ r ∷ []) old last
 passed_more d gone r old seat last whose before after all one q among = ⊎_elim
     (λ a. came_more (Pass old.process q d) old.front (all q a) after)
@@ -308,21 +329,21 @@ passed_more d gone r old seat last whose before after all one q among = ⊎_elim
 
 -- each of these that didn't come back had another word
 abbrev pub AreLost : ℕ → List ℕ → List ℕ → Held Body → Held Body → Type 0
-AreLost d gone back old new = (r : ℕ) → Among gone r → (Among back r → ⊥) → IsElsewhere (SeatSaw old new) d r
+AreLost d gone back old new = (r : ℕ) → Among gone r → (Among back r → ⊥) → IsElsewhere (SawAt old.shape old.front new.front) d r
 
-pub lost_more : (d : ℕ) (gone : List ℕ) (r n : ℕ) (old seat last : Held Body) (back new : List ℕ) → seat.shape ≡ old.shape → SeatSeesMore old seat → SeatSeesMore seat last
+pub lost_more : (d : ℕ) (gone : List ℕ) (r n : ℕ) (old seat last : Held Body) (back new : List ℕ) → seat.shape ≡ old.shape → StartsWith seat.front old.front → StartsWith last.front seat.front
     → AreLost d gone back old seat → CameBack d r seat last back new n → AreLost d (gone ++ r ∷ []) new old last
 lost_more d gone r n old seat last back new shape before after lost came q among missed = ⊎_elim
-    (λ a. away_as (SeatSaw old seat) (SeatSaw old last) (saw_later old old seat last refl (starts_same refl) after) d q (lost q a (λ b. missed (kept q b))))
+    (λ a. away_as (SawAt old.shape old.front seat.front) (SawAt old.shape old.front last.front) (saw_later old old seat last refl (starts_same refl) after) d q (lost q a (λ b. missed (kept q b))))
     (λ a. ⊎_elim (λ (e : q ≡ r). here e) (λ z. absurd z) a)
     (among_either gone (r ∷ []) q among) where
       kept : (z : ℕ) → Among back z → Among new z
       kept z b = ⊎_elim (λ h. subst (λ (l : List ℕ). Among l z) (sym h.0) b) (λ h. subst (λ (l : List ℕ). Among l z) (sym h.1) (among_front back (r ∷ []) z b)) came
 
-      here : q ≡ r → IsElsewhere (SeatSaw old last) d q
+      here : q ≡ r → IsElsewhere (SawAt old.shape old.front last.front) d q
       here e = ⊎_elim
-          (λ h. subst (λ (z : ℕ). IsElsewhere (SeatSaw old last) d z) (sym e)
-          (away_as (SeatSaw seat last) (SeatSaw old last) (saw_later old seat last last shape before (starts_same refl)) d r h.3))
+          (λ h. subst (λ (z : ℕ). IsElsewhere (SawAt old.shape old.front last.front) d z) (sym e)
+          (away_as (SawAt seat.shape seat.front last.front) (SawAt old.shape old.front last.front) (saw_later old seat last last shape before (starts_same refl)) d r h.3))
           (λ h. absurd (missed (subst (λ (l : List ℕ). Among l q) (sym h.1) (among_back back (r ∷ []) q (inl e)))))
           came
 

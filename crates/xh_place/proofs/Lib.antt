@@ -3,7 +3,7 @@ pub mod Common
 pub mod Listing
 pub mod Steps
 pub mod Seeing
-pub mod Moves
+pub mod Events
 pub mod Gained
 pub mod Counted
 pub mod Givens

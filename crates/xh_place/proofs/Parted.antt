@@ -2,7 +2,7 @@
 use Rattle.xh_place.proofs.Words.{◌≡◌, ◌≢◌, ℕ, ◌+◌, ◌-◌, ◌/◌, ◌<◌, ◌≤◌, List, [], ◌∷◌, ◌++◌, length, drop, take, true, refl, sym, ap, ◌∙◌, subst, arith, rules, length-take-le, length-drop, Some}
 use Rattle.xh_place.proofs.Words.{None, LotOf, start, Tests, first_refusal, is_running, is_over, Status, Running, Among, keys, value_at, put, at_key, front_at, keys_push, last_put, put_keys}
 use Rattle.xh_place.proofs.Words.{IsLotOf, Held, IsRecord, IsSeatOf, RecordsOf, with_lots, HasNow, IsCut, IsData, bare, Body, Nothing, Data, End, bytes, content_of, fits_in, front, kind_of, rest}
-use Rattle.xh_place.proofs.Words.{Item, item_at, item_of, shown, total_of, IsBlock, IsPlace, length-append, Shape, patched}
+use Rattle.xh_place.proofs.Words.{Claim, did, Item, item_at, item_of, shown, total_of, IsBlock, IsPlace, length-append, Shape, patched}
 use Rattle.xh_model.specs.Arena.{IsGoodCut}
 use Rattle.xh_place.proofs.Listing.{put_front, shown_keys, total_put}
 use Rattle.xh_place.proofs.Gained.{fits_bytes, has}
@@ -35,7 +35,8 @@ data_of (End p) n k e = absurd (cc)
 
 -- the list and its place after the cut
 module _ {seat : Held Body} (last : Held Body) (rs : List ℕ) {ys : List ℕ} {room cap total : ℕ} {state : Status} {r t : ℕ} {l h m : LotOf Body} (alive : is_over state ≡ true → ⊥)
-    (is : IsPlace seat (shown seat.lots rs) room total state) (at : value_at r seat.lots ≡ Some l) (head : IsBlock seat.shape r h) (tail : IsBlock seat.shape t m) (fresh : Among (keys seat.lots) t → ⊥)
+    (is : IsPlace seat (shown seat.lots rs) room total state) (at : value_at r seat.lots ≡ Some l) (head : IsBlock seat.shape r h) (tail : IsBlock seat.shape t m)
+    (fresh : Among (keys seat.lots) t → ⊥)
     (new : HasNow seat (put r h seat.lots ++ (t, m) ∷ []) last) (lens : h.len + m.len ≡ l.len) (items : ys ≡ rs ++ t ∷ []) (caps : cap ≡ room) where
   pub parted : IsNow seat rs state last ys cap total (λ (es : List (ℕ × Item)). put r (item_of h) es ++ (t, item_of m) ∷ [])
   parted =
@@ -75,7 +76,8 @@ cutting all seat mid r t l l0 own at block exists lot fresh is = record {
   is = is;
 }
 
-pub is_cut : (all : RecordsOf) (seat mid last : Held Body) (r t k : ℕ) (l l0 h m : LotOf Body) (b : Body) → Cutting all seat mid r t l l0 → (Among (keys seat.lots) t → ⊥) → IsBlock seat.shape r l
+pub is_cut : (all : RecordsOf) (seat mid last : Held Body) (r t k : ℕ) (l l0 h m : LotOf Body) (b : Body) → Cutting all (did (Claim seat.process t) seat) mid r t l l0
+    → (Among (keys seat.lots) t → ⊥) → IsBlock seat.shape r l
     → IsLotOf seat.shape t l0 → IsRecord seat.shape t → IsData l → IsGoodCut k l.len → t / 256 ≡ r / 256
     → h ≡ record l { len = k; body = h.body } → content_of h.body ≡ front k (content_of l.body) → m ≡ record l0 { len = l.len - k; body = b } → content_of b ≡ rest k (content_of l.body)
     → last ≡ with_lots mid (put t m (put r h mid.lots)) → IsCut seat last r k l t
@@ -91,7 +93,7 @@ is_cut all seat mid last r t k l l0 h m b c fresh block lot exists held good are
       h,
       m,
       fresh,
-      cut_up seat mid last r t l l0 h m c.is fresh c.was new,
+      cut_up (did (Claim seat.process t) seat) mid last r t l l0 h m c.is fresh c.was new,
       record {
         exists = block.exists;
         lot = (ap (λ (z : LotOf Body). z.index) head ∙ block.lot.0, block.lot.1 ∙ ap (λ (z : LotOf Body). Some z.id) (sym head));

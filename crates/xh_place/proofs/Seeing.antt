@@ -1,8 +1,12 @@
 -- What was seen stays seen, and a word that was seen between two fronts was seen between wider ones.
-use Rattle.xh_place.proofs.Words.{◌≡◌, ℕ, ◌+◌, ◌*◌, ⊎_elim, inl, inr, List, [], ◌∷◌, ◌++◌, append_assoc, append-nil, refl, sym, ap, ◌∙◌, subst, slice_index, Event, value_at, index_of, Shape}
-use Rattle.xh_place.proofs.Words.{StartsWith, Advances, Held, IsRecord, HasSeen, SawTaken, Body, Got, Message, Content, bytes, endpoint, toward, AreEnded, IsSwept, IsSweptBy, AreGot, AreUnpacked}
-use Rattle.xh_place.proofs.Words.{EndsWith, IsGot, toward_in, Clears, Drains, SeatFull, SeatSaw, SeatSeesMore, Item, PlaceOf, Status, IsElsewhere, IsSeen, PlaceSeen, SawAt, SawFull, SawWord}
-use Rattle.xh_place.proofs.Words.{SeesMore, Came, Pass, SeatSawAfter, among_back, among_front}
+use Rattle.xh_place.proofs.Words.{◌≡◌, ℕ, ⊎_elim, inl, inr, List, [], ◌∷◌, ◌++◌, append_assoc, append-nil, refl, sym, ap, ◌∙◌, subst, Event, Among, value_at, Shape}
+use Rattle.xh_place.proofs.Words.{StartsWith, Advances, Held, IsRecord, HasSeen, Body, Got, Message, Content, bytes, endpoint, toward, AreEnded, IsSwept, IsSweptBy, AreGot, AreUnpacked}
+use Rattle.xh_place.proofs.Words.{EndsWith, IsGot, toward_in, Clears, Drains, Item, PlaceOf, Status, IsElsewhere, IsSeen, PlaceSeen, SawAt, SawFull, SawWord}
+use Rattle.xh_place.proofs.Words.{Came, HasLeft}
+use Rattle.xh_arena.specs.Views.{VaultOf}
+use Rattle.xh_core.specs.declared.refused.Refused.{Refused}
+use Rattle.xh_core.specs.declared.refused.Refused.TheVariants as reason
+use Rattle.xh_place.specs.Vaults.{IsNoBlock, IsNoPair}
 use Rattle.xh_place.specs.declared.got.Got.TheVariants.{Here, Missing}
 use Rattle.xh_place.proofs.Steps.{view_of}
 
@@ -13,51 +17,44 @@ pub starts_more : (a : List Event) {b c : List Event} → StartsWith b a → Sta
 starts_more a {b} {c} one two = (one.0 ++ two.0, two.1 ∙ ap (λ (l : List Event). l ++ two.0) one.1 ∙ append_assoc a one.0 two.0)
 
 -- a step of the seat
-pub advanced : (own : List Event) (x y : Held Body) → Advances own x y → SeatSeesMore x y
+pub advanced : (own : List Event) (x y : Held Body) → Advances own x y → StartsWith y.front x.front
 advanced own x y h = (h.0 ++ own, h.1)
 
 -- ---- events that came
 
 pub came_more : (e : Event) (a : List Event) {b c : List Event} → Came e a b → StartsWith c b → Came e a c
-came_more e a h two = (h.0 ++ two.0, two.1 ∙ ap (λ (l : List Event). l ++ two.0) h.1 ∙ append_assoc a h.0 two.0, among_front h.0 two.0 e h.2)
+came_more e a h two = (h.0, h.1, starts_more (h.0 ++ e ∷ []) h.2 two)
 
 pub came_before : (e : Event) (a : List Event) {b c : List Event} → StartsWith b a → Came e b c → Came e a c
-came_before e a one h = (one.0 ++ h.0, h.1 ∙ ap (λ (l : List Event). l ++ h.0) one.1 ∙ append_assoc a one.0 h.0, among_back one.0 h.0 e h.2)
+came_before e a one h = (h.0, starts_more a one h.1, h.2)
 
 -- the step's own
 pub came_last : (e : Event) (x y : Held Body) → Advances (e ∷ []) x y → Came e x.front y.front
-came_last e x y h = (h.0 ++ e ∷ [], h.1, among_back h.0 (e ∷ []) e (inl refl))
+came_last e x y h = (x.front ++ h.0, (h.0, refl), starts_same (h.1 ∙ sym (append_assoc x.front h.0 (e ∷ []))))
 
 -- ---- looks
 
 -- a look, as the seat says it
-pub looked : (x y : Held Body) (r word : ℕ) → HasSeen r word x y → SeatSaw x y r word
+pub looked : (x y : Held Body) (r word : ℕ) → HasSeen r word x y → SawAt x.shape x.front y.front r word
 looked x y r word h = (y.front, advanced [] x y h.1.1, starts_same refl, h.0.1)
 
-pub saw_wide : (s : Shape) (from to from' to' : List Event) (k word : ℕ) → StartsWith from from' → StartsWith to' to → SawAt s from to k word → SawAt s from' to' k word
-saw_wide s from to from' to' k word before after h = (h.0, starts_more from' before h.1, starts_more h.0 h.2 after, h.3)
-
-pub full_wide : (s : Shape) (from to from' to' : List Event) (arena : ℕ) → StartsWith from from' → StartsWith to' to → SawFull s from to arena → SawFull s from' to' arena
-full_wide s from to from' to' arena before after h =
-    (h.0, h.1, λ k small. let look = h.2 k small in (look.0, saw_wide s from to from' to' (arena * s.records + k) (slice_index h.0 k) before after look.1))
-
--- a claim found no record free
-pub no_record : (arena : ℕ) (words : List ℕ) (x y : Held Body) → SawTaken arena words x y → SeatFull x y arena
-no_record arena words x y h = (words, h.0, λ k small. let look = h.1 k small in (look.0, (look.1, look.2, look.3, look.4.1)))
+pub saw_wide : (s : Shape) (from to from' to' : List Event) (r word : ℕ) → StartsWith from from' → StartsWith to' to → SawAt s from to r word → SawAt s from' to' r word
+saw_wide s from to from' to' r word before after h = (h.0, starts_more from' before h.1, starts_more h.0 h.2 after, h.3)
 
 -- the same of a step among others of the seat
-module _ (x y z w : Held Body) (shape : y.shape ≡ x.shape) (before : SeatSeesMore x y) (after : SeatSeesMore z w) where
-  pub saw_later : (r word : ℕ) → SeatSaw y z r word → SeatSaw x w r word
-  saw_later r word h = subst (λ (s : Shape). SawAt s x.front w.front (index_of s.records r) word) shape
-      (saw_wide y.shape y.front z.front x.front w.front (index_of y.shape.records r) word before after h)
+pub saw_later : (x y z w : Held Body) (shape : y.shape ≡ x.shape) (before : StartsWith y.front x.front) (after : StartsWith w.front z.front) (r word : ℕ) → SawAt y.shape y.front z.front r word
+    → SawAt x.shape x.front w.front r word
+saw_later x y z w shape before after r word h = subst (λ (s : Shape). SawAt s x.front w.front r word) shape (saw_wide y.shape y.front z.front x.front w.front r word before after h)
 
-  pub full_later : (arena : ℕ) → SeatFull y z arena → SeatFull x w arena
-  full_later arena h = subst (λ (s : Shape). SawFull s x.front w.front arena) shape (full_wide y.shape y.front z.front x.front w.front arena before after h)
+-- what is known of a full arena with other records held, between wider fronts
+pub full_wide : (p : ℕ) (held more : List ℕ) (s : Shape) (from to from' to' : List Event) (arena : ℕ) → ((r : ℕ) → Among held r → Among more r) → StartsWith from from' → StartsWith to' to
+    → SawFull p held s from to arena → SawFull p more s from' to' arena
+full_wide p held more s from to from' to' arena kept before after h = λ r exists near. let look = h r exists near in
+    (look.0, look.1, (λ own. kept r (look.2 own)), saw_wide s from to from' to' r look.0 before after look.3)
 
-module _ (old new old' new' : PlaceSeen) (shape : old.place.shape ≡ old'.place.shape) (before : SeesMore old' old) (after : SeesMore new new') where
+module _ (old new old' new' : PlaceSeen) (shape : old.place.shape ≡ old'.place.shape) (before : StartsWith old.front old'.front) (after : StartsWith new'.front new.front) where
   pub word_wide : (r word : ℕ) → SawWord old new r word → SawWord old' new' r word
-  word_wide r word h = subst (λ (s : Shape). SawAt s old'.front new'.front (index_of s.records r) word) shape
-      (saw_wide old.place.shape old.front new.front old'.front new'.front (index_of old.place.shape.records r) word before after h)
+  word_wide r word h = subst (λ (s : Shape). SawAt s old'.front new'.front r word) shape (saw_wide old.place.shape old.front new.front old'.front new'.front r word before after h)
 
   pub seen_wide : (r word : ℕ) → IsSeen old new r word → IsSeen old' new' r word
   seen_wide r word h = ⊎_elim (λ w. inl (word_wide r word w)) (λ n. inr (subst (λ (s : Shape). (IsRecord s r → ⊥) × (word ≡ 0)) shape n)) h
@@ -93,6 +90,7 @@ module _ (P Q : ℕ → ℕ → Type 0) (f : (r word : ℕ) → P r word → Q r
     log = h.log;
     there = h.there;
     list = h.list;
+    events = h.events;
     moved = h.moved;
     ended = ended_as old.process _ h.accepted h.log h.ended;
     sum = h.sum;
@@ -107,6 +105,17 @@ module _ (P Q : ℕ → ℕ → Type 0) (f : (r word : ℕ) → P r word → Q r
   pub clears_as : (r : ℕ) (old new : PlaceOf) → Clears P r old new → Clears Q r old new
   clears_as r old new h = (h.0, h.1, h.2, h.3, h.4, ends_as h.0.content h.2 h.5, h.6)
 
+-- ---- what is told of a lack, where the arena was full in another sense
+
+module _ {V : Type 0} (changes : V → V → ℕ → VaultOf → VaultOf → Type 0) (old new : V) (a n : ℕ) (P Q : Type 0) (f : P → Q) where
+  pub no_block_as : (e : Refused) → IsNoBlock changes old new a n P e → IsNoBlock changes old new a n Q e
+  no_block_as reason.NoRecord h = (h.0, f h.1)
+  no_block_as e h = h
+
+  pub no_pair_as : (extent : ℕ) (e : Refused) → IsNoPair changes old new a n P extent e → IsNoPair changes old new a n Q extent e
+  no_pair_as extent reason.NoRecord h = (h.0, f h.1)
+  no_pair_as extent e h = h
+
 -- ---- a place whose seat is seen
 
 pub placed : {p q : PlaceSeen} → p ≡ q → p.place ≡ q.place
@@ -119,18 +128,14 @@ fronted e = ap (λ (p : PlaceSeen). p.front) e
 pub since : {p q : PlaceSeen} → q ≡ p → {last : List Event} → StartsWith last q.front → StartsWith last p.front
 since {p} {q} e {last} h = subst (λ (f : List Event). StartsWith last f) (fronted e) h
 
--- what the seat saw since an event that it did, by the place that it was
-abbrev SeenSince : PlaceSeen → Held Body → Event → ℕ → ℕ → Type 0
-SeenSince p last e r word = (from : List Event) × Came e p.front from × SawAt p.place.shape from last.front (index_of p.place.shape.records r) word
-
 -- what the seat saw, as the place says it
 module _ (seat : Held Body) {xs : List (ℕ × Item)} {state : Status} {p : PlaceSeen} (is : record { place = view_of seat xs state; front = seat.front } ≡ p) (last : Held Body) where
-  pub place_saw : (r word : ℕ) → SeatSaw seat last r word → SawAt p.place.shape p.front last.front (index_of p.place.shape.records r) word
-  place_saw r word h = subst (λ (z : PlaceSeen). SawAt z.place.shape z.front last.front (index_of z.place.shape.records r) word) is h
+  pub place_saw : (r word : ℕ) → SawAt seat.shape seat.front last.front r word → SawAt p.place.shape p.front last.front r word
+  place_saw r word h = subst (λ (z : PlaceSeen). SawAt z.place.shape z.front last.front r word) is h
 
-  pub place_gone : (d way r : ℕ) → d ≡ way → IsElsewhere (SeatSawAfter (Pass seat.process r d) seat last) d r → IsElsewhere (SeenSince p last (Pass p.place.process r way)) way r
-  place_gone d way r same h = subst (λ (z : PlaceSeen). IsElsewhere (SeenSince z last (Pass z.place.process r way)) way r) is
-      (subst (λ (n : ℕ). IsElsewhere (SeatSawAfter (Pass seat.process r n) seat last) n r) same h)
+  pub place_gone : (d way r : ℕ) → d ≡ way → HasLeft seat.process seat.shape seat.front last.front d r → HasLeft p.place.process p.place.shape p.front last.front way r
+  place_gone d way r same h = subst (λ (z : PlaceSeen). HasLeft z.place.process z.place.shape z.front last.front way r) is
+      (subst (λ (n : ℕ). HasLeft seat.process seat.shape seat.front last.front n r) same h)
 
 -- ---- what a take gained, block by block
 

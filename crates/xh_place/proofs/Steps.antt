@@ -2,7 +2,8 @@
 use Rattle.xh_place.proofs.Words.{◌≡◌, ℕ, ◌+◌, ◌-◌, ◌*◌, ◌/◌, ◌%◌, ◌<◌, ◌≤◌, ⊎_elim, inl, inr, List, [], ◌∷◌, ◌++◌, length, map, refl, sym, ap, ◌∙◌, subst, Bool, true, false, arith, rules}
 use Rattle.xh_place.proofs.Words.{length-map, Some, None, Option, MatchBool, is_some, number_of, dite, ℕ_discrete, LotOf, Status, Vacant, Running, Ending, Ended, index_of, Shape, Among, Distinct}
 use Rattle.xh_place.proofs.Words.{keys, value_at, put, without, at_key, distinct_push, distinct_without, here_first, keys_push, length-keys, last_at, last_other, no_key, none_at, not_here, put_at}
-use Rattle.xh_place.proofs.Words.{put_keys, put_other, without_at, without_other, Held, IsRecord, with_lots, moves, HasNow, Body, Nothing, fits_in, is_over, is_running, Item, PlaceOf, with_blocks}
+use Rattle.xh_place.proofs.Words.{put_keys, put_other, without_at, without_other, Held, IsRecord, with_lots, HasNow, Body, Nothing, fits_in, is_over, is_running, Item, PlaceOf, PlaceSeen}
+use Rattle.xh_place.proofs.Words.{with_blocks}
 use Rattle.xh_place.proofs.Words.{item_of, item_in, item_at, shown, total_of, IsBlock, IsQuiet, IsPlace, less, suc, nat_tests, absent, alone, last}
 use Rattle.std.proofs.Math.Nat.{mul_comm}
 use Rattle.std.proofs.lemmas.Nat.{mul-add-lt}
@@ -12,7 +13,11 @@ use Rattle.xh_records.proofs.Lists.{few}
 use Rattle.xh_place.proofs.Listing.{as_shown, keys_without, shown_keys, shown_long, total_last, total_put, total_without}
 
 abbrev pub view_of : Held Body → List (ℕ × Item) → Status → PlaceOf
-view_of seat xs state = record { table = seat.table; shape = seat.shape; process = seat.process; blocks = xs; state = state; moved = moves seat.done }
+view_of seat xs state = record { table = seat.table; shape = seat.shape; process = seat.process; blocks = xs; state = state; events = seat.done; moved = map item_of seat.moved }
+
+-- a place of this seat and this list
+abbrev pub place_seen : Held Body → List ℕ → Status → PlaceSeen
+place_seen seat rs state = record { place = view_of seat (shown seat.lots rs) state; front = seat.front }
 
 -- there is room for one more, and no sum is too large
 slot_below : (a n r : ℕ) → r / 256 < a → r % 256 < n → index_of n r < a * n
@@ -61,7 +66,7 @@ still_quiet Running f xs e q = tt
 still_quiet Ending f xs e q = tt
 still_quiet s f xs e q = ap f q ∙ e
 
--- what a place's type keeps says nothing of its seat's events
+-- what a place's type keeps says nothing of what its seat has seen
 pub kept : (seat last : Held Body) (xs : List (ℕ × Item)) (room total : ℕ) (state : Status) → HasNow seat seat.lots last → IsPlace seat xs room total state → IsPlace last xs room total state
 kept seat last xs room total state e is = record {
   same = λ r. is.same r ∙ ap (λ (h : Held Body). item_at (value_at r h.lots)) (sym e);
@@ -76,7 +81,7 @@ kept seat last xs room total state e is = record {
 pub shows : (p : PlaceOf) (seat last : Held Body) (xs ys : List (ℕ × Item)) (state : Status) (lots : List (ℕ × LotOf Body)) (f : List (ℕ × Item) → List (ℕ × Item)) → view_of seat xs state ≡ p
     → HasNow seat lots last → ys ≡ f xs → view_of last ys state ≡ with_blocks p (f p.blocks)
 shows p seat last xs ys state lots f is new blocks =
-    (λ i. record { table = (new i).table; shape = (new i).shape; process = (new i).process; blocks = blocks i; state = state; moved = (new i).done })
+    (λ i. record { table = (new i).table; shape = (new i).shape; process = (new i).process; blocks = blocks i; state = state; events = (new i).done; moved = map item_of (new i).moved })
     ∙ ap (λ (q : PlaceOf). with_blocks q (f q.blocks)) is
 
 -- what a lot is as a block
@@ -280,7 +285,8 @@ module _ {seat : Held Body} (rs : List ℕ) {room total : ℕ} {state : Status} 
 
   -- nor where its seat did what moves nothing
   pub stays : (last : Held Body) → HasNow seat seat.lots last → IsNow seat rs state last rs room total (λ (es : List (ℕ × Item)). es)
-  stays last new = is_now seat rs state last seat.lots rs room total room total (λ (es : List (ℕ × Item)). es) new (kept seat last xs room total state new is) (sym (shown_keys seat.lots rs)) refl refl
+  stays last new = is_now seat rs state last seat.lots rs room total room total (λ (es : List (ℕ × Item)). es) new (kept seat last xs room total state new is)
+      (sym (shown_keys seat.lots rs)) refl refl
 
 pub over_running : (s : Status) → is_running s ≡ true → is_over s ≡ true → ⊥
 over_running Running e f = absurd (cc)

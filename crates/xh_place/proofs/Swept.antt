@@ -1,10 +1,13 @@
 -- Sweeps one after another, what a worker gave back, and how far a process has come before a sweep and after it.
 use Rattle.xh_place.proofs.Words.{◌≡◌, ℕ, zero, suc, ◌+◌, ◌-◌, ◌<◌, ◌≤◌, ◌⊎◌, ⊎_elim, inl, inr, List, [], ◌∷◌, ◌++◌, length, take, drop, length-append, refl, sym, ap, ◌∙◌, subst, arith}
 use Rattle.xh_place.proofs.Words.{take-append-drop, Option, None, Result, Err, MatchOption, TallyOf, Refused, reclaimed, Tests, first_refusal, Status, Ending, Ended, true, MAX_BUDGET, is_over}
-use Rattle.xh_place.proofs.Words.{HasGivenBack, IsSwept, ending, RefusedOr, IsTooLate, ending_again, IsSweptLate, Item, PlaceOf, total_of, with_list, with_more, append_assoc, append-nil, Some}
+use Rattle.xh_place.proofs.Words.{HasGivenBack, IsSwept, Vacate, with_events, with_freed, ending, RefusedOr, IsTooLate, ending_again, IsSweptLate, Item, PlaceOf, total_of, with_list, with_more}
+use Rattle.xh_place.proofs.Words.{append_assoc, append-nil, Some}
 use Rattle.xh_place.proofs.Words.{drop-append-le, drop_at, drop-drop, length-drop, length-take-le, take-append-le, take_at, Event, nat_tests, Among, Distinct, keys, put, value_at, without}
 use Rattle.xh_place.proofs.Words.{keys_append, absent, here_first, not_here, put_keys, put_without, toward, accepted_on, AreEnded, IsSweptBy, back_of, EndsWith, Clears, with_blocks, gave}
 use Rattle.std.proofs.Math.Seq.{drop-append_seam, take-append_seam, take-add}
+use Rattle.xh_place.proofs.Words.{values}
+use Rattle.xh_place.proofs.Events.{values_append}
 use Rattle.xh_place.proofs.Listing.{total_both, total_last, total_put}
 
 again_same : (state : Status) (xs : List (ℕ × Item)) → (is_over state ≡ true → xs ≡ []) → ending_again state (length xs) ≡ state
@@ -16,7 +19,7 @@ any_state : (saw : ℕ → ℕ → Type 0) (from budget bytes left : ℕ) (old n
     → IsSwept saw from budget (record old { state = s }) (record new { state = t }) bytes left
 any_state saw from budget bytes left old new s t is = let by = is.by in record {
   count = is.count;
-  by = record { accepted = by.accepted; log = by.log; there = by.there; list = by.list; moved = by.moved; ended = by.ended; sum = by.sum };
+  by = record { accepted = by.accepted; log = by.log; there = by.there; list = by.list; events = by.events; moved = by.moved; ended = by.ended; sum = by.sum };
   within = is.within;
   rest = is.rest;
   more = is.more;
@@ -121,7 +124,7 @@ ended_both saw p (y ∷ gone) more ys zs es fs one two = (
   one.1 ++ zs,
   one.2 ++ fs,
   ap (λ (l : List (ℕ × Item)). l ++ zs) one.3 ∙ append_assoc one.0 one.1 zs,
-  ap (λ (l : List Event). l ++ fs) one.4 ∙ append_assoc (accepted_on p (toward y.1.content) (keys one.0)) one.2 fs,
+  ap (λ (l : List Event). l ++ fs) one.4 ∙ append_assoc (accepted_on p (toward y.1.content) (keys one.0)) (Vacate p y.0 ∷ one.2) fs,
   one.5,
   ended_both saw p gone more one.1 zs one.2 fs one.6 two,
 )
@@ -153,7 +156,9 @@ swept_more saw from u k a b old mid new inside whose one two =
       log = one.log ++ two.log;
       there = omega (arith, long, length-drop u w, one.there, fits);
       list = two.list ∙ (λ i. ahead i ++ same i);
-      moved = two.moved ∙ ap (λ (l : List Event). l ++ two.log) one.moved ∙ append_assoc old.moved one.log two.log;
+      events = two.events ∙ ap (λ (l : List Event). l ++ two.log) one.events ∙ append_assoc old.events one.log two.log;
+      moved = two.moved ∙ ap (λ (l : List Item). l ++ values two.accepted) one.moved ∙ append_assoc old.moved (values one.accepted) (values two.accepted)
+          ∙ ap (λ (l : List Item). old.moved ++ l) (sym (values_append one.accepted two.accepted));
       ended = subst (λ (l : List (ℕ × Item)). AreEnded saw old.process l both (one.log ++ two.log)) (sym ends)
           (ended_both saw old.process (take u w) (take k (drop u w ++ two.accepted)) one.accepted two.accepted one.log two.log one.ended later);
       sum = omega (arith, sums, first, second);
@@ -164,7 +169,8 @@ cut_out : (from r : ℕ) (x : Item) (more w : List (ℕ × Item)) → Distinct (
 cut_out zero r x more w d e = ap (without r) e ∙ here_first r r (without r more) ((r, x) ∷ without r more) refl ∙ absent r more (subst (λ (l : List (ℕ × Item)). Distinct (keys l)) e d).0
 cut_out (suc from) r x more [] d e = absurd (cc)
 cut_out (suc from) r x more (y ∷ w) d e =
-    not_here y.0 r (without r w) (y ∷ without r w) (λ s. d.0 (subst (λ (z : ℕ). Among (keys w) z) (sym s) (among_drop from r w (subst (λ (l : List (ℕ × Item)). Among (keys l) r) (sym e) (inl refl)))))
+    not_here y.0 r (without r w) (y ∷ without r w) (λ s. d.0 (subst (λ (z : ℕ). Among (keys w) z) (sym s)
+    (among_drop from r w (subst (λ (l : List (ℕ × Item)). Among (keys l) r) (sym e) (inl refl)))))
     ∙ ap (λ (l : List (ℕ × Item)). y ∷ l) (cut_out from r x more w d.1 e) where
       among_drop : (k q : ℕ) (w : List (ℕ × Item)) → Among (keys (drop k w)) q → Among (keys w) q
       among_drop zero q w h = h
@@ -174,8 +180,8 @@ cut_out (suc from) r x more (y ∷ w) d e =
 -- some came to an end at `from`, and then it went
 swept_one : (saw : ℕ → ℕ → Type 0) (from r bytes d : ℕ) (x : Item) (more : List (ℕ × Item)) (old mid new : PlaceOf) (ys : List (ℕ × Item)) → from ≤ length old.blocks
     → drop from old.blocks ≡ (r, x) ∷ more
-    → mid ≡ with_more d ys old → Distinct (keys mid.blocks) → AreEnded saw old.process ((r, x) ∷ []) ys (accepted_on old.process d (keys ys))
-    → new ≡ with_blocks mid (without r mid.blocks)
+    → mid ≡ with_more d ys old → Distinct (keys mid.blocks) → AreEnded saw old.process ((r, x) ∷ []) ys (accepted_on old.process d (keys ys) ++ Vacate old.process r ∷ [])
+    → new ≡ with_freed r mid
     → bytes + total_of new.blocks ≡ total_of mid.blocks → IsSweptBy saw from 1 old new bytes
 swept_one saw from r bytes d x more old mid new ys inside first came once ends is sum =
     let list : mid.blocks ≡ old.blocks ++ ys = ap (λ (p : PlaceOf). p.blocks) came in
@@ -184,13 +190,16 @@ swept_one saw from r bytes d x more old mid new ys inside first came once ends i
     let all : total_of mid.blocks ≡ total_of old.blocks + total_of ys = ap total_of list ∙ total_both old.blocks ys in
     let whole : drop from old.blocks ++ ys ≡ (r, x) ∷ (more ++ ys) = ap (λ (l : List (ℕ × Item)). l ++ ys) first in
     let long : length (drop from old.blocks ++ ys) ≡ suc (length (more ++ ys)) = ap length whole in
+    let does : List Event = accepted_on old.process d (keys ys) ++ Vacate old.process r ∷ [] in
     record {
       accepted = ys;
-      log = accepted_on old.process d (keys ys);
+      log = does;
       there = omega (arith, long);
       list = ap (λ (p : PlaceOf). p.blocks) is ∙ cut_out from r x (more ++ ys) mid.blocks once rest ∙ (λ i. ahead i ++ drop 1 (sym whole i));
+      events = ap (λ (p : PlaceOf). p.events) is ∙ ap (λ (p : PlaceOf). p.events ++ Vacate p.process r ∷ []) came ∙ append_assoc old.events (accepted_on old.process d (keys ys))
+          (Vacate old.process r ∷ []);
       moved = ap (λ (p : PlaceOf). p.moved) is ∙ ap (λ (p : PlaceOf). p.moved) came;
-      ended = subst (λ (l : List (ℕ × Item)). AreEnded saw old.process (take 1 l) ys (accepted_on old.process d (keys ys))) (sym whole) ends;
+      ended = subst (λ (l : List (ℕ × Item)). AreEnded saw old.process (take 1 l) ys does) (sym whole) ends;
       sum = sum ∙ all;
     }
 
@@ -201,11 +210,11 @@ without_both r (x ∷ xs) ys = grind (arith, nat_tests, without_both r xs ys)
 -- the block at `from` went, an endpoint after it was shut and drained
 pub swept_clear : (saw : ℕ → ℕ → Type 0) (from r bytes : ℕ) (x : Item) (more : List (ℕ × Item)) (old mid new : PlaceOf) → from ≤ length old.blocks → drop from old.blocks ≡ (r, x) ∷ more
     → value_at r old.blocks ≡ Some x
-    → Clears saw r old mid → Distinct (keys mid.blocks) → new ≡ with_blocks mid (without r mid.blocks) → bytes + total_of new.blocks ≡ total_of mid.blocks → IsSweptBy saw from 1 old new bytes
+    → Clears saw r old mid → Distinct (keys mid.blocks) → new ≡ with_freed r mid → bytes + total_of new.blocks ≡ total_of mid.blocks → IsSweptBy saw from 1 old new bytes
 swept_clear saw from r bytes x more old mid new inside first at clear once is sum =
     let z : Item = clear.0 in let y : Item = clear.1 in let ys : List (ℕ × Item) = clear.2 in let xs : List (ℕ × Item) = old.blocks in
     let both : Some z ≡ Some x = sym clear.3 ∙ at in let one : z ≡ x = cc in
-    let d : ℕ = toward x.content in let log : List Event = accepted_on old.process d (keys ys) in
+    let d : ℕ = toward x.content in
     let came : mid ≡ with_more d ys (with_blocks old (put r y xs)) = clear.6 ∙ ap (λ (w : Item). with_more (toward w.content) ys (with_blocks old (put r y xs))) one in
     let list : mid.blocks ≡ put r y xs ++ ys = ap (λ (p : PlaceOf). p.blocks) came in
     let names : keys mid.blocks ≡ keys (xs ++ ys) =
@@ -217,8 +226,8 @@ swept_clear saw from r bytes x more old mid new inside first at clear once is su
     let two_total : total_of (xs ++ ys) ≡ total_of xs + total_of ys = total_both xs ys in
     let total : total_of mid.blocks ≡ total_of (xs ++ ys) = omega (arith, long, sizes, one_total, two_total) in
     swept_one saw from r bytes d x more old (with_more d ys old) new ys inside first refl (subst Distinct names once)
-    (ys, [], [], sym (append-nil ys), sym (append-nil log), subst (λ (w : Item). EndsWith saw w.content ys) one clear.5, (refl, refl))
-    (is ∙ (λ i. with_blocks (came i) (less i))) (sum ∙ total)
+    (ys, [], [], sym (append-nil ys), refl, subst (λ (w : Item). EndsWith saw w.content ys) one clear.5, (refl, refl))
+    (is ∙ (λ i. with_events (with_blocks (came i) (less i)) (Vacate (came i).process r ∷ []))) (sum ∙ total)
 
 -- ---- what a worker gave back
 

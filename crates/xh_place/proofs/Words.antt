@@ -5,6 +5,7 @@ pub use Rattle.std.proofs.Common.{eq-eqb, eqb, false, get_or, inl, inr, is_some,
 pub use Rattle.std.proofs.Common.{slice_get, slice_index, subst, suc, sym, take, true, vec_capacity, zero, ℕ, ⊎_elim, ◌%◌, ◌&&◌, ◌*◌, ◌++◌, ◌+◌, ◌-◌, ◌/◌, ◌<◌, ◌==◌, ◌||◌, ◌∙◌, ◌∷◌, ◌≡◌, ◌≢◌, ◌≤◌}
 pub use Rattle.std.proofs.Common.{◌⊎◌}
 pub use Rattle.std.proofs.lemmas.Bool.Decides.{nat_tests}
+pub use Rattle.std.specs.Prelude.{option_map}
 pub use Rattle.std.proofs.lemmas.List.{drop-append-le, drop-drop, drop_at, drop_more, length-map, length-replicate, map-append, set-get_or, take-append-drop, take-append-le, take_at, take_more}
 pub use Rattle.std.proofs.lemmas.Result.{on_err_weaker, on_ok_weaker}
 pub use Rattle.std.specs.List.{list_all, list_any}
@@ -29,14 +30,14 @@ pub use Rattle.xh_model.specs.declared.event.Holder.TheVariants.{Process}
 pub use Rattle.xh_model.specs.declared.limits.TheConstants.{END_BYTES, MAX_BUDGET}
 pub use Rattle.xh_place.specs.Bodies.{Content, away, bytes, content_of, endpoint, fits_in, front, kind_of, part, patched, rest, toward}
 pub use Rattle.xh_place.specs.Desk.{IsSameDesk, IsSeatAt}
-pub use Rattle.xh_place.specs.Ending.{AreEnded, HasGivenBack, IsClosed, IsSwept, IsSweptBy, alone, back_of, ending, last}
+pub use Rattle.xh_place.specs.Ending.{AreEnded, HasGivenBack, IsClosed, IsSwept, IsSweptBy, back_of, ending, last}
 pub use Rattle.xh_place.specs.Endpoints.{AreGot, AreUnpacked, EndsWith, IsDrained, IsGot, Puts, Shuts, Takes, TakesEach, blocks_of, record_of}
 pub use Rattle.xh_place.specs.Ends.{EndDoes, IsTooLate, RefusedOr, away_in, end_block, ending_again, toward_in}
 pub use Rattle.xh_place.specs.Messages.{Answers, IsSent, IsTaken, IsUntaken, Unpacks, is_listed, settle, settled}
-pub use Rattle.xh_place.specs.Moves.{accepted_on, moves, passed_on, there_and_back}
-pub use Rattle.xh_place.specs.Places.{AreBlocks, Fits, IsBlock, IsPlace, IsPlaceOf, IsQuiet, IsWhole, Item, Lists, PlaceOf, entry_of, found as found_at, header_of, item_at, item_in, item_of, shown}
-pub use Rattle.xh_place.specs.Places.{total_of, with_blocks, with_list, with_more, with_moved}
-pub use Rattle.xh_place.specs.Seen.{Came, HasLeft, IsElsewhere, IsSamePlace, IsSeen, PlaceSeen, SawAfter, SawAt, SawFull, SawWord, SeesMore, Stays}
+pub use Rattle.xh_place.specs.Events.{accepted_on, let_go, passed_on}
+pub use Rattle.xh_place.specs.Places.{AreBlocks, Fits, IsBlock, IsPlace, IsPlaceOf, IsQuiet, IsWhole, Item, Lists, PlaceOf, found as found_at, header_of, item_at, item_in, item_of, shown}
+pub use Rattle.xh_place.specs.Places.{LetsGo, alone, picked, total_of, with_blocks, with_events, with_freed, with_list, with_more}
+pub use Rattle.xh_place.specs.Seen.{FindsFull, HasLeft, IsElsewhere, IsSamePlace, IsSeen, PlaceSeen, SawAt, SawFull, SawWord, Stays}
 pub use Rattle.xh_place.specs.Starts.{start, stop}
 pub use Rattle.xh_place.specs.Tallies.{gave, ids_of, took}
 pub use Rattle.xh_place.specs.declared.body.Body.{Body}
@@ -44,10 +45,10 @@ pub use Rattle.xh_place.specs.declared.body.Body.TheVariants.{Data, End, Nothing
 pub use Rattle.xh_place.specs.declared.got.Got.{Got}
 pub use Rattle.xh_place.specs.declared.got.Taken.{Taken}
 pub use Rattle.xh_place.specs.inner.Lists.{AreBack, CameBack, lens, less, less_all}
-pub use Rattle.xh_place.specs.inner.Lots.{ArePassed, HasNow, IsCut, IsData, IsEnd, LotDoes, SeatFull, SeatSaw, SeatSawAfter, SeatSeesMore, bare, with_done}
+pub use Rattle.xh_place.specs.inner.Lots.{ArePassed, Came, HasNow, IsCut, IsData, IsEnd, LotDoes, SeatFull, SeatLetsGo, bare, carrying, values, with_done}
 pub use Rattle.xh_place.specs.inner.Reclaiming.{Clears, Drains, IsSweptLate}
 pub use Rattle.xh_records.specs.History.{StartsWith}
-pub use Rattle.xh_records.specs.Seats.{Advances, HasSeen, Held, IsRecord, IsSeatOf, Knows, RecordsOf, SawTaken, did, owned_by, seen, with_lots}
+pub use Rattle.xh_records.specs.Seats.{Advances, HasFound, HasLooked, HasLost, HasSeen, Held, IsRecord, IsSeatOf, Knows, RecordsOf, SawTaken, did, owned_by, with_lots}
 pub use Rattle.xh_records.specs.Showing.{IsLotOf}
 pub use Rattle.xh_records.specs.declared.shape.Shape.{Shape}
 pub use mathlib.Core.Logic.{dite}

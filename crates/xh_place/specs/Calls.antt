@@ -1,5 +1,5 @@
 -- What the calls on data blocks do to a place and to the tallies of its worker.
-use Rattle.std.specs.Prelude.{◌≡◌, ℕ, ◌/◌, List, [], ◌∷◌, ◌++◌, length, replicate, Some, Result, IfOk, OnErr, OnOk}
+use Rattle.std.specs.Prelude.{◌≡◌, ℕ, ◌/◌, ◌≤◌, List, [], ◌∷◌, ◌++◌, length, replicate, Some, Result, IfOk, OnErr, OnOk}
 use Rattle.xh_arena.specs.Views.{TallyOf}
 use Rattle.xh_core.specs.declared.block.Block.{Block}
 use Rattle.xh_core.specs.declared.refused.Refused.{Refused}
@@ -7,31 +7,33 @@ use Rattle.xh_core.specs.Calls.{range_tests}
 use Rattle.xh_core.specs.Refusing.{Tested}
 use Rattle.xh_core.specs.Space.{rounded}
 use Rattle.xh_model.specs.declared.limits.TheConstants.{MAX_RECORDS}
-use Rattle.xh_model.specs.Keyed.{put, value_at, without}
+use Rattle.xh_model.specs.declared.event.Event.TheVariants.{Claim}
+use Rattle.xh_model.specs.Keyed.{put, value_at}
 use Rattle.xh_place.specs.Bodies.{bytes, part, patched}
-use Rattle.xh_place.specs.Places.{Item, PlaceOf, found, with_blocks}
+use Rattle.xh_place.specs.Places.{Item, LetsGo, PlaceOf, found, with_blocks, with_events, with_freed}
 use Rattle.xh_place.specs.Seen.{IsSamePlace, PlaceSeen, Stays}
 use Rattle.xh_place.specs.Splitting.{IsSplit}
 use Rattle.xh_place.specs.Starts.{start}
 use Rattle.xh_place.specs.Tallies.{gave, took}
 
--- a data block of n bytes of the arena, rounded up and all of them zero, is the last of the list; or place and tallies are as they were
+-- a data block of n bytes of the arena, rounded up and all of them zero, is the last of the list, and its record was claimed; or a record was claimed in vain, if any. The tallies are as they were
+-- then
 pub record Allocates (n arena : ℕ) (old new : PlaceOf) (told tallies : List TallyOf) (result : Result Block Refused) : Type 0 where
-  pub made : IfOk result (λ b. new ≡ with_blocks old (old.blocks ++ (b.rec, record { len = b.len; content = bytes (replicate b.len 0) }) ∷ []))
+  pub made : IfOk result (λ b. new ≡ with_events (with_blocks old (old.blocks ++ (b.rec, record { len = b.len; content = bytes (replicate b.len 0) }) ∷ [])) (Claim old.process b.rec ∷ []))
   pub block : IfOk result (λ b. (b.len ≡ rounded n) × (b.rec / MAX_RECORDS ≡ arena))
   pub taken : IfOk result (λ b. tallies ≡ took arena b.len told)
-  pub refused : OnErr result ((new ≡ old) × (tallies ≡ told))
+  pub refused : OnErr result (LetsGo (λ claims. length claims ≤ 1) arena old new × (tallies ≡ told))
 
--- the block is gone, and as many bytes as the answer were given back; or place and tallies are as they were
+-- the block is gone, its record was vacated, and as many bytes as the answer were given back; or place and tallies are as they were
 pub record Frees (r : ℕ) (old new : PlaceOf) (told tallies : List TallyOf) (result : Result ℕ Refused) : Type 0 where
-  pub freed : OnOk result (new ≡ with_blocks old (without r old.blocks))
+  pub freed : OnOk result (new ≡ with_freed r old)
   pub back : IfOk result (λ n. tallies ≡ gave (r / MAX_RECORDS) n told)
   pub refused : OnErr result ((new ≡ old) × (tallies ≡ told))
 
--- the block is cut after its first k bytes; or the place is as it was. The tallies are in any case
+-- the block is cut after its first k bytes; or a record was claimed in vain, if any. The tallies are as they were
 pub record Splits (r k : ℕ) (old new : PlaceOf) (told tallies : List TallyOf) (result : Result (Block × Block) Refused) : Type 0 where
   pub cut : IfOk result (λ ends. IsSplit old new r k ends.0 ends.1)
-  pub refused : OnErr result (new ≡ old)
+  pub refused : OnErr result (LetsGo (λ claims. length claims ≤ 1) (r / MAX_RECORDS) old new)
   pub unmoved : tallies ≡ told
 
 -- the bytes of the block from `at` on are there now, and the place is as it was

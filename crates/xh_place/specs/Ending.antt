@@ -1,26 +1,27 @@
 -- What reclaiming does: the sweep, and the calls that end an endpoint or a process.
-use Rattle.std.specs.Prelude.{◌≡◌, ℕ, ◌+◌, ◌-◌, ◌<◌, ◌≤◌, ◌==◌, cond, List, [], ◌∷◌, ◌++◌, length, take, drop, Option, Some, None, Result}
+use Rattle.std.specs.Prelude.{◌≡◌, ℕ, ◌+◌, ◌-◌, ◌<◌, ◌≤◌, ◌==◌, cond, List, [], ◌∷◌, ◌++◌, length, map, take, drop, Result}
 use Rattle.xh_arena.specs.Views.{TallyOf}
 use Rattle.xh_core.specs.declared.refused.Refused.{Refused}
 use Rattle.xh_core.specs.declared.status.Status.{Status}
 use Rattle.xh_core.specs.declared.status.Status.TheVariants.{Ending, Ended}
 use Rattle.xh_model.specs.declared.event.Event.{Event}
+use Rattle.xh_model.specs.declared.event.Event.TheVariants.{Vacate}
 use Rattle.xh_model.specs.Keyed.{keys, value_at, without}
 use Rattle.xh_core.specs.Calls.{reclaimed}
 use Rattle.xh_model.specs.declared.limits.TheConstants.{MAX_BUDGET}
 use Rattle.xh_place.specs.Bodies.{toward}
 use Rattle.xh_place.specs.Endpoints.{EndsWith}
-use Rattle.xh_place.specs.Moves.{accepted_on}
-use Rattle.xh_place.specs.Places.{Item, PlaceOf, with_blocks, with_list, total_of}
+use Rattle.xh_place.specs.Events.{accepted_on}
+use Rattle.xh_place.specs.Places.{Item, PlaceOf, alone, with_blocks, with_list, total_of}
 use Rattle.xh_place.specs.Seen.{IsSeen, PlaceSeen}
 
 -- `saw r word` says that this word was seen at the record r
 module _ (saw : ℕ → ℕ → Type 0) where
-  -- These went, one after another, each as it ends. What was accepted is what came with each, in their order, which the process accepted on the direction toward it.
+  -- These went, one after another, each as it ends. What was accepted is what came with each, in their order, which the process accepted on the direction toward it; then it vacated the record.
   abbrev pub AreEnded : ℕ → List (ℕ × Item) → List (ℕ × Item) → List Event → Type 0
   AreEnded p [] accepted log = (accepted ≡ []) × (log ≡ [])
   AreEnded p (y ∷ ys) accepted log = (came : List (ℕ × Item)) × (more : List (ℕ × Item)) × (later : List Event) × (accepted ≡ came ++ more)
-      × (log ≡ accepted_on p (toward y.1.content) (keys came) ++ later) × EndsWith saw y.1.content came × AreEnded p ys more later
+      × (log ≡ accepted_on p (toward y.1.content) (keys came) ++ Vacate p y.0 ∷ later) × EndsWith saw y.1.content came × AreEnded p ys more later
 
   -- So many blocks were reclaimed: the list from `from` on is the old one from there, followed by what was accepted, without its first blocks.
   -- Those were bytes, or endpoints that were shut and took all that they found; what was accepted came with their messages.
@@ -30,7 +31,8 @@ module _ (saw : ℕ → ℕ → Type 0) where
     pub log : List Event
     pub there : count ≤ length (drop from old.blocks ++ accepted)
     pub list : new.blocks ≡ take from old.blocks ++ drop count (drop from old.blocks ++ accepted)
-    pub moved : new.moved ≡ old.moved ++ log
+    pub events : new.events ≡ old.events ++ log
+    pub moved : new.moved ≡ old.moved ++ map (λ x. x.1) accepted
     pub ended : AreEnded old.process (take count (drop from old.blocks ++ accepted)) accepted log
     pub sum : bytes + total_of new.blocks ≡ total_of old.blocks + total_of accepted
 
@@ -67,11 +69,6 @@ IsStopped budget old new bytes result = IsSwept (IsSeen old new) 0 budget old.pl
     × (new.place ≡ record (with_list old.place new.place) { state = ending (length new.place.blocks) }) × (result ≡ reclaimed bytes (length new.place.blocks))
 
 -- ---- close
-
--- the block of a record, where it is one, as a list
-abbrev pub alone : ℕ → Option Item → List (ℕ × Item)
-alone r None = []
-alone r (Some x) = (r, x) ∷ []
 
 -- the list with the record at its end
 abbrev pub last : ℕ → List (ℕ × Item) → List (ℕ × Item)

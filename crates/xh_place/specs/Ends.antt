@@ -10,13 +10,14 @@ use Rattle.xh_core.specs.declared.status.Status.TheVariants as status
 use Rattle.xh_model.specs.declared.limits.TheConstants.{DIRECTIONS, END_BYTES, MAX_BUDGET, MAX_RECORDS}
 use Rattle.xh_core.specs.Refusing.{Tests, first_refusal}
 use Rattle.xh_core.specs.Statuses.{is_running}
+use Rattle.xh_model.specs.declared.event.Event.TheVariants.{Claim}
 use Rattle.xh_model.specs.Keyed.{put, value_at}
 use Rattle.xh_records.specs.Seats.{IsRecord}
 use Rattle.xh_place.specs.Bodies.{away, endpoint, toward}
 use Rattle.xh_arena.specs.Views.{TallyOf}
 use Rattle.xh_place.specs.declared.opening.Unopened.{Unopened}
 use Rattle.xh_place.specs.Tallies.{took}
-use Rattle.xh_place.specs.Places.{IsWhole, Item, PlaceOf, with_blocks, with_list, with_more}
+use Rattle.xh_place.specs.Places.{IsWhole, Item, LetsGo, PlaceOf, with_blocks, with_events, with_list, with_more}
 use Rattle.xh_place.specs.Seen.{IsElsewhere, IsSeen, PlaceSeen, SawWord}
 use Rattle.xh_place.specs.Ending.{HasGivenBack, IsSwept}
 
@@ -47,17 +48,23 @@ EndDoes e p q does = (before after : Posted) × (value_at e p.blocks ≡ Some (e
 abbrev pub IsEndIn : ℕ → Block → Type 0
 IsEndIn arena b = (b.len ≡ END_BYTES) × (b.rec / MAX_RECORDS ≡ arena)
 
+-- both came to the end of the list, once their records were claimed in this order
+abbrev pub with_both : Posted → Posted → Block × Block → PlaceOf → PlaceOf
+with_both low high ends p = with_events (with_blocks p (p.blocks ++ (ends.0.rec, end_block low) ∷ (ends.1.rec, end_block high) ∷ []))
+    (Claim p.process ends.0.rec ∷ Claim p.process ends.1.rec ∷ [])
+
 -- both are blocks of the list, and their records exist
 abbrev pub AreListed : Posted → Posted → PlaceOf → Block × Block → Type 0
 AreListed low high p ends = (value_at ends.0.rec p.blocks ≡ Some (end_block low)) × IsRecord p.shape ends.0.rec
     × (value_at ends.1.rec p.blocks ≡ Some (end_block high)) × IsRecord p.shape ends.1.rec
 
--- Both ends are the last blocks of the list, side 0 first, each of 32 bytes of the arena; or nothing has changed, and the ends are handed back.
+-- Both ends are the last blocks of the list, side 0 first, each of 32 bytes of the arena, and their records were claimed in this order; or records were claimed in vain, if any, and the ends are
+-- handed back.
 abbrev pub Opens : ℕ → Posted → Posted → PlaceOf → PlaceOf → List TallyOf → List TallyOf → Result (Block × Block) Unopened → Type 0
 Opens arena low high old new tallies left result = MatchResult result
-    (λ ends. (new ≡ with_blocks old (old.blocks ++ (ends.0.rec, end_block low) ∷ (ends.1.rec, end_block high) ∷ [])) × IsEndIn arena ends.0 × IsEndIn arena ends.1
+    (λ ends. (new ≡ with_both low high ends old) × IsEndIn arena ends.0 × IsEndIn arena ends.1
     × (left ≡ took arena (2 * END_BYTES) tallies) × AreListed low high new ends)
-    (λ u. (u.low ≡ low) × (u.high ≡ high) × (new ≡ old) × (left ≡ tallies))
+    (λ u. (u.low ≡ low) × (u.high ≡ high) × LetsGo (λ claims. length claims ≤ 2) arena old new × (left ≡ tallies))
 
 -- the first refusal whose test is true, and then the vaults are as they were; else what there was a lack of
 abbrev pub IsUnopened : Tests → Type 0 → (Refused → Type 0) → Result (Block × Block) Unopened → Type 0

@@ -1,7 +1,7 @@
 pub mod Vaults
 pub mod Bodies
 pub mod Endpoints
-pub mod Moves
+pub mod Events
 pub mod Places
 pub mod Seen
 pub mod Desk

@@ -1,5 +1,5 @@
 -- Give and take: what they do to the place.
-use Rattle.std.specs.Prelude.{◌≡◌, ℕ, Bool, List, [], ◌∷◌, Option, Some, None, is_some, map, Result, Ok, Err, MatchResult, OnErr}
+use Rattle.std.specs.Prelude.{◌≡◌, ℕ, Bool, List, [], ◌∷◌, ◌++◌, Option, Some, None, is_some, map, Result, Ok, Err, MatchResult, OnErr}
 use Rattle.arrayvec.specs.ArrayVec.{ArrayVec}
 use Rattle.xh_channel.specs.declared.message.Message.{Message}
 use Rattle.xh_channel.specs.declared.refused.Refused.{Refused as NoMessage}
@@ -12,9 +12,9 @@ use Rattle.xh_model.specs.Keyed.{Among, keys, put, value_at, without}
 use Rattle.xh_place.specs.Endpoints.{AreGot, Puts, record_of}
 use Rattle.xh_place.specs.Endpoints.{Takes}
 use Rattle.xh_place.specs.Ends.{EndDoes, away_in, toward_in}
-use Rattle.xh_place.specs.Moves.{there_and_back}
+use Rattle.xh_place.specs.Events.{accepted_on, passed_on}
 use Rattle.xh_place.specs.declared.got.Taken.{Taken}
-use Rattle.xh_place.specs.Places.{Item, PlaceOf, with_blocks, with_moved, with_more}
+use Rattle.xh_place.specs.Places.{Item, PlaceOf, picked, with_more}
 use Rattle.xh_place.specs.Seen.{HasLeft, IsSeen, PlaceSeen}
 
 -- ---- give
@@ -43,10 +43,14 @@ abbrev pub settled : {X : Type 0} → List ℕ → (ℕ → Option X) → List (
 settled [] back xs = xs
 settled (r ∷ rs) back xs = settled rs back (settle r (back r) xs)
 
--- Each given block was passed on the direction, in the order given. Then those that came back were accepted from that direction.
+-- Each given block was passed on the direction, in the order given, as it was. Then those that came back were accepted from that direction, as they are now.
 -- Each given block has left the list, or came back, and then is in its old place, with the length and content that it has now.
 abbrev pub GoesOrReturns : ℕ → List ℕ → List (ℕ × Item) → PlaceOf → PlaceOf → Type 0
-GoesOrReturns d given back old new = (new ≡ with_moved (with_blocks old (settled given (λ r. value_at r back) old.blocks)) (there_and_back old.process d given (keys back)))
+GoesOrReturns d given back old new = (new ≡ record old {
+  blocks = settled given (λ r. value_at r back) old.blocks;
+  events = old.events ++ (passed_on old.process d given ++ accepted_on old.process d (keys back));
+  moved = old.moved ++ (map (λ x. x.1) (picked given old.blocks) ++ map (λ x. x.1) back);
+})
     × ((r : ℕ) → Among (keys back) r → Among given r)
 
 -- The endpoint put the blocks with the tag, they went or came back, and the answer is that of the put.
@@ -59,7 +63,8 @@ pub record IsSent (e tag : ℕ) (given : List ℕ) (old new : PlaceSeen) (result
   pub all : blocks.items ≡ given
   pub made : EndDoes e old.place mid (Puts tag blocks answered)
   pub moved : GoesOrReturns (away_in (value_at e old.place.blocks)) given back mid new.place
-  pub lost : OnErr answered ((r : ℕ) → Among given r → (Among (keys back) r → ⊥) → HasLeft old new (away_in (value_at e old.place.blocks)) r)
+  pub lost : OnErr answered ((r : ℕ) → Among given r → (Among (keys back) r → ⊥)
+      → HasLeft old.place.process old.place.shape old.front new.front (away_in (value_at e old.place.blocks)) r)
   pub answer : Answers (keys back) answered result
 
 -- ---- take

@@ -7,15 +7,16 @@ ghost use Rattle.xh_model.specs.declared.limits.TheConstants.{DIRECTIONS, MAX_BY
 ghost use Rattle.xh_place.specs.Bodies.{bytes, front, content_of, fits_in, kind_of};
 ghost use Rattle.xh_place.specs.Desk.{IsSameDesk, IsSeatAt};
 ghost use Rattle.xh_place.specs.Places.{IsBlock, item_of, header_of};
-ghost use Rattle.xh_place.specs.Seen.{Came};
+ghost use Rattle.xh_place.specs.Seen.{SawAt};
 ghost use Rattle.xh_place.specs.Splitting.{IsUncut};
 ghost use Rattle.xh_place.specs.Tallies.{gave, took};
 ghost use Rattle.xh_place.specs.Vaults.{IsNoBlock, IsRefusedAt};
 ghost use Rattle.xh_place.specs.declared.body.Body.{Body};
-ghost use Rattle.xh_place.specs.inner.Lots.{HasNow, IsCut, IsData, SeatFull, SeatSaw, SeatSeesMore};
+ghost use Rattle.xh_place.specs.inner.Lots.{Came, HasNow, IsCut, IsData, SeatFull, SeatLetsGo, carrying};
+ghost use Rattle.xh_records.specs.History.{StartsWith};
 ghost use Rattle.xh_records.specs.Seats.{IsSeatOf, IsRecord, did, with_lots};
 ghost use Rattle.xh_records.specs.Showing.{IsLotOf, IsFull};
-ghost use Rattle.xh_model.specs.declared.event.Event.TheVariants.{Accept, Pass};
+ghost use Rattle.xh_model.specs.declared.event.Event.TheVariants.{Accept, Claim, Pass, Vacate};
 ghost use Rattle.xh_place.specs.inner.Answers.{reason_of};
 ghost use Rattle.xh_place.specs.declared.body.Body.TheVariants.{Nothing};
 ghost use Rattle.xh_core.specs.declared.header.Kind.TheVariants as kind;
@@ -140,15 +141,17 @@ pub(crate) fn make_block<R, V: Vaults, G: Gate>(
 ) -> Result<u16, Reason>
     requires at { IsSeatAt V.names desk.old seat.old }
     requires arena { arena < length seat.old.shape.names }
+    requires exist { (q : ℕ) → Among (keys seat.old.lots) q → IsRecord seat.old.shape q }
     requires size { (0 < n) × (n % UNIT ≡ 0) × (n ≤ V.extent desk.old.vaults.now) × (n ≤ MAX_BYTES) }
     ensures same { IsSameDesk V.names V.extent desk.old desk.new }
     ensures arena { IfOk result (λ r. r / MAX_RECORDS ≡ arena) }
-    ensures block { IfOk result (λ r. (l : LotOf Body) × (Among (keys seat.old.lots) r → ⊥) × HasNow seat.old (seat.old.lots ++ (r, l) ∷ []) seat.new × IsBlock seat.old.shape r l
+    ensures block { IfOk result (λ r. (l : LotOf Body) × (Among (keys seat.old.lots) r → ⊥)
+        × HasNow (did (Claim seat.old.process r) seat.old) (seat.old.lots ++ (r, l) ∷ []) seat.new × IsBlock seat.old.shape r l
         × (l.len ≡ n) × (content_of l.body ≡ bytes (replicate n 0))) }
     ensures taken { OnOk result (desk.new.tallies.now ≡ took arena n desk.old.tallies.now) }
-    ensures refused { OnErr result (HasNow seat.old seat.old.lots seat.new × (desk.new.tallies.now ≡ desk.old.tallies.now)) }
-    ensures why { IfErr result (IsNoBlock V.changes desk.old.vaults.now desk.new.vaults.now arena n (SeatFull seat.old seat.new arena)) }
-    ensures seen { SeatSeesMore seat.old seat.new }
+    ensures refused { OnErr result (SeatLetsGo (λ claims. length claims ≤ 1) arena seat.old seat.new × (desk.new.tallies.now ≡ desk.old.tallies.now)) }
+    ensures why { IfErr result (IsNoBlock V.changes desk.old.vaults.now desk.new.vaults.now arena n (SeatFull 0 seat.old seat.new arena)) }
+    ensures seen { StartsWith seat.new.front seat.old.front }
 {
     let Ok(r) = desk.records.claim(seat, arena) else {
         return Err(Reason::NoRecord);
@@ -178,8 +181,8 @@ pub(crate) fn give_up<R, V: Vaults, G: Gate>(
     requires at { IsSeatAt V.names desk.old seat.old }
     requires held { (l : LotOf Body) × (value_at r seat.old.lots ≡ Some l) × IsBlock seat.old.shape r l }
     ensures same { IsSameDesk V.names V.extent desk.old desk.new }
-    ensures seat { HasNow seat.old (without r seat.old.lots) seat.new }
-    ensures seen { SeatSeesMore seat.old seat.new }
+    ensures seat { HasNow (did (Vacate seat.old.process r) seat.old) (without r seat.old.lots) seat.new }
+    ensures seen { StartsWith seat.new.front seat.old.front }
     ensures back { (l : LotOf Body) → value_at r seat.old.lots ≡ Some l → (desk.new.tallies.now ≡ gave (r / MAX_RECORDS) l.len desk.old.tallies.now) × (result ≡ l.len) }
 {
     let len = empty(desk, seat, r);
@@ -192,7 +195,7 @@ pub(crate) fn give_up<R, V: Vaults, G: Gate>(
 pub(crate) fn holds(records: &Records<Body>, seat: &mut Seat<Body>, r: u16) -> bool
     requires own { IsSeatOf records.now seat.old }
     requires exist { (q : ℕ) → Among (keys seat.old.lots) q → IsRecord seat.old.shape q }
-    ensures same { HasNow seat.old seat.old.lots seat.new × SeatSeesMore seat.old seat.new }
+    ensures same { HasNow seat.old seat.old.lots seat.new × StartsWith seat.new.front seat.old.front }
     ensures holds { MatchBool result (Among (keys seat.old.lots) r) (Among (keys seat.old.lots) r → ⊥) }
 {
     if !records.has(r) {
@@ -244,9 +247,9 @@ pub(crate) fn accept_block(
 ) -> Result<Header, u64>
     requires own { IsSeatOf records.now seat.old × IsRecord records.now.shape r × (direction < DIRECTIONS) }
     ensures here { IfOk result (λ s. (l : LotOf Body) × (Among (keys seat.old.lots) r → ⊥)
-        × HasNow (did (Accept seat.old.process r direction) seat.old) (seat.old.lots ++ (r, l) ∷ []) seat.new × IsBlock seat.old.shape r l × (s ≡ header_of (item_of l))) }
-    ensures missing { IfErr result (λ word. (word ≢ 2 + 4 * direction) × HasNow seat.old seat.old.lots seat.new × SeatSaw seat.old seat.new r word) }
-    ensures seen { SeatSeesMore seat.old seat.new }
+        × HasNow (did (Accept seat.old.process r direction) (carrying (l ∷ []) seat.old)) (seat.old.lots ++ (r, l) ∷ []) seat.new × IsBlock seat.old.shape r l × (s ≡ header_of (item_of l))) }
+    ensures missing { IfErr result (λ word. (word ≢ 2 + 4 * direction) × HasNow seat.old seat.old.lots seat.new × SawAt seat.old.shape seat.old.front seat.new.front r word) }
+    ensures seen { StartsWith seat.new.front seat.old.front }
 {
     records.accept(seat, r, direction)?;
     Ok(look(records, seat, r))
@@ -261,8 +264,8 @@ pub(crate) fn pass_block(
 ) -> u32
     requires own { IsSeatOf records.now seat.old × IsRecord records.now.shape r × (direction < DIRECTIONS) }
     requires held { (l : LotOf Body) × (value_at r seat.old.lots ≡ Some l) × IsLotOf seat.old.shape r l × IsFull fits_in l }
-    ensures passed { HasNow (did (Pass seat.old.process r direction) seat.old) (without r seat.old.lots) seat.new }
-    ensures seen { SeatSeesMore seat.old seat.new }
+    ensures passed { (l : LotOf Body) → value_at r seat.old.lots ≡ Some l → HasNow (did (Pass seat.old.process r direction) (carrying (l ∷ []) seat.old)) (without r seat.old.lots) seat.new }
+    ensures seen { StartsWith seat.new.front seat.old.front }
     ensures came { Came (Pass seat.old.process r direction) seat.old.front seat.new.front }
     ensures bytes { (l : LotOf Body) → value_at r seat.old.lots ≡ Some l → result ≡ l.len }
 {
@@ -323,13 +326,14 @@ pub(crate) fn cut_block<R, V: Vaults, G: Gate>(
 ) -> Result<u16, Reason>
     requires own { IsSeatOf desk.old.records.now seat.old }
     requires names { V.names desk.old.vaults.now ≡ seat.old.shape.names }
+    requires exist { (q : ℕ) → Among (keys seat.old.lots) q → IsRecord seat.old.shape q }
     requires held { (l : LotOf Body) × (value_at r seat.old.lots ≡ Some l) × IsBlock seat.old.shape r l × IsData l × IsGoodCut k l.len }
     ensures same { IsSameDesk V.names V.extent desk.old desk.new }
     ensures tallies { desk.new.tallies.now ≡ desk.old.tallies.now }
     ensures cut { IfOk result (λ t. (l : LotOf Body) → value_at r seat.old.lots ≡ Some l → IsCut seat.old seat.new r k l t) }
-    ensures refused { OnErr result (HasNow seat.old seat.old.lots seat.new × (desk.new.vaults.now ≡ desk.old.vaults.now)) }
-    ensures why { IfErr result (IsUncut (SeatFull seat.old seat.new (r / MAX_RECORDS))) }
-    ensures seen { SeatSeesMore seat.old seat.new }
+    ensures refused { OnErr result (SeatLetsGo (λ claims. length claims ≤ 1) (r / MAX_RECORDS) seat.old seat.new × (desk.new.vaults.now ≡ desk.old.vaults.now)) }
+    ensures why { IfErr result (IsUncut (SeatFull 0 seat.old seat.new (r / MAX_RECORDS))) }
+    ensures seen { StartsWith seat.new.front seat.old.front }
 {
     let Ok(t) = desk.records.claim(seat, (r / MAX_RECORDS) as u8) else {
         return Err(Reason::NoRecord);

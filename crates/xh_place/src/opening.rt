@@ -1,8 +1,9 @@
 // What opening does to the seat: two records get 32 bytes each, and the two ends of a channel.
-ghost use Rattle.std.specs.Prelude.{◌≡◌, ◌≢◌, ◌+◌, ◌*◌, ◌/◌, ◌<◌, ◌≤◌, length, Some, IfOk, IfErr, OnOk, OnErr, MatchOption, slice_get};
+ghost use Rattle.std.specs.Prelude.{◌≡◌, ◌≢◌, ℕ, ◌∷◌, [], ◌+◌, ◌*◌, ◌/◌, ◌<◌, ◌≤◌, length, Some, IfOk, IfErr, OnOk, OnErr, MatchOption, slice_get};
 ghost use Rattle.xh_arena.specs.Views.{LotOf};
 ghost use Rattle.xh_channel.specs.Queues.{Posted};
-ghost use Rattle.xh_model.specs.Keyed.{put, value_at, without};
+ghost use Rattle.xh_model.specs.Keyed.{Among, keys, put, value_at, without};
+ghost use Rattle.xh_model.specs.declared.event.Event.TheVariants.{Vacate};
 ghost use Rattle.xh_model.specs.declared.limits.TheConstants.{END_BYTES, MAX_RECORDS};
 ghost use Rattle.xh_place.specs.Bodies.{fits_in};
 ghost use Rattle.xh_place.specs.Desk.{IsSameDesk, IsSeatAt};
@@ -11,7 +12,8 @@ ghost use Rattle.xh_place.specs.Places.{item_of};
 ghost use Rattle.xh_place.specs.Tallies.{took};
 ghost use Rattle.xh_place.specs.Vaults.{IsNoPair, IsRefusedAt};
 ghost use Rattle.xh_place.specs.declared.body.Body.{Body};
-ghost use Rattle.xh_place.specs.inner.Lots.{HasNow, SeatFull, SeatSeesMore};
+ghost use Rattle.xh_place.specs.inner.Lots.{HasNow, SeatFull, SeatLetsGo, with_done};
+ghost use Rattle.xh_records.specs.History.{StartsWith};
 ghost use Rattle.xh_records.specs.Seats.{IsRecord, IsSeatOf, with_lots};
 ghost use Rattle.xh_records.specs.Showing.{IsEmpty};
 ghost use Rattle.xh_place.specs.declared.body.Body.TheVariants.{End};
@@ -92,8 +94,9 @@ fn claim_two<G: Gate>(
 ) -> Option<(u16, u16)>
     requires own { IsSeatOf records.now seat.old }
     requires arena { arena < length seat.old.shape.names }
-    ensures seen { SeatSeesMore seat.old seat.new }
-    ensures claimed { MatchOption result (HasNow seat.old seat.old.lots seat.new × SeatFull seat.old seat.new arena) (λ r. (l m : LotOf Body) × AreClaimed arena seat.old seat.new r.0 r.1 l m) }
+    requires exist { (q : ℕ) → Among (keys seat.old.lots) q → IsRecord seat.old.shape q }
+    ensures seen { StartsWith seat.new.front seat.old.front }
+    ensures claimed { MatchOption result (SeatFull 1 seat.old seat.new arena) (λ r. (l m : LotOf Body) × AreClaimed arena seat.old seat.new r.0 r.1 l m) }
 {
     let Ok(r) = records.claim(seat, arena) else {
         return None;
@@ -111,8 +114,8 @@ fn claim_two<G: Gate>(
 fn vacate_two(records: &Records<Body>, seat: &mut Seat<Body>, r: u16, t: u16)
     requires own { IsSeatOf records.now seat.old × IsRecord records.now.shape r × IsRecord records.now.shape t × (t ≢ r) }
     requires held { (l m : LotOf Body) × (value_at r seat.old.lots ≡ Some l) × (value_at t seat.old.lots ≡ Some m) × IsEmpty fits_in l × IsEmpty fits_in m }
-    ensures free { HasNow seat.old (without r (without t seat.old.lots)) seat.new }
-    ensures seen { SeatSeesMore seat.old seat.new }
+    ensures free { HasNow (with_done (Vacate seat.old.process t ∷ Vacate seat.old.process r ∷ []) seat.old) (without r (without t seat.old.lots)) seat.new }
+    ensures seen { StartsWith seat.new.front seat.old.front }
 {
     records.vacate(seat, t);
     records.vacate(seat, r);
@@ -175,12 +178,13 @@ pub(crate) fn make_ends<R, V: Vaults, G: Gate>(
 ) -> Result<(u16, u16), Unopened>
     requires at { IsSeatAt V.names desk.old seat.old }
     requires arena { arena < length seat.old.shape.names }
+    requires exist { (q : ℕ) → Among (keys seat.old.lots) q → IsRecord seat.old.shape q }
     ensures same { IsSameDesk V.names V.extent desk.old desk.new }
     ensures made { IfOk result (λ r. (l m : LotOf Body) × AreMade arena seat.old seat.new r.0 r.1 l m × (item_of l ≡ end_block low) × (item_of m ≡ end_block high)) }
     ensures taken { OnOk result (desk.new.tallies.now ≡ took arena (2 * END_BYTES) desk.old.tallies.now) }
-    ensures refused { IfErr result (λ u. HasNow seat.old seat.old.lots seat.new × (desk.new.tallies.now ≡ desk.old.tallies.now) × (u.low ≡ low) × (u.high ≡ high)) }
-    ensures why { IfErr result (λ u. IsNoPair V.changes desk.old.vaults.now desk.new.vaults.now arena (2 * END_BYTES) (SeatFull seat.old seat.new arena) (V.extent desk.old.vaults.now) u.why) }
-    ensures seen { SeatSeesMore seat.old seat.new }
+    ensures refused { IfErr result (λ u. SeatLetsGo (λ claims. length claims ≤ 2) arena seat.old seat.new × (desk.new.tallies.now ≡ desk.old.tallies.now) × (u.low ≡ low) × (u.high ≡ high)) }
+    ensures why { IfErr result (λ u. IsNoPair V.changes desk.old.vaults.now desk.new.vaults.now arena (2 * END_BYTES) (SeatFull 1 seat.old seat.new arena) (V.extent desk.old.vaults.now) u.why) }
+    ensures seen { StartsWith seat.new.front seat.old.front }
 {
     let Some((r, t)) = claim_two(desk.records, seat, arena, desk.gate) else {
         let why = Reason::NoRecord;

@@ -1,15 +1,14 @@
 //! A process's place.
-ghost use Rattle.std.specs.Prelude.{◌≡◌, ◌⊎◌, ◌+◌, ◌*◌, ◌<◌, ◌≤◌, [], length, Some, IfOk, IfErr, false, true};
+ghost use Rattle.std.specs.Prelude.{map, ◌≡◌, ◌⊎◌, ◌+◌, ◌*◌, ◌<◌, ◌≤◌, [], length, Some, IfOk, IfErr, false, true};
 ghost use Rattle.xh_core.specs.Refusing.{Tested};
 ghost use Rattle.xh_core.specs.Statuses.{is_over};
 ghost use Rattle.xh_model.specs.Keyed.{keys, value_at};
 ghost use Rattle.xh_model.specs.declared.limits.TheConstants.{GENERATIONS, MAX_ARENAS, MAX_RECORDS};
 ghost use Rattle.xh_place.specs.Messages.{is_listed};
-ghost use Rattle.xh_place.specs.Places.{AreBlocks, IsPlaceOf, Item, Lists, found, line, line_in, started, total_of};
+ghost use Rattle.xh_place.specs.Places.{AreBlocks, IsPlaceOf, Item, Lists, found, line, line_in, started, total_of, item_of};
 ghost use Rattle.xh_place.specs.Seen.{Stays};
 ghost use Rattle.xh_place.specs.Starts.{start, stop};
 ghost use Rattle.xh_model.specs.Words.{generation_of};
-ghost use Rattle.xh_place.specs.Moves.{moves};
 ghost use Rattle.xh_core.specs.declared.status.Status.TheVariants as status;
 
 mod blocks;
@@ -36,14 +35,22 @@ pub struct Place {
 
 impl Model for Place {
     ghost use Rattle.std.specs.Prelude.{vec_capacity};
-    ghost use Rattle.xh_place.specs.Moves.{moves};
-    ghost use Rattle.xh_place.specs.Places.{IsPlace, shown};
+    ghost use Rattle.std.specs.Prelude.{map};
+    ghost use Rattle.xh_place.specs.Places.{IsPlace, item_of, shown};
     ghost use Rattle.xh_place.specs.Seen.{PlaceSeen};
 
     ghost Value = { PlaceSeen };
 
     ghost view = { λ p. record {
-      place = record { table = p.seat.table; shape = p.seat.shape; process = p.seat.process; blocks = shown p.seat.lots p.list.items; state = p.state; moved = moves p.seat.done };
+      place = record {
+        table = p.seat.table;
+        shape = p.seat.shape;
+        process = p.seat.process;
+        blocks = shown p.seat.lots p.list.items;
+        state = p.state;
+        events = p.seat.done;
+        moved = map item_of p.seat.moved;
+      };
       front = p.seat.front;
     } };
 
@@ -78,7 +85,7 @@ impl Place {
         requires room { room ≡ length seat.shape.names * seat.shape.records }
         requires arenas { length seat.shape.names ≤ MAX_ARENAS }
         ensures place { IfOk result (λ p. p ≡ record {
-          place = record { table = seat.table; shape = seat.shape; process = seat.process; blocks = []; state = status.Vacant; moved = moves seat.done };
+          place = record { table = seat.table; shape = seat.shape; process = seat.process; blocks = []; state = status.Vacant; events = seat.done; moved = map item_of seat.moved };
           front = seat.front;
         }) }
         ensures refused { IfErr result (λ e. e ≡ Refused.OutOfMemory) }
@@ -180,7 +187,7 @@ impl Place {
     pub fn end(self) -> (Seat<Body>, Option<PlaceLine>)
         ensures same { (result.0.table ≡ self.place.table) × (result.0.shape ≡ self.place.shape) × (result.0.process ≡ self.place.process) × (result.0.front ≡ self.front) }
         ensures lists { Lists result.0 self.place.blocks }
-        ensures moved { moves result.0.done ≡ self.place.moved }
+        ensures events { (result.0.done ≡ self.place.events) × (map item_of result.0.moved ≡ self.place.moved) }
         ensures nothing { is_over self.place.state ≡ true → result.0.lots ≡ [] }
         ensures line { result.1 ≡ line_in self.place.state (line self.place) }
     {

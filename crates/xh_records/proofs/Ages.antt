@@ -10,14 +10,14 @@ use Rattle.xh_records.proofs.Cuts.{reseats}
 
 module _ {B : Type 0} (fits : B → ℕ → Bool) (s : Shape) where
   -- a place of the next generation, where its process holds no record
-  pub renews : (o : Ownership) (ws : List ℕ) (hs : List (maybe.Option (Option (LotOf B)))) (vs : List View) (id p : ℕ) (v : View) → Shows fits s o ws hs vs → get_elem? vs id ≡ some v
+  pub renews : (o : Ownership) (ws : List ℕ) (hs : List (maybe.Option (Option (LotOf B)))) (vs : List (View B)) (id p : ℕ) (v : View B) → Shows fits s o ws hs vs → get_elem? vs id ≡ some v
       → v.processes ≡ p ∷ [] → v.records ≡ [] → p + 32 < 4096 → Shows fits s o ws hs (set vs id (renewed v))
   renews o ws hs vs id p v shown here mine bare small = reseats fits s o ws hs vs (set vs id w) shown
       (λ k x j y u is there sat same. either_way (now j y u there sat)
       (λ t. absurd (none_held k x is (sym same ∙ ap place_of t.1 ∙ sym turn)))
       (λ t. shown.latest k x j y u is t.1 sat same))
       (λ q below. let f = shown.seated q below in dite (ℕ_discrete f.0 id)
-      (λ e. let is : f.1 ≡ p = only_one (subst (λ (k : List ℕ). Among k f.1) mine (subst (λ (z : View). Sits z f.1) (some-injective f.2 v (sym f.3 ∙ ap (get_elem? vs) e ∙ here)) f.4)) in
+      (λ e. let is : f.1 ≡ p = only_one (subst (λ (k : List ℕ). Among k f.1) mine (subst (λ (z : View B). Sits z f.1) (some-injective f.2 v (sym f.3 ∙ ap (get_elem? vs) e ∙ here)) f.4)) in
       (id, p + 32, w, set_here vs id w (in_range vs id v here), subst (λ (k : List ℕ). Among k (p + 32)) (sym mine_now) (inl refl), sym turn ∙ ap place_of (sym is) ∙ f.5))
       (λ n. (f.0, f.1, f.2, set_else vs id f.0 w n ∙ f.3, f.4, f.5)))
       (λ j x u there sat. either_way (now j x u there sat) (λ t. let at = shown.inside id p v here sits in grind (arith, nat_tests)) (λ t. shown.inside j x u t.1 sat))
@@ -26,7 +26,7 @@ module _ {B : Type 0} (fits : B → ℕ → Bool) (s : Shape) where
       (λ b. absurd (b.0 (sym (shown.alone id j p y v z here b.1 sits sat' (turn ∙ sym (ap place_of a.1) ∙ same)).0))))
       (λ a. either_way (now j y z at_z sat') (λ b. absurd (a.0 (shown.alone i id x p u v a.1 here sat sits (same ∙ ap place_of b.1 ∙ sym turn)).0))
       (λ b. shown.alone i j x y u z a.1 b.1 sat sat' same)))
-      (λ j u there. either_way (at_set vs id j w u there) (λ t. subst (λ (z : View). ViewFits s o z × ViewTells shown.log z) t.1 (
+      (λ j u there. either_way (at_set vs id j w u there) (λ t. subst (λ (z : View B). ViewFits s o z × ViewTells shown.log z) t.1 (
         record {
           is_owner = λ k x owns. absurd (subst (λ (l : List (ℕ × ℕ)). Among l (k, x)) bare owns);
           owns_all = λ k x is sat. absurd (none_held k x is (ap place_of (only_now x sat) ∙ sym turn));
@@ -37,10 +37,12 @@ module _ {B : Type 0} (fits : B → ℕ → Bool) (s : Shape) where
           begins = told.begins;
           only = λ y f among few. let t = told.only y f among few in let same : t.0 ≡ p = only_one (subst (λ (k : List ℕ). Among k t.0) mine t.1) in
               (p + 32, subst (λ (k : List ℕ). Among k (p + 32)) (sym mine_now) (inl refl), t.2 ∙ ap place_of same ∙ turn, t.3);
+          own = λ y own among. let t = told.own y own among in let same : t.0 ≡ p = only_one (subst (λ (k : List ℕ). Among k t.0) mine t.1) in
+              (p + 32, subst (λ (k : List ℕ). Among k (p + 32)) (sym mine_now) (inl refl), t.2 ∙ ap place_of same ∙ turn, t.3);
         },
       )) (λ t. (shown.views_fit j u t.1, shown.history.tells j u t.1)))
     where
-      w : View
+      w : View B
       w = renewed v
 
       told : ViewTells shown.log v
@@ -63,11 +65,11 @@ module _ {B : Type 0} (fits : B → ℕ → Bool) (s : Shape) where
           subst (λ (l : List (ℕ × ℕ)). Among l (k, x)) bare ((shown.views_fit id v here).owns_all k x is (subst (Sits v) same sits))
 
       -- where a process sits now
-      now : (j x : ℕ) (u : View) → get_elem? (set vs id w) j ≡ some u → Sits u x → ((j ≡ id) × (x ≡ p + 32)) ⊎ ((j ≢ id) × (get_elem? vs j ≡ some u))
-      now j x u there sat = either_way (at_set vs id j w u there) (λ t. inl (t.0, only_now x (subst (λ (z : View). Sits z x) (sym t.1) sat))) (λ t. inr t)
+      now : (j x : ℕ) (u : View B) → get_elem? (set vs id w) j ≡ some u → Sits u x → ((j ≡ id) × (x ≡ p + 32)) ⊎ ((j ≢ id) × (get_elem? vs j ≡ some u))
+      now j x u there sat = either_way (at_set vs id j w u there) (λ t. inl (t.0, only_now x (subst (λ (z : View B). Sits z x) (sym t.1) sat))) (λ t. inr t)
 
   -- a load, by a seat whose place has its next generation
-  pub ages : (slots id : ℕ) (me : Me (Option (LotOf B)) View) (p : ℕ) → 0 < slots → me.0.processes ≡ p ∷ [] → me.0.records ≡ [] → p + 32 < 4096
+  pub ages : (slots id : ℕ) (me : Me (Option (LotOf B)) (View B)) (p : ℕ) → 0 < slots → me.0.processes ≡ p ∷ [] → me.0.records ≡ [] → p + 32 < 4096
       → Allows (Shown fits s) slots id me 0 (λ n. n) (aged (step slots 0 0 0 none) me)
   ages slots id me p some_slot mine bare small t holds long seen fit =
       let a : At fits s t holds.0 0 = at fits s t holds.0 0 slots holds.1 long some_slot in (

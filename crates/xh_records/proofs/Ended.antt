@@ -1,9 +1,11 @@
 -- The closed table: its words, the lots at home, and those that the seats had.
-use Rattle.xh_records.proofs.Common.{nat_tests, ◌≡◌, ℕ, zero, suc, ◌*◌, ◌<◌, map, length-append, Bool, List, [], ◌∷◌, ◌++◌, length, take, get_or, sym, ap, ◌∙◌, subst, arith, rules, mod-lt}
+use Rattle.xh_records.proofs.Common.{nat_tests, ◌≡◌, ℕ, zero, suc, ◌*◌, ◌<◌, map, length-append, Bool, List, [], ◌∷◌, ◌++◌, length, take, get_or, sym, ap, ◌∙◌, subst, arith, rules}
 use Rattle.xh_records.proofs.Common.{length-map, Option, Some, None, slice_get, at_index, some, some-injective, some-ne-none, dite, ℕ_discrete, get_elem?, State, Final, Seen, LotOf, Holder}
 use Rattle.xh_records.proofs.Common.{Process, Direction, index_of, Ownership, IsHeldBy, word_of, place_of, number_of, index_back, Among, Distinct, keys, among_back, among_either, among_front}
-use Rattle.xh_records.proofs.Common.{at_key, Shape, View, by_place, IsLotAt, Sits, ViewFits, Shows, Shown, IsSmall, Held, owned_by, indices, lot_in, view_of, Ends, EndsAs, IsAway, IsHomeLot}
+use Rattle.xh_records.proofs.Common.{at_key, Shape, View, IsLotAt, Sits, ViewFits, Shows, Shown, IsSmall, Held, owned_by, indices, lot_in, view_of, Ends, EndsAs, IsAway, IsHomeLot}
 use Rattle.xh_records.proofs.Common.{spent, slot_at, or_else, IsGathered}
+use Rattle.xh_records.proofs.Common.{Did, carried, deeds_by, events}
+use Rattle.xh_records.proofs.Deeds.{events_by}
 use Rattle.std.specs.Option.{option_or, IsSome}
 use Rattle.xh_records.proofs.Elements.{either_way, in_range, is_there, only_one, elem_slice, slice_elem, nth_is, among_map}
 use Rattle.xh_records.proofs.Keeps.{home_lot, one_holder, same_place, never}
@@ -15,11 +17,12 @@ among_owned_back q [] r p h = absurd h
 among_owned_back q (x ∷ xs) r p h = grind (arith, nat_tests, among_owned_back q xs r p)
 
 -- one more seat is gathered
-pub gathers : {B : Type 0} (m : ℕ) (seats : List (Held B)) (x : Held B) (v v' : View) (held held' : List (Option (LotOf B))) → get_elem? seats m ≡ some x → IsGathered (suc m) seats v held
-    → v'.processes ≡ v.processes ++ x.process ∷ [] → v'.records ≡ v.records ++ (view_of x).records → v'.fronts ≡ v.fronts ++ (view_of x).fronts → x.done ≡ by_place (place_of x.process) x.front
+pub gathers : {B : Type 0} (m : ℕ) (seats : List (Held B)) (x : Held B) (v v' : View B) (held held' : List (Option (LotOf B))) → get_elem? seats m ≡ some x → IsGathered (suc m) seats v held
+    → v'.processes ≡ v.processes ++ x.process ∷ [] → v'.records ≡ v.records ++ (view_of x).records → v'.fronts ≡ v.fronts ++ (view_of x).fronts → (w : View B) → v'.deeds ≡ v.deeds ++ w.deeds
+    → Did w x
     → length held' ≡ length held
     → ((r : ℕ) → Among (indices x) r → (l : LotOf B) × (lot_in r x ≡ Some l)) → ((r : ℕ) → r < length held → slot_at held' r ≡ or_else (lot_in r x) (slot_at held r)) → IsGathered m seats v' held'
-gathers {B} m seats x v v' held held' at old places records lists did long has fill = record {
+gathers {B} m seats x v v' held held' at old places records lists w deeds did long has fill = record {
   each = λ p h. grind (arith, nat_tests, only_one, among_either);
   count = let c = old.count in let l = ap length places ∙ length-append v.processes (x.process ∷ []) in omega arith;
   one = λ d i j y z at_y at_z le le' e.
@@ -73,10 +76,10 @@ take_one_more [] i a e = absurd (some-ne-none a (sym e))
 take_one_more (x ∷ xs) zero a e = λ k. some-injective x a e k ∷ []
 take_one_more {A} (x ∷ xs) (suc i) a e = ap (λ (z : List A). x ∷ z) (take_one_more xs i a e)
 
-module _ {B : Type 0} (fits : B → ℕ → Bool) (s : Shape) (id : ℕ) (v : View) (ws : List ℕ) (xs : List (Option (LotOf B))) (seats : List (Held B)) (held : List (Option (LotOf B)))
+module _ {B : Type 0} (fits : B → ℕ → Bool) (s : Shape) (id : ℕ) (v : View B) (ws : List ℕ) (xs : List (Option (LotOf B))) (seats : List (Held B)) (held : List (Option (LotOf B)))
     (final : Final (Seen (Shown fits s) id v) ws xs) (gathered : IsGathered 0 seats v held) (long : length held ≡ length xs) (small : IsSmall s)
     (own : (j : ℕ) (x : Held B) → slice_get seats j ≡ Some x → x.shape ≡ s) (every : length seats ≡ s.places) (sized : length xs ≡ length s.names * s.records) where
-  abbrev pub t : State (Option (LotOf B)) View
+  abbrev pub t : State (Option (LotOf B)) (View B)
   t = final.0
 
   abbrev pub o : Ownership
@@ -135,6 +138,14 @@ module _ {B : Type 0} (fits : B → ℕ → Bool) (s : Shape) (id : ℕ) (v : Vi
   at_home k h is free = let home = shown.homes_are k h is in let lot = home_lot fits s k h home.0 free home.2 in
       (lot.0, ap (λ (z : Option (LotOf B)). or_else z (slot_at xs k)) (not_taken k h is free) ∙ nth_is xs k None (Some lot.0) (final.4 k (Some lot.0) (home.1 ∙ ap some lot.1)), (lot.2, lot.3))
 
+  -- what is in flight lies at home
+  flies : (k d : ℕ) (l : LotOf B) → IsHeldBy o k (Some (Direction d)) → or_else (slot_at held k) (slot_at xs k) ≡ Some l → get_elem? t.homes k ≡ some (some (Some l))
+  unfolding at_home
+  flies k d l is e =
+      let home = shown.homes_are k (Some (Direction d)) is in let lot = home_lot fits s k (Some (Direction d)) home.0 (never d) home.2 in
+      let same : Some lot.0 ≡ Some l = sym (at_home k (Some (Direction d)) is (never d)).1 ∙ e in let is_l : lot.0 ≡ l = cc in
+      home.1 ∙ ap some lot.1 ∙ ap (λ (z : LotOf B). some (some (Some z))) is_l
+
   pub ended : (k : ℕ) (h : Option Holder) → IsHeldBy o k h → (l : LotOf B) × (or_else (slot_at held k) (slot_at xs k) ≡ Some l) × EndsAs fits s seats k h l
   ended k None is = at_home k None is free_away
   ended k (Some (Process p)) is = let t = by_process k p is in (t.4, ap (λ (z : Option (LotOf B)). or_else z (slot_at xs k)) t.6, (t.0, t.1, elem_slice seats t.0 t.1 t.2, t.3, t.5))
@@ -143,15 +154,21 @@ module _ {B : Type 0} (fits : B → ℕ → Bool) (s : Shape) (id : ℕ) (v : Vi
   pub some_lot : (k : ℕ) → k < length xs → (l : LotOf B) × (or_else (slot_at held k) (slot_at xs k) ≡ Some l)
   some_lot k h = let there = is_there o k (let e : length o ≡ length held = count in omega arith) in let t = ended k there.0 there.1 in (t.0, t.1)
 
+  -- the deeds of a seat are its place's in the log
+  did : (j : ℕ) (x : Held B) → slice_get seats j ≡ Some x → (d : Did v x) × (d.0 ≡ deeds_by (place_of x.process) shown.log)
+  did j x at = let d = (gathered.fronts j x (slice_elem seats j x at) (omega arith)).1 in (d, ((shown.history.tells id v final.1.1).own (place_of x.process) d.0 d.1).3)
+
   pub ends : (lots : List (LotOf B)) → length lots ≡ length xs → ((k : ℕ) (l : LotOf B) → get_elem? lots k ≡ some l → or_else (slot_at held k) (slot_at xs k) ≡ Some l) → Ends fits s seats ws lots
   ends lots size are = record {
     owners = o;
     log = shown.log;
     leads = shown.history.leads;
     theirs = shown.history.theirs;
-    parts = λ j x at. let t = gathered.fronts j x (slice_elem seats j x at) (omega arith) in t.1
-        ∙ ((shown.history.tells id v final.1.1).only (place_of x.process) x.front t.0 (mod-lt x.process (omega arith))).3;
+    parts = λ j x at. let d = did j x at in d.0.2 ∙ ap events d.1 ∙ events_by (place_of x.process) shown.log;
+    moved = λ j x at. let d = did j x at in d.0.3 ∙ ap carried d.1;
     fronts = λ j x at. (shown.history.tells id v final.1.1).begins (place_of x.process) x.front (gathered.fronts j x (slice_elem seats j x at) (omega arith)).0;
+    arrives = shown.history.arrives;
+    left = λ k d l is at. shown.left k d l is (flies k d l is (are k l (slice_elem lots k l at)));
     holders = shown.holders;
     words_are = sym final.2 ∙ shown.words_are;
     lots_long = size ∙ sym long ∙ sym count;

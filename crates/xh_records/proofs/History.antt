@@ -1,7 +1,9 @@
 -- The log of all events, as it grows, and the views' fronts.
 use Rattle.xh_records.proofs.Common.{nat_tests, ◌≡◌, ℕ, ◌<◌, ◌≢◌, Bool, List, [], ◌∷◌, ◌++◌, length, set, get_or, sym, refl, ap, ◌∙◌, subst, inl, inr, eq-eqb, ne_eqb, cond, arith, append_assoc}
 use Rattle.xh_records.proofs.Common.{append-nil, mod-lt, some, get_elem?, at_set, Event, Ownership, IsDone, place_of, Among, among_either, Shape, View, IsInside, Grows, IsOneLog, LeadsTo}
-use Rattle.xh_records.proofs.Common.{StartsWith, all_free, by_place, process_of, Sits, ViewTells, IsHistory, IsOthers, IsAlone, adds, first_front, front_in, no_events, tail_of}
+use Rattle.xh_records.proofs.Common.{StartsWith, all_free, by_place, process_of, Sits, ViewTells, IsHistory, IsOthers, IsAlone, adds, first_of, front_in, none_yet, ⊎_elim, tail_of, Accept, Deed}
+use Rattle.xh_records.proofs.Common.{IsLeft, deeds_by, events}
+use Rattle.xh_records.proofs.Deeds.{arrives_more, deeds_more, deeds_same, events_more}
 use Rattle.xh_records.proofs.Elements.{either_way, only_one}
 use Rattle.xh_records.specs.inner.Steps.{process_in}
 
@@ -52,25 +54,27 @@ no_more [] ys e = sym e
 no_more (x ∷ xs) ys e = no_more xs ys (ap (λ (z : List Event). tail_of z) e)
 
 -- an entry of a list of one
-pub one_is : (l : List (ℕ × List Event)) (q k : ℕ) (es fs : List Event) → l ≡ (k, fs) ∷ [] → Among l (q, es) → (q ≡ k) × (es ≡ fs)
+pub one_is : {X : Type 0} (l : List (ℕ × List X)) (q k : ℕ) (es fs : List X) → l ≡ (k, fs) ∷ [] → Among l (q, es) → (q ≡ k) × (es ≡ fs)
 one_is l q k es fs is there = grind (arith, nat_tests, only_one)
 
 -- a view of one process that has seen the whole log
-pub tells_all : (log : List Event) (w : View) (p : ℕ) → Sits w p → w.fronts ≡ (place_of p, log) ∷ [] → ViewTells log w
-tells_all log w p sits one = record {
-  begins = λ q f there. subst (StartsWith log) (sym (one_is w.fronts q (place_of p) f log one there).1) (starts_itself log);
-  only = λ q f there few. let is = one_is w.fronts q (place_of p) f log one there in (p, sits, is.0, ap (by_place q) is.1);
+pub tells_all : {B : Type 0} (log : List (Deed B)) (w : View B) (p : ℕ) → Sits w p → w.fronts ≡ (place_of p, events log) ∷ []
+    → ((q : ℕ) (own : List (Deed B)) → Among w.deeds (q, own) → (q ≡ place_of p) × (own ≡ deeds_by q log)) → ViewTells log w
+tells_all {B} log w p sits one own = record {
+  begins = λ q f there. subst (StartsWith (events log)) (sym (one_is w.fronts q (place_of p) f (events log) one there).1) (starts_itself (events log));
+  only = λ q f there few. let is = one_is w.fronts q (place_of p) f (events log) one there in (p, sits, is.0, ap (by_place q) is.1);
+  own = λ q ds there. let is = own q ds there in (p, sits, is.0, is.1);
 }
 
 -- what the seat of a process hasn't seen of the log is of others, and what it has seen once it did its own
-pub record Unseen (log : List Event) (v : View) (p : ℕ) : Type 0 where
+pub record Unseen {B : Type 0} (log : List Event) (v : View B) (p : ℕ) : Type 0 where
   pub others : List Event
   pub sits : Sits v p
   pub placed : process_in v ≡ p
   pub by : IsOthers v others
   pub now : (own : List Event) → adds (others ++ own) v.fronts ≡ (place_of p, log ++ own) ∷ []
 
-pub unseen : (log : List Event) (v : View) (p : ℕ) → ViewTells log v → IsAlone v p → Unseen log v p
+pub unseen : {B : Type 0} (log : List (Deed B)) (v : View B) (p : ℕ) → ViewTells log v → IsAlone v p → Unseen (events log) v p
 unseen log v p tells alone =
     let q : ℕ = place_of p in let f : List Event = front_in v in
     let there : Among v.fronts (q, f) = subst (λ (z : List (ℕ × List Event)). Among z (q, f)) (sym alone.1) (inl refl) in
@@ -85,28 +89,53 @@ unseen log v p tells alone =
     }
 
 -- the view of others
-tells_others : (log : List Event) (u : View) (e : Event) → ViewTells log u → ((p : ℕ) → Sits u p → place_of (process_of e) ≢ place_of p) → ViewTells (log ++ e ∷ []) u
-tells_others log u e tells apart = record {
-  begins = λ q f there. starts_twice f log (log ++ e ∷ []) (tells.begins q f there) (e ∷ [], refl);
-  only = λ q f there few. let t = tells.only q f there few in (t.0, t.1, t.2, t.3 ∙ sym (by_place_less q log e (λ is. apart t.0 t.1 (is ∙ t.2))));
+tells_others : {B : Type 0} (log : List (Deed B)) (u : View B) (d : Deed B) → ViewTells log u → ((p : ℕ) → Sits u p → place_of (process_of d.0) ≢ place_of p) → ViewTells (log ++ d ∷ []) u
+tells_others log u d tells apart = record {
+  begins = λ q f there. starts_twice f (events log) (events (log ++ d ∷ [])) (tells.begins q f there) (d.0 ∷ [], events_more log d);
+  only = λ q f there few. let t = tells.only q f there few in
+      (t.0, t.1, t.2, t.3 ∙ sym (ap (by_place q) (events_more log d) ∙ by_place_less q (events log) d.0 (λ is. apart t.0 t.1 (is ∙ t.2))));
+  own = λ q ds there. let t = tells.own q ds there in (t.0, t.1, t.2, t.3 ∙ sym (deeds_same q log d (λ is. apart t.0 t.1 (is ∙ t.2))));
 }
+
+-- what stands in lists that one was added to
+among_adds : {X : Type 0} (x : X) (l : List (ℕ × List X)) (q : ℕ) (xs : List X) → Among (adds (x ∷ []) l) (q, xs) → (ys : List X) × Among l (q, ys) × (xs ≡ ys ++ x ∷ [])
+among_adds x [] q xs h = absurd h
+among_adds {X} x (y ∷ ys) q xs h = ⊎_elim
+    (λ (e : (q, xs) ≡ (y.0, y.1 ++ x ∷ [])). (y.1, inl (ap (λ (z : ℕ × List X). (z.0, y.1)) e), ap (λ (z : ℕ × List X). z.1) e))
+    (λ (t : Among (adds (x ∷ []) ys) (q, xs)). let m = among_adds x ys q xs t in (m.0, inr m.1, m.2))
+    h
 
 -- one more event, by the seat id
-pub more_history : (s : Shape) (o o' : Ownership) (views : List View) (log : List Event) (id : ℕ) (w : View) (e : Event) → IsHistory s o views log → IsDone s.records o e o'
-    → IsInside s.records e → length o' ≡ length o → place_of (process_of e) < s.places → Sits w (process_of e) → w.fronts ≡ (place_of (process_of e), log ++ e ∷ []) ∷ []
-    → ((j p : ℕ) (u : View) → j ≢ id → get_elem? views j ≡ some u → Sits u p → place_of (process_of e) ≢ place_of p) → IsHistory s o' (set views id w) (log ++ e ∷ [])
-more_history s o o' views log id w e old done there long inside sits one apart = record {
-  leads = subst (λ (n : ℕ). LeadsTo s.records (all_free n) (log ++ e ∷ []) o') (sym long) (leads_more s.records (all_free (length o)) o o' log e old.leads done there);
-  theirs = λ x there. either_way (among_either log (e ∷ []) x there) (λ a. old.theirs x a) (λ b. subst (λ (z : Event). place_of (process_of z) < s.places) (sym (only_one b)) inside);
-  tells = λ j u there. either_way (at_set views id j w u there) (λ t. subst (ViewTells (log ++ e ∷ [])) t.1 (tells_all (log ++ e ∷ []) w (process_of e) sits one))
-      (λ t. tells_others log u e (old.tells j u t.1) (λ p sits. apart j p u t.0 t.1 sits));
+pub more_history : {B : Type 0} (s : Shape) (o o' : Ownership) (views : List (View B)) (log : List (Deed B)) (id : ℕ) (v w : View B) (d : Deed B) → IsHistory s o views log
+    → get_elem? views id ≡ some v → IsDone s.records o d.0 o' → IsInside s.records d.0 → length o' ≡ length o → place_of (process_of d.0) < s.places → v.processes ≡ process_of d.0 ∷ []
+    → Sits w (process_of d.0) → w.fronts ≡ (place_of (process_of d.0), events log ++ d.0 ∷ []) ∷ [] → w.deeds ≡ adds (d ∷ []) v.deeds
+    → ((p r n : ℕ) → d.0 ≡ Accept p r n → IsLeft log r n d.1)
+    → ((j p : ℕ) (u : View B) → j ≢ id → get_elem? views j ≡ some u → Sits u p → place_of (process_of d.0) ≢ place_of p) → IsHistory s o' (set views id w) (log ++ d ∷ [])
+more_history {B} s o o' views log id v w d old here done there long inside alone sits one did was apart = record {
+  leads = subst (λ (z : ℕ × List Event). LeadsTo s.records (all_free z.0) z.1 o') (λ i. (sym long i, sym (events_more log d) i))
+      (leads_more s.records (all_free (length o)) o o' (events log) d.0 old.leads done there);
+  theirs = λ x among. either_way (among_either (events log) (d.0 ∷ []) x (subst (λ (z : List Event). Among z x) (events_more log d) among)) (λ a. old.theirs x a)
+      (λ b. subst (λ (z : Event). place_of (process_of z) < s.places) (sym (only_one b)) inside);
+  tells = λ j u at. either_way (at_set views id j w u at)
+      (λ t. subst (ViewTells (log ++ d ∷ [])) t.1 (tells_all (log ++ d ∷ []) w (process_of d.0) sits
+      (one ∙ ap (λ (z : List Event). (place_of (process_of d.0), z) ∷ []) (sym (events_more log d))) own))
+      (λ t. tells_others log u d (old.tells j u t.1) (λ p sits. apart j p u t.0 t.1 sits));
+  arrives = arrives_more log d old.arrives was;
 }
+  where
+    own : (q : ℕ) (ds : List (Deed B)) → Among w.deeds (q, ds) → (q ≡ place_of (process_of d.0)) × (ds ≡ deeds_by q (log ++ d ∷ []))
+    own q ds there =
+        let before = among_adds d v.deeds q ds (subst (λ (z : List (ℕ × List (Deed B))). Among z (q, ds)) did there) in
+        let t = (old.tells id v here).own q before.0 before.1 in
+        let mine : t.0 ≡ process_of d.0 = only_one (subst (λ (z : List ℕ). Among z t.0) alone t.1) in
+        let at : q ≡ place_of (process_of d.0) = t.2 ∙ ap place_of mine in
+        (at, before.2 ∙ ap (λ (z : List (Deed B)). z ++ d ∷ []) t.3 ∙ sym (deeds_more q log d (sym at)))
 
 -- the one front of a view, and more events in it
-pub adds_one : (es : List Event) (q : ℕ) (l : List (ℕ × List Event)) → l ≡ (q, first_front l) ∷ [] → (first_front (adds es l) ≡ first_front l ++ es) × (adds es l ≡ (q, first_front (adds es l)) ∷ [])
+pub adds_one : {X : Type 0} (es : List X) (q : ℕ) (l : List (ℕ × List X)) → l ≡ (q, first_of l) ∷ [] → (first_of (adds es l) ≡ first_of l ++ es) × (adds es l ≡ (q, first_of (adds es l)) ∷ [])
 adds_one es q l one = grind (arith, nat_tests)
 
--- the fronts of places with no event yet
-pub lists_back : (ps : List ℕ) (q : ℕ) (es : List Event) → Among (no_events ps) (q, es) → (p : ℕ) × Among ps p × (q ≡ place_of p) × (es ≡ [])
+-- of places with nothing yet
+pub lists_back : {X : Type 0} (ps : List ℕ) (q : ℕ) (es : List X) → Among (none_yet ps) (q, es) → (p : ℕ) × Among ps p × (q ≡ place_of p) × (es ≡ [])
 lists_back [] q es h = absurd h
 lists_back (x ∷ xs) q es h = grind (arith, nat_tests, lists_back xs q es)

@@ -5,11 +5,14 @@ use Rattle.xh_records.proofs.Common.{keeps, step, stepped, Allows, at_set, set_h
 use Rattle.xh_records.proofs.Common.{View, Holder, Process, Direction, Event, index_of, Ownership, IsHeldBy, IsHolder, IsDone, word_of, place_of, number_of, record_of, from_of, to_of}
 use Rattle.xh_records.proofs.Common.{word_injective, index_back, number_inside, LeadsTo, all_free, process_of, Sits, Owns, IsLotAt, HomeFits, ViewFits, ViewTells, IsSmall, Shows, Shown}
 use Rattle.xh_records.proofs.Common.{Knows}
-use Rattle.xh_records.proofs.Common.{taking, giving, IsAway, IsHomeLot, IsAlone, first_front, gained, head_of, knowing, lost, SeesMore, took, gave, looked, compared}
+use Rattle.xh_records.proofs.Common.{taking, giving, IsAway, IsHomeLot, IsAlone, first_of, gained, head_of, knowing, lost, SeesMore, took, gave, looked, compared}
 use mathlib.Core.Option as maybe
 use lib.Seq.{map-set}
 use Rattle.xh_records.proofs.History.{Unseen, more_history, one_log, tells_all, unseen}
 use Rattle.xh_records.proofs.Cuts.{sat, shares_out, stands, still_seated}
+use Rattle.xh_records.proofs.Common.{Accept, IsLeft, Pass, adds, events}
+use Rattle.xh_records.proofs.Deeds.{left_now, left_still}
+use Rattle.xh_records.proofs.Lists.{first_is}
 use Rattle.xh_records.proofs.Elements.{either_way, in_range, is_there, nth_is, only_one}
 use prog.Atomic.{either}
 
@@ -21,7 +24,7 @@ pub one_holder : (o : Ownership) (r : ℕ) (h k : Option Holder) → IsHeldBy o 
 one_holder o r h k a b = some-injective h k (sym a ∙ b)
 
 -- what one seat's view may become where a record goes from h to k
-pub record Change (v w : View) (r : ℕ) (h k : Option Holder) : Type 0 where
+pub record Change {B : Type 0} (v w : View B) (r : ℕ) (h k : Option Holder) : Type 0 where
   pub processes : w.processes ≡ v.processes
   pub shape : w.shape ≡ v.shape
   pub was_mine : (p : ℕ) → h ≡ Some (Process p) → Sits v p
@@ -32,16 +35,19 @@ pub record Change (v w : View) (r : ℕ) (h k : Option Holder) : Type 0 where
   pub left : (p : ℕ) → k ≡ Some (Process p) → Owns w r p
 
 -- the event by which it does, after the log so far
-pub record By (s : Shape) (log : List Event) (v w : View) (r : ℕ) (h k : Option Holder) (e : Event) : Type 0 where
+pub record By {B : Type 0} (s : Shape) (log : List Event) (v w : View B) (r : ℕ) (h k : Option Holder) (e : Event) (l : LotOf B) : Type 0 where
   pub inside : record_of e % 256 < s.records
   pub index : index_of s.records (record_of e) ≡ r
   pub from : from_of e ≡ h
   pub to : to_of e ≡ k
-  pub sits : Sits v (process_of e)
+  pub alone : v.processes ≡ process_of e ∷ []
   pub front : w.fronts ≡ (place_of (process_of e), log ++ e ∷ []) ∷ []
+  pub deeds : w.deeds ≡ adds ((e, l) ∷ []) v.deeds
 
-module _ {B : Type 0} (fits : B → ℕ → Bool) (s : Shape) (o : Ownership) (ws : List ℕ) (hs : List (maybe.Option (Option (LotOf B)))) (vs : List View) (shown : Shows fits s o ws hs vs)
-    (id r : ℕ) (v w : View) (h k : Option Holder) (at : get_elem? vs id ≡ some v) (held : IsHeldBy o r h) (change : Change v w r h k) (e : Event) (by : By s shown.log v w r h k e) where
+module _ {B : Type 0} (fits : B → ℕ → Bool) (s : Shape) (o : Ownership) (ws : List ℕ) (hs : List (maybe.Option (Option (LotOf B)))) (vs : List (View B)) (shown : Shows fits s o ws hs vs)
+    (id r : ℕ) (v w : View B) (h k : Option Holder) (at : get_elem? vs id ≡ some v) (held : IsHeldBy o r h) (change : Change v w r h k) (e : Event) (lot : LotOf B)
+    (by : By s (events shown.log) v w r h k e lot)
+    (was : (p q n : ℕ) → e ≡ Accept p q n → IsLeft shown.log q n lot) where
   abbrev o' : Ownership
   o' = set o r k
 
@@ -62,10 +68,10 @@ module _ {B : Type 0} (fits : B → ℕ → Bool) (s : Shape) (o : Ownership) (w
     places = subst (λ (l : List ℕ). Distinct (map place_of l)) (sym change.processes) old.places;
   }
 
-  apart : (j p : ℕ) (u : View) → j ≢ id → get_elem? vs j ≡ some u → Sits u p → Sits v p → ⊥
+  apart : (j p : ℕ) (u : View B) → j ≢ id → get_elem? vs j ≡ some u → Sits u p → Sits v p → ⊥
   apart j p u other there a b = other (shown.alone j id p p u v there at a b refl).0
 
-  others_fit : (j : ℕ) (u : View) → j ≢ id → get_elem? vs j ≡ some u → ViewFits s o' u
+  others_fit : (j : ℕ) (u : View B) → j ≢ id → get_elem? vs j ≡ some u → ViewFits s o' u
   others_fit j u other there = let old = shown.views_fit j u there in record {
     is_owner = λ r' p owns. grind (arith, nat_tests, apart, one_holder, set_else);
     owns_all = λ r' p is sat. grind (arith, nat_tests, sat, apart, at_set);
@@ -76,11 +82,36 @@ module _ {B : Type 0} (fits : B → ℕ → Bool) (s : Shape) (o : Ownership) (w
   done : IsDone s.records o e o'
   done = subst (λ (z : ℕ × Option Holder × Option Holder). IsHeldBy o z.0 z.1 × (set o r k ≡ set o z.0 z.2)) (λ i. (sym by.index i, sym by.from i, sym by.to i)) (held, refl)
 
-  elsewhere : (j p : ℕ) (u : View) → j ≢ id → get_elem? vs j ≡ some u → Sits u p → place_of (process_of e) ≢ place_of p
-  elsewhere j p u other there sits same = other (shown.alone j id p (process_of e) u v there at sits by.sits (sym same)).0
+  does : Sits v (process_of e)
+  does = subst (λ (l : List ℕ). Among l (process_of e)) (sym by.alone) (inl refl)
 
-  pub moved : (y : maybe.Option (Option (LotOf B))) → IsHolder k → HomeFits fits s r k y → Shows fits s o' (set ws r (word_of k)) (set hs r y) (set vs id w)
-  moved y good home = record {
+  elsewhere : (j p : ℕ) (u : View B) → j ≢ id → get_elem? vs j ≡ some u → Sits u p → place_of (process_of e) ≢ place_of p
+  elsewhere j p u other there sits same = other (shown.alone j id p (process_of e) u v there at sits does (sym same)).0
+
+  -- what is in flight now
+  left : (y : maybe.Option (Option (LotOf B))) → ((d : ℕ) → k ≡ Some (Direction d) → (y ≡ some (Some lot)) × ((q : ℕ) × (e ≡ Pass q (number_of s.records r) d))) → (j d : ℕ) (l : LotOf B)
+      → IsHeldBy o' j (Some (Direction d))
+      → get_elem? (set hs r y) j ≡ some (some (Some l)) → IsLeft (shown.log ++ (e, lot) ∷ []) (number_of s.records j) d l
+  left y home j d l is there = dite (ℕ_discrete j r)
+      (λ same.
+      let now : k ≡ Some (Direction d) = some-injective k (Some (Direction d)) (sym (set_here o r k (in_range o r h held)) ∙ ap (get_elem? o') (sym same) ∙ is) in
+      let at : y ≡ some (Some l) = some-injective y (some (Some l)) (sym (set_here hs r y home_inside) ∙ ap (get_elem? (set hs r y)) (sym same) ∙ there) in
+      let h = home d now in
+      let lots : Some lot ≡ Some l = some-injective (Some lot) (Some l) (sym h.0 ∙ at) in
+      let is_l : lot ≡ l = cc in
+      subst (λ (z : Event × LotOf B × ℕ). IsLeft (shown.log ++ (z.0, lot) ∷ []) (number_of s.records z.2) d z.1) (λ i. (sym h.1.1 i, is_l i, sym same i))
+      (left_now shown.log h.1.0 (number_of s.records r) d lot))
+      (λ other. left_still shown.log (number_of s.records j) d l (e, lot)
+      (λ same. other (sym (index_back s.records j shown.small.0 shown.small.1) ∙ ap (index_of s.records) (sym same) ∙ by.index))
+      (shown.left j d l (sym (set_else o r j k other) ∙ is) (sym (set_else hs r j y other) ∙ there)))
+    where
+      home_inside : r < length hs
+      home_inside = let e : length hs ≡ length o = shown.homes_long in let i = in_range o r h held in omega arith
+
+  pub moved : (y : maybe.Option (Option (LotOf B))) → IsHolder k → HomeFits fits s r k y
+      → ((d : ℕ) → k ≡ Some (Direction d) → (y ≡ some (Some lot)) × ((q : ℕ) × (e ≡ Pass q (number_of s.records r) d)))
+      → Shows fits s o' (set ws r (word_of k)) (set hs r y) (set vs id w)
+  moved y good home same = record {
     words_are = ap (λ (l : List ℕ). set l r (word_of k)) shown.words_are ∙ sym (map-set word_of o r k);
     holders = λ r' g is. grind (arith, nat_tests, at_set);
     homes_long = length-set hs r y ∙ shown.homes_long ∙ sym (length-set o r k);
@@ -93,9 +124,10 @@ module _ {B : Type 0} (fits : B → ℕ → Bool) (s : Shape) (o : Ownership) (w
         shown.alone i j p q f.0 g.0 f.1 g.1 f.2 g.2 same;
     views_fit = λ j u there. either_way (at_set vs id j w u there) (λ t. subst (ViewFits s o') t.1 mine_fits) (λ t. others_fit j u t.0 t.1);
     small = shown.small;
-    log = shown.log ++ e ∷ [];
-    history = more_history s o o' vs shown.log id w e shown.history done (by.inside, subst IsHolder (sym by.to) good) (length-set o r k)
-        (shown.inside id (process_of e) v at by.sits).0 (sits (process_of e) by.sits) by.front elsewhere;
+    log = shown.log ++ (e, lot) ∷ [];
+    history = more_history s o o' vs shown.log id v w (e, lot) shown.history at done (by.inside, subst IsHolder (sym by.to) good) (length-set o r k)
+        (shown.inside id (process_of e) v at does).0 by.alone (sits (process_of e) does) by.front by.deeds was elsewhere;
+    left = left y same;
   }
 
 pub among_without : (r : ℕ) (xs : List (ℕ × ℕ)) (x : ℕ × ℕ) → Among (without r xs) x → Among xs x × (x.0 ≢ r)
@@ -116,6 +148,26 @@ taking_is p n h away = grind (arith, nat_tests)
 pub giving_is : (p n : ℕ) (k : Option Holder) → IsAway k → IsMove (giving p n k) n p (Some (Process p)) k
 giving_is p n k away = grind (arith, nat_tests)
 
+-- an event that accepts takes the record that it names from that direction, and one that gives accepts nothing
+accepts_from : (p n q m d : ℕ) (h : Option Holder) → taking p n h ≡ Accept q m d → h ≡ Some (Direction d)
+accepts_from p n q m d None e = absurd (cc)
+accepts_from p n q m d (Some (Process x)) e = absurd (cc)
+accepts_from p n q m d (Some (Direction c)) e = let same : c ≡ d = cc in ap (λ (z : ℕ). Some (Direction z)) same
+
+accepts_it : (p n q m d : ℕ) (h : Option Holder) → taking p n h ≡ Accept q m d → n ≡ m
+accepts_it p n q m d None e = absurd (cc)
+accepts_it p n q m d (Some (Process x)) e = absurd (cc)
+accepts_it p n q m d (Some (Direction c)) e = cc
+
+gives_none : (p n q m d : ℕ) (k : Option Holder) → giving p n k ≡ Accept q m d → ⊥
+gives_none p n q m d None e = absurd (cc)
+gives_none p n q m d (Some (Process x)) e = absurd (cc)
+gives_none p n q m d (Some (Direction c)) e = absurd (cc)
+
+-- the lot at the front of a list
+same_lot : {L : Type 0} (r : ℕ) (l m : L) (all xs ys : List (ℕ × Option L)) → all ≡ (r, Some l) ∷ xs → all ≡ (r, Some m) ∷ ys → l ≡ m
+same_lot r l m all xs ys a b = let e : Some l ≡ Some m = first_is r (Some l) (Some m) all xs ys a b in cc
+
 pub same_place : (p q : ℕ) → word_of (Some (Process p)) ≡ word_of (Some (Process q)) → p ≡ q
 same_place p q e = omega arith
 
@@ -124,26 +176,26 @@ module _ {B : Type 0} (fits : B → ℕ → Bool) (s : Shape) where
   S = Option (LotOf B)
 
   abbrev M : Type 0
-  M = Me S View
+  M = Me S (View B)
 
   -- the record at r, in a table that meets the rule
-  pub record At (t : State S View) (o : Ownership) (r : ℕ) : Type 0 where
+  pub record At (t : State S (View B)) (o : Ownership) (r : ℕ) : Type 0 where
     pub holder : Option Holder
     pub held : IsHeldBy o r holder
     pub found : get_or t.words r 0 ≡ word_of holder
     pub word_at : get_elem? t.words r ≡ some (get_or t.words r 0)
 
-  pub at : (t : State S View) (o : Ownership) (r slots : ℕ) → Shows fits s o t.words t.homes t.views → length t.homes ≡ slots → r < slots → At t o r
+  pub at : (t : State S (View B)) (o : Ownership) (r slots : ℕ) → Shows fits s o t.words t.homes t.views → length t.homes ≡ slots → r < slots → At t o r
   at t o r slots shown long inside =
       let there = is_there o r (let e = shown.homes_long in omega arith) in
       let word = subst (λ (l : List ℕ). get_elem? l r ≡ some (word_of there.0)) (sym shown.words_are) (at_map word_of o r there.0 there.1) in
       let found = nth_is t.words r 0 (word_of there.0) word in record { holder = there.0; held = there.1; found = found; word_at = word ∙ ap some (sym found) }
 
   -- a step that leaves all but what its seat has seen as it was
-  pub stays : (t : State S View) (id : ℕ) (me : M) (r : ℕ) (n : ℕ) (fronts : List (ℕ × List Event)) (holds : Shown fits s t) → get_elem? t.views id ≡ some me.0 → get_elem? t.words r ≡ some n
+  pub stays : (t : State S (View B)) (id : ℕ) (me : M) (r : ℕ) (n : ℕ) (fronts : List (ℕ × List Event)) (holds : Shown fits s t) → get_elem? t.views id ≡ some me.0 → get_elem? t.words r ≡ some n
       → ViewTells holds.1.log (record me.0 { fronts = fronts }) → Shown fits s (stepped t r n id me.1 (record me.0 { fronts = fronts }) keeps)
   stays t id me r n fronts holds here word tells =
-      let o = holds.0 in let shown = holds.1 in let v : View = me.0 in let w : View = record v { fronts = fronts } in let fit = shown.views_fit id v here in (
+      let o = holds.0 in let shown = holds.1 in let v : View B = me.0 in let w : View B = record v { fronts = fronts } in let fit = shown.views_fit id v here in (
         o,
         subst (λ (z : List ℕ). Shows fits s o z t.homes (set t.views id w)) (sym (set_again t.words r n word)) (shares_out fits s o t.words t.homes t.views (set t.views id w) shown
             (λ j p u there sits. let f = sat t.views id v w here refl j p u there sits in (j, f.0, f.1, f.2))
@@ -151,22 +203,23 @@ module _ {B : Type 0} (fits : B → ℕ → Bool) (s : Shape) where
             (λ i j p u z there there' sits sits'. let f = sat t.views id v w here refl i p u there sits in let g = sat t.views id v w here refl j p z there' sits' in
             (shown.alone i j p p f.0 g.0 f.1 g.1 f.2 g.2 refl).0)
             (λ j u there. either_way (at_set t.views id j w u there)
-            (λ x. subst (λ (z : View). ViewFits s o z × ViewTells shown.log z) x.1 (record { is_owner = fit.is_owner; owns_all = fit.owns_all; knows = fit.knows; places = fit.places }, tells))
+            (λ x. subst (λ (z : View B). ViewFits s o z × ViewTells shown.log z) x.1 (record { is_owner = fit.is_owner; owns_all = fit.owns_all; knows = fit.knows; places = fit.places }, tells))
             (λ x. (shown.views_fit j u x.1, shown.history.tells j u x.1)))),
       )
 
   -- what a seat knows of the word of a record
-  knows_word : (o : Ownership) (v : View) (r n : ℕ) (h : Option Holder) → ViewFits s o v → IsHeldBy o r h → IsHolder h → n ≡ word_of h → Knows v r n
+  knows_word : (o : Ownership) (v : View B) (r n : ℕ) (h : Option Holder) → ViewFits s o v → IsHeldBy o r h → IsHolder h → n ≡ word_of h → Knows v r n
   knows_word o v r n h fit held good is = grind (arith, nat_tests, sits, word_injective, one_holder)
 
-  takes_change : (o : Ownership) (v : View) (r p : ℕ) (h : Option Holder) (others : List Event) → ViewFits s o v → IsHeldBy o r h → ((q : ℕ) → h ≡ Some (Process q) → ⊥) → v.processes ≡ p ∷ []
-      → Change v (gained v r p h others) r h (Some (Process p))
-  takes_change o v r p h others fit held free mine = grind (arith, nat_tests, same_place, only_one, among_either, among_front, one_holder, among_back)
+  takes_change : (o : Ownership) (v : View B) (r p : ℕ) (h : Option Holder) (l : LotOf B) (others : List Event) → ViewFits s o v → IsHeldBy o r h → ((q : ℕ) → h ≡ Some (Process q) → ⊥)
+      → v.processes ≡ p ∷ [] → Change v (gained v r p h l others) r h (Some (Process p))
+  takes_change o v r p h l others fit held free mine = grind (arith, nat_tests, same_place, only_one, among_either, among_front, one_holder, among_back)
 
   -- the event of a step that takes, or gives
-  step_by : (log : List Event) (v w : View) (r p : ℕ) (h k : Option Holder) (e : ℕ → Event) → ((n : ℕ) → IsMove (e n) n p h k) → IsSmall s → v.shape ≡ s → Sits v p
-      → w.fronts ≡ (place_of p, log ++ e (number_of v.shape.records r) ∷ []) ∷ [] → By s log v w r h k (e (number_of s.records r))
-  step_by log v w r p h k e is small same sits front = grind (arith, nat_tests, number_inside, index_back, sits)
+  step_by : (log : List Event) (v w : View B) (r p : ℕ) (h k : Option Holder) (l : LotOf B) (e : ℕ → Event) → ((n : ℕ) → IsMove (e n) n p h k) → IsSmall s → v.shape ≡ s → v.processes ≡ p ∷ []
+      → w.fronts ≡ (place_of p, log ++ e (number_of v.shape.records r) ∷ []) ∷ [] → w.deeds ≡ adds ((e (number_of v.shape.records r), l) ∷ []) v.deeds
+      → By s log v w r h k (e (number_of s.records r)) l
+  step_by log v w r p h k l e is small same alone front deeds = grind (arith, nat_tests, number_inside, index_back)
 
   -- what is at home, where no process holds the record
   pub home_is : (r : ℕ) (h : Option Holder) (l : LotOf B) → IsLotAt s r l → IsHomeLot fits h l → HomeFits fits s r h (some (Some l))
@@ -180,16 +233,18 @@ module _ {B : Type 0} (fits : B → ℕ → Bool) (s : Shape) where
   home_lot r (Some (Direction d)) x away home = home
 
   -- a look at the word of a record: the view afterwards, which has seen the whole log
-  a_look : (slots id : ℕ) (me : M) (r p : ℕ) → r < slots → IsAlone me.0 p → (t : State S View) → Shown fits s t → length t.homes ≡ slots → get_elem? t.views id ≡ some me.0
-      → (w : View) × Shown fits s (stepped t r (get_or t.words r 0) id me.1 w keeps) × SeesMore r (get_or t.words r 0) me (w, me.1)
+  a_look : (slots id : ℕ) (me : M) (r p : ℕ) → r < slots → IsAlone me.0 p → (t : State S (View B)) → Shown fits s t → length t.homes ≡ slots → get_elem? t.views id ≡ some me.0
+      → (w : View B) × Shown fits s (stepped t r (get_or t.words r 0) id me.1 w keeps) × SeesMore r (get_or t.words r 0) me (w, me.1)
   a_look slots id me r p inside alone t holds long seen =
       let o = holds.0 in let shown = holds.1 in let a : At t o r = at t o r slots shown long inside in let n : ℕ = get_or t.words r 0 in
       let fit = shown.views_fit id me.0 seen in
-      let new_to_it : Unseen shown.log me.0 p = unseen shown.log me.0 p (shown.history.tells id me.0 seen) alone in
-      let w : View = knowing me.0 (new_to_it.others ++ []) in
-      let front : w.fronts ≡ (place_of p, shown.log) ∷ [] = new_to_it.now [] ∙ ap (λ (z : List Event). (place_of p, z) ∷ []) (append-nil shown.log) in (
+      let told = shown.history.tells id me.0 seen in
+      let new_to_it : Unseen (events shown.log) me.0 p = unseen shown.log me.0 p told alone in
+      let w : View B = knowing me.0 (new_to_it.others ++ []) in
+      let front : w.fronts ≡ (place_of p, events shown.log) ∷ [] = new_to_it.now [] ∙ ap (λ (z : List Event). (place_of p, z) ∷ []) (append-nil (events shown.log)) in (
         w,
-        stays t id me r n w.fronts holds seen a.word_at (tells_all shown.log w p new_to_it.sits front),
+        stays t id me r n w.fronts holds seen a.word_at (tells_all shown.log w p new_to_it.sits front
+            (λ q own there. let x = told.own q own there in (x.2 ∙ ap place_of (only_one (subst (λ (l : List ℕ). Among l x.0) alone.0 x.1)), x.3))),
         (
           new_to_it.others,
           new_to_it.by,
@@ -199,7 +254,7 @@ module _ {B : Type 0} (fits : B → ℕ → Bool) (s : Shape) where
             (
               o,
               subst (λ (z : Shape
-                  × List Event). LeadsTo z.0.records (all_free (length o)) z.1 o) (λ i. (sym (fit.knows p new_to_it.sits) i, sym (ap first_front front) i)) shown.history.leads,
+                  × List Event). LeadsTo z.0.records (all_free (length o)) z.1 o) (λ i. (sym (fit.knows p new_to_it.sits) i, sym (ap first_of front) i)) shown.history.leads,
               a.holder,
               a.held,
               a.found,
@@ -214,18 +269,22 @@ module _ {B : Type 0} (fits : B → ℕ → Bool) (s : Shape) where
   takes_lot slots id me r old new p h said is_old is_new free inside alone t holds long seen small =
       let mine : me.0.processes ≡ p ∷ [] = alone.0 in
       let o = holds.0 in let shown = holds.1 in let a : At t o r = at t o r slots shown long inside in let n : ℕ = get_or t.words r 0 in
-      let new_to_it : Unseen shown.log me.0 p = unseen shown.log me.0 p (shown.history.tells id me.0 seen) alone in let sits : Sits me.0 p = new_to_it.sits in
+      let new_to_it : Unseen (events shown.log) me.0 p = unseen shown.log me.0 p (shown.history.tells id me.0 seen) alone in let sits : Sits me.0 p = new_to_it.sits in
       let good : p < 4096 = (shown.inside id p me.0 seen sits).1 in dite (ℕ_discrete n old)
       (λ hit. let same : a.holder ≡ h = word_injective a.holder h (sym a.found ∙ hit ∙ is_old) in let held : IsHeldBy o r h = subst (IsHeldBy o r) same a.held in
-      let fit = shown.views_fit id me.0 seen in let x = shown.homes_are r h held in let l = home_lot r h x.0 free x.2 in let w : View = gained me.0 r p h new_to_it.others in
+      let fit = shown.views_fit id me.0 seen in let x = shown.homes_are r h held in let l = home_lot r h x.0 free x.2 in let w : View B = gained me.0 r p h l.0 new_to_it.others in
       let act : Act S = takes r (Some l.0) in (
         w,
         act,
         x.1 ∙ ap some l.1,
         subst (λ (m : ℕ). Shown fits s (stepped t r m id me.1 w act)) (sym (subst (λ (b : Bool). either b new n ≡ word_of (Some (Process p))) (sym (eq-eqb n old hit)) is_new)) (
           set o r (Some (Process p)),
-          moved fits s o t.words t.homes t.views shown id r me.0 w h (Some (Process p)) seen held (takes_change o me.0 r p h new_to_it.others fit held free mine)
-              (taking p (number_of s.records r) h) (step_by shown.log me.0 w r p h (Some (Process p)) (λ n. taking p n h) (λ n. taking_is p n h free) shown.small (fit.knows p sits) sits (new_to_it.now _)) none good refl,
+          moved fits s o t.words t.homes t.views shown id r me.0 w h (Some (Process p)) seen held (takes_change o me.0 r p h l.0 new_to_it.others fit held free mine)
+              (taking p (number_of s.records r) h) l.0
+              (step_by (events shown.log) me.0 w r p h (Some (Process p)) l.0 (λ n. taking p n h) (λ n. taking_is p n h free) shown.small (fit.knows p sits) mine (new_to_it.now _) refl)
+              (λ q m d e. let from : h ≡ Some (Direction d) = accepts_from p (number_of s.records r) q m d h e in
+              subst (λ (z : ℕ). IsLeft shown.log z d l.0) (accepts_it p (number_of s.records r) q m d h e)
+              (shown.left r d l.0 (subst (IsHeldBy o r) from held) (x.1 ∙ ap some l.1))) none good refl (λ d e. absurd (never d p (sym e))),
         ),
         (
           (λ _. (
@@ -233,7 +292,7 @@ module _ {B : Type 0} (fits : B → ℕ → Bool) (s : Shape) where
             new_to_it.others,
             new_to_it.by,
             (λ k e. let is : h ≡ k = word_injective h k (sym is_old ∙ e) in (
-              (λ i. (gained me.0 r (sym new_to_it.placed i) (is i) new_to_it.others, (r, Some l.0) ∷ me.1)),
+              (λ i. (gained me.0 r (sym new_to_it.placed i) (is i) l.0 new_to_it.others, (r, Some l.0) ∷ me.1)),
               subst (λ (z : Option Holder). IsHomeLot fits z l.0) is l.3,
             )),
             subst (λ (z : Shape). IsLotAt z r l.0) (sym (fit.knows p sits)) l.2,
@@ -250,9 +309,9 @@ module _ {B : Type 0} (fits : B → ℕ → Bool) (s : Shape) where
         ((λ hit. absurd (miss hit)), (λ _. look.2)),
       ))
 
-  gives_change : (o : Ownership) (v : View) (r p : ℕ) (k : Option Holder) (others : List Event) → ViewFits s o v → Owns v r p → ((q : ℕ) → k ≡ Some (Process q) → ⊥)
-      → Change v (lost v r p k others) r (Some (Process p)) k
-  gives_change o v r p k others fit owns free =
+  gives_change : (o : Ownership) (v : View B) (r p : ℕ) (k : Option Holder) (l : LotOf B) (others : List Event) → ViewFits s o v → Owns v r p → ((q : ℕ) → k ≡ Some (Process q) → ⊥)
+      → Change v (lost v r p k l others) r (Some (Process p)) k
+  gives_change o v r p k l others fit owns free =
       let out = λ (i q : ℕ). among_without r v.records (i, q) in let still = λ (i q : ℕ). among_kept r v.records (i, q) in grind (arith, nat_tests, same_place, out, still)
 
   -- a store that gives
@@ -261,7 +320,7 @@ module _ {B : Type 0} (fits : B → ℕ → Bool) (s : Shape) where
       → Allows (Shown fits s) slots id me r (λ _. new) (λ _. gave (step slots r new 0 none) me new)
   gives_lot slots id me r new p k lot rest_of is_new free good front alone owns is_lot home t holds long seen small =
       let o = holds.0 in let shown = holds.1 in let fit = shown.views_fit id me.0 seen in let was = fit.is_owner r p owns in
-      let new_to_it : Unseen shown.log me.0 p = unseen shown.log me.0 p (shown.history.tells id me.0 seen) alone in let w : View = lost me.0 r p k new_to_it.others in
+      let new_to_it : Unseen (events shown.log) me.0 p = unseen shown.log me.0 p (shown.history.tells id me.0 seen) alone in let w : View B = lost me.0 r p k lot new_to_it.others in
       let y : maybe.Option S = some (Some lot) in (
         w,
         gives,
@@ -270,13 +329,17 @@ module _ {B : Type 0} (fits : B → ℕ → Bool) (s : Shape) where
           set o r k,
           subst (λ (z : ℕ × List (maybe.Option S)). Shows fits s (set o r k) (set t.words r z.0) z.1 (set t.views id w))
               (λ i. (sym is_new i, ap (λ (c : List (ℕ × S)). put_back t.homes c) (sym front) i))
-              (moved fits s o t.words t.homes t.views shown id r me.0 w (Some (Process p)) k seen was.0 (gives_change o me.0 r p k new_to_it.others fit owns free) (giving p (number_of s.records r) k)
-              (step_by shown.log me.0 w r p (Some (Process p)) k (λ n. giving p n k) (λ n. giving_is p n k free) shown.small (fit.knows p was.1) was.1 (new_to_it.now _)) y good (home_is r k lot (subst (λ (z : Shape). IsLotAt z r lot) (fit.knows p was.1) is_lot) home)),
+              (moved fits s o t.words t.homes t.views shown id r me.0 w (Some (Process p)) k seen was.0 (gives_change o me.0 r p k lot new_to_it.others fit owns free)
+              (giving p (number_of s.records r) k) lot
+              (step_by (events shown.log) me.0 w r p (Some (Process p)) k lot (λ n. giving p n k) (λ n. giving_is p n k free) shown.small (fit.knows p was.1) alone.0 (new_to_it.now _) refl)
+              (λ q m d e. absurd (gives_none p (number_of s.records r) q m d k e)) y good (home_is r k lot (subst (λ (z : Shape). IsLotAt z r lot) (fit.knows p was.1) is_lot) home)
+              (λ d e. (refl, (p, ap (giving p (number_of s.records r)) e)))),
         ),
         (
           new_to_it.others,
           new_to_it.by,
-          λ j e. let is : k ≡ j = word_injective k j (sym is_new ∙ e) in (λ i. (lost me.0 r (sym new_to_it.placed i) (is i) new_to_it.others, rest me.1)),
+          λ j l e has. let is : k ≡ j = word_injective k j (sym is_new ∙ e) in let same : lot ≡ l = same_lot r lot l me.1 rest_of (rest me.1) front has in
+              (λ i. (lost me.0 r (sym new_to_it.placed i) (is i) (same i) new_to_it.others, rest me.1)),
         ),
       )
 
@@ -289,7 +352,7 @@ module _ {B : Type 0} (fits : B → ℕ → Bool) (s : Shape) where
       → Allows (Shown fits s) slots id me r (λ n. n) (compared (step slots r 0 0 none) me)
   compares slots id me r own note inside two t holds long seen small =
       let a : At t holds.0 r = at t holds.0 r slots holds.1 long inside in
-      let log : List Event = holds.1.log in let told = holds.1.history.tells id me.0 seen in
+      let told = holds.1.history.tells id me.0 seen in
       let first : head_of me.0.fronts ≡ own ∷ [] = ap (λ (z : List (ℕ × List Event)). head_of z) two in
       let kept : (q : ℕ) (f : List Event) → Among (head_of me.0.fronts) (q, f) → Among me.0.fronts (q, f) = λ q f there.
       subst (λ (z : List (ℕ × List Event)). Among z (q, f)) (sym two) (inl (only_one (subst (λ (z : List (ℕ × List Event)). Among z (q, f)) first there))) in (
@@ -297,10 +360,10 @@ module _ {B : Type 0} (fits : B → ℕ → Bool) (s : Shape) where
         keeps,
         tt,
         stays t id me r (get_or t.words r 0) (head_of me.0.fronts) holds seen a.word_at
-            record { begins = λ q f there. told.begins q f (kept q f there); only = λ q f there few. told.only q f (kept q f there) few },
+            record { begins = λ q f there. told.begins q f (kept q f there); only = λ q f there few. told.only q f (kept q f there) few; own = told.own },
         (
           refl,
-          λ x y is. one_log log x.1 y.1 (told.begins x.0 x.1 (subst (λ (z : List (ℕ × List Event)). Among z x) (sym is) (inl refl)))
+          λ x y is. one_log (events holds.1.log) x.1 y.1 (told.begins x.0 x.1 (subst (λ (z : List (ℕ × List Event)). Among z x) (sym is) (inl refl)))
               (told.begins y.0 y.1 (subst (λ (z : List (ℕ × List Event)). Among z y) (sym is) (inr (inl refl)))),
         ),
       )

@@ -1,5 +1,6 @@
 mod Common
-pub mod History
+mod Deeds
+mod History
 pub mod After
 pub mod Elements
 pub mod Keeps

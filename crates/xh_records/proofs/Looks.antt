@@ -1,7 +1,7 @@
 -- A seat that looked before it did something.
 use Rattle.xh_records.proofs.Common.{ℕ, List, [], ◌∷◌, ◌++◌, ap, ◌∙◌, subst, LotOf, Event, place_of, record_of, Grows, StartsWith, IsLotOf, Held, HasFound}
 use Rattle.xh_records.proofs.Common.{HasGained, HasLooked, SawTaken, did}
-use Rattle.xh_records.proofs.Common.{seen, with_lots}
+use Rattle.xh_records.proofs.Common.{moving, seen, with_lots}
 use Rattle.xh_records.proofs.History.{grows_twice, starts_twice}
 
 module _ {B : Type 0} (x y : Held B) (look : HasLooked x y) where
@@ -16,7 +16,7 @@ module _ {B : Type 0} (x y : Held B) (look : HasLooked x y) where
       let e : Event = by x.process in
       let next = subst (λ (p : ℕ). HasGained (by p) is y z) (ap (λ h. h.process) look.0) gained in (
         next.0,
-        next.1 ∙ ap (λ h. seen z.front (did e (with_lots h (h.lots ++ (record_of e, next.0) ∷ [])))) look.0,
+        next.1 ∙ ap (λ h. seen z.front (did e (with_lots (moving e next.0 h) (h.lots ++ (record_of e, next.0) ∷ [])))) look.0,
         subst (λ s. IsLotOf s (record_of e) next.0) (ap (λ h. h.shape) look.0) next.2,
         next.3,
         grows_twice (place_of x.process) (e ∷ []) x.front y.front z.front look.1 (same_process (e ∷ []) y.front z.front next.4),

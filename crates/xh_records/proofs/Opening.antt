@@ -3,6 +3,8 @@ use Rattle.xh_records.proofs.Common.{nat_tests, ◌≡◌, ℕ, zero, suc, ◌�
 use Rattle.xh_records.proofs.Common.{Some, None, some, some-injective, some-ne-none, get_elem?, opening, at_map, LotOf, Holder, Process, IsHeldBy, IsHolder, word_of, Shape, View, Event, by_place}
 use Rattle.xh_records.proofs.Common.{IsLotAt, IsEmpty, IsSmall, HomeFits, ViewFits, ViewTells, Shown, places_from, all_places}
 use Rattle.xh_records.proofs.Common.{◌+◌, ◌<◌, ◌%◌, Among, dite, ℕ_discrete, inl, inr}
+use Rattle.xh_records.proofs.Common.{Direction}
+use Rattle.xh_records.proofs.Deeds.{empty_else}
 use Rattle.xh_records.proofs.History.{lists_back}
 use Rattle.xh_records.proofs.Elements.{in_range, is_there}
 use Rattle.xh_records.proofs.Distinct.{few_places, least}
@@ -44,22 +46,33 @@ opens {B} fits s n words lots slots few zeros wrapped long empty small = (
     views_fit = λ id v there. subst (ViewFits s (replicate n None)) (only id v there).1 begins;
     small = small;
     log = [];
-    history = record { leads = ap (λ (k : ℕ). replicate k None) (sym (length-replicate {A = Option Holder} n None)); theirs = λ e h. absurd h; tells = λ id v there. subst (ViewTells []) (only id v there).1 untold };
+    history = record {
+      leads = ap (λ (k : ℕ). replicate k None) (sym (length-replicate {A = Option Holder} n None));
+      theirs = λ e h. absurd h;
+      tells = λ id v there. subst (ViewTells [])
+          (only id v there).1 untold;
+      arrives = λ before after p r d l e. absurd (empty_else before _ after e);
+    };
+    left = λ k d l is there. absurd (never d k is);
   },
 )
   where
+    never : (d k : ℕ) → IsHeldBy (replicate n None) k (Some (Direction d)) → ⊥
+    never d k is = let e : Some (Direction d) ≡ None = none_there n k (Some (Direction d)) is in let w : word_of (Some (Direction d)) ≡ word_of None = ap word_of e in absurd (omega arith)
+
     nobody : (r p : ℕ) → IsHeldBy (replicate n None) r (Some (Process p)) → ⊥
     nobody r p is = let e : Some (Process p) ≡ None = none_there n r (Some (Process p)) is in let w : word_of (Some (Process p)) ≡ word_of None = ap word_of e in absurd (omega arith)
 
-    only : (id : ℕ) (v : View) → get_elem? (all_places s ∷ []) id ≡ some v → (id ≡ 0) × (all_places s ≡ v)
+    only : (id : ℕ) (v : View B) → get_elem? (all_places s ∷ []) id ≡ some v → (id ≡ 0) × (all_places s ≡ v)
     only zero v there = (refl, some-injective (all_places s) v there)
     only (suc id) v there = absurd (some-ne-none v (sym there))
 
-    begins : ViewFits s (replicate n None) (all_places s)
+    begins : ViewFits {B = B} s (replicate n None) (all_places s)
     begins = record { is_owner = λ r p h. absurd h; owns_all = λ r p is h. absurd (nobody r p is); knows = λ p h. refl; places = few_places 0 s.places (omega (arith, few)) }
 
-    untold : ViewTells [] (all_places s)
+    untold : ViewTells {B = B} [] (all_places s)
     untold = record {
       begins = λ q f there. ([], sym (ap (λ (z : List Event). z ++ []) (lists_back (places_from 0 s.places) q f there).3));
       only = λ q f there few. let t = lists_back (places_from 0 s.places) q f there in (t.0, t.1, t.2, ap (by_place q) t.3);
+      own = λ q own there. lists_back (places_from 0 s.places) q own there;
     }

@@ -33,14 +33,14 @@ all_full s (y ∷ ys) all k h = dite (ℕ_discrete y.0 k)
     (λ n. ⊎_elim (λ (e : k ≡ y.0). absurd (n (sym e))) (λ (t : Among (keys ys) k). let u = all_full s ys all.1 k t in (u.0, not_here y.0 k y.1 (in_slot k ys) n ∙ u.1)) h)
 
 -- a slot of a seat, with its lot
-pub record Reach {B : Type 0} (process : ℕ) (order : List ℕ) (slots : ℕ) (me : Me (Option (LotOf B)) View) (i : ℕ) (l : LotOf B) : Type 0 where
+pub record Reach {B : Type 0} (process : ℕ) (order : List ℕ) (slots : ℕ) (me : Me (Option (LotOf B)) (View B)) (i : ℕ) (l : LotOf B) : Type 0 where
   pub listed : (order ≡ keys me.1) × Distinct order × ((k : ℕ) × (get_elem? order k ≡ some i))
   pub has : in_slot i me.1 ≡ Some l
   pub lot : IsLotAt me.0.shape i l
   pub owns : Owns me.0 i process
   pub inside : i < slots
 
-module _ {B : Type 0} (process : ℕ) (order : List ℕ) (capacity slots : ℕ) (me : Me (Option (LotOf B)) View) where
+module _ {B : Type 0} (process : ℕ) (order : List ℕ) (capacity slots : ℕ) (me : Me (Option (LotOf B)) (View B)) where
   pub not_among : (i : ℕ) → IsSeat process order capacity slots me → ((p : ℕ) → Owns me.0 i p → ⊥) → Among order i → ⊥
   not_among i seat new h = new process (subst (λ (l : List (ℕ × ℕ)). Among l (i, process)) (sym seat.records) (among_owned process order i h))
 
@@ -54,7 +54,7 @@ module _ {B : Type 0} (process : ℕ) (order : List ℕ) (capacity slots : ℕ) 
       let size : length (i ∷ order) ≡ suc (length order) = refl in omega arith
 
   pub gains : (i : ℕ) (l : LotOf B) (h : Option Holder) (others : List Event) → IsSeat process order capacity slots me → i < slots → IsLotAt me.0.shape i l → ((p : ℕ) → Owns me.0 i p → ⊥)
-      → IsSeat process (order ++ i ∷ []) capacity slots (gained me.0 i process h others, me.1 ++ (i, Some l) ∷ [])
+      → IsSeat process (order ++ i ∷ []) capacity slots (gained me.0 i process h l others, me.1 ++ (i, Some l) ∷ [])
   gains i l h others seat inside lot new = grind (arith, nat_tests, keys_push, owned_push, adds_one, lots_push, distinct_push, not_among, below_push)
 
   pub reaches : (i : ℕ) (l : LotOf B) → IsSeat process order capacity slots me → in_slot i me.1 ≡ Some l → Reach process order slots me i l
@@ -76,9 +76,9 @@ module _ {B : Type 0} (process : ℕ) (order : List ℕ) (capacity slots : ℕ) 
       }
 
   -- the seat without the slot that stands behind k others
-  pub loses : (k i : ℕ) (h : Option Holder) (others : List Event) → IsSeat process order capacity slots me → get_elem? order k ≡ some i
-      → IsSeat process (remove order k) capacity slots (lost me.0 i process h others, without i me.1)
-  loses k i h others seat at =
+  pub loses : (k i : ℕ) (h : Option Holder) (l : LotOf B) (others : List Event) → IsSeat process order capacity slots me → get_elem? order k ≡ some i
+      → IsSeat process (remove order k) capacity slots (lost me.0 i process h l others, without i me.1)
+  loses k i h l others seat at =
       let t = split_at_key me.1 k i (subst (λ (o : List ℕ). get_elem? o k ≡ some i) seat.ordered at) in
       let a = t.0 in let b = t.2 in
       let same : order ≡ keys a ++ i ∷ keys b = seat.ordered ∙ ap keys t.3 ∙ keys_append a ((i, t.1) ∷ b) in
@@ -89,6 +89,7 @@ module _ {B : Type 0} (process : ℕ) (order : List ℕ) (capacity slots : ℕ) 
         processes = seat.processes;
         ordered = order_is ∙ sym (keys_append a b) ∙ ap keys (sym rest_is);
         front = (adds_one (others ++ giving process (number_of me.0.shape.records i) h ∷ []) (place_of process) me.0.fronts seat.front).1;
+        deeds = (adds_one ((giving process (number_of me.0.shape.records i) h, l) ∷ []) (place_of process) me.0.deeds seat.deeds).1;
         records = ap (without i) (seat.records ∙ ap (owned_by process) same) ∙ owned_without process i (keys a) (keys b) d.0 d.1 ∙ ap (owned_by process) (sym order_is);
         lots = subst (AllLots me.0.shape) (sym rest_is) (lots_split me.0.shape a (i, t.1) b (subst (AllLots me.0.shape) t.3 seat.lots)).1;
         distinct = subst Distinct (sym order_is) d.2;
@@ -108,6 +109,6 @@ module _ {B : Type 0} (process : ℕ) (order : List ℕ) (capacity slots : ℕ) 
   pub grows_old : IsSeat process order capacity slots me → me.1 ≡ [] → IsSeat (process + 32) order capacity slots (renewed me.0, me.1)
   grows_old seat bare = grind (arith, nat_tests)
 
-pub seat_is : {B : Type 0} (process p : ℕ) (a a' : List ℕ) (b b' c c' : ℕ) (d d' : Me (Option (LotOf B)) View) → p ≡ process → a' ≡ a → b' ≡ b → c' ≡ c → d' ≡ d → IsSeat process a b c d
+pub seat_is : {B : Type 0} (process p : ℕ) (a a' : List ℕ) (b b' c c' : ℕ) (d d' : Me (Option (LotOf B)) (View B)) → p ≡ process → a' ≡ a → b' ≡ b → c' ≡ c → d' ≡ d → IsSeat process a b c d
     → IsSeat p a' b' c' d'
 seat_is {B} process p a a' b b' c c' d d' ep ea eb ec ed = grind (arith, nat_tests)

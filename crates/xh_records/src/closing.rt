@@ -5,10 +5,8 @@ ghost use mathlib.Core.Option.{some};
 ghost use lib.ListN.{get_elem?};
 ghost use Rattle.xh_arena.specs.Views.{LotOf};
 ghost use Rattle.xh_model.specs.Keyed.{Among};
-ghost use Rattle.xh_model.specs.Words.{place_of};
-ghost use Rattle.xh_records.specs.History.{by_place};
 ghost use Rattle.xh_records.specs.Seats.{Ends, Held, IsSeatOf, indices, lot_in, view_of};
-ghost use Rattle.xh_records.specs.inner.Gathering.{slot_at, or_else, IsGathered};
+ghost use Rattle.xh_records.specs.inner.Gathering.{Did, slot_at, or_else, IsGathered};
 
 use crate::plays::Whole;
 use crate::records::Records;
@@ -93,9 +91,9 @@ fn empty_out<B: Fits + Drop>(
 ) -> Token<B>
     requires own { (seat.table ≡ board.now.table_id) × (0 < board.now.table_id.words) }
     requires long { vec_len held.old ≡ board.now.table_id.slots }
-    ensures token { (result.table_id ≡ seat.table) × (result.me ≡ (view_of seat, [])) }
+    ensures token { (result.table_id ≡ seat.table) × (result.me ≡ (record (view_of seat) { deeds = result.me.0.deeds }, [])) }
+    ensures did { Did result.me.0 seat }
     ensures long { vec_len held.new ≡ vec_len held.old }
-    ensures did { seat.done ≡ by_place (place_of seat.process) seat.front }
     ensures full { (k : ℕ) → Among (indices seat) k → (l : LotOf B) × (lot_in k seat ≡ Some l) }
     ensures lots { (k : ℕ) → k < vec_len held.old → slot_at held.new.items k ≡ or_else (lot_in k seat) (slot_at held.old.items k) }
 {

@@ -20,7 +20,7 @@ use std::alloc::{AllocError, Global};
 use xh_arena::{Fits, Lot};
 
 /// The table itself, which its seats share.
-pub(crate) type Home<B> = Table<Option<Lot<B>>, View, Shape, Showing<B>, Global>;
+pub(crate) type Home<B> = Table<Option<Lot<B>>, View<B>, Shape, Showing<B>, Global>;
 
 // A word of no holder and a slot for each lot.
 fn homes_of<L: Drop>(alloc: Global, lots: Vec<L>) -> Result<(Vec<u64>, Vec<Option<L>>), AllocError>
@@ -63,7 +63,7 @@ pub(crate) fn seats_of<B: Fits>(
     requires small { IsSmall board.now.key }
     ensures long { IfOk result (λ seats. length seats.items ≡ places) }
     ensures seats { IfOk result (λ seats. (k : ℕ) (x : Held B) → get_elem? seats.items k ≡ some x → (x.table ≡ board.now.table_id) × (x.shape ≡ board.now.key) × (x.process ≡ k)
-        × (x.lots ≡ []) × (x.done ≡ []) × (x.front ≡ [])) }
+        × (x.lots ≡ []) × (x.done ≡ []) × (x.moved ≡ []) × (x.front ≡ [])) }
 {
     let mut seats = Vec::with_capacity(alloc, usize::from(places))?;
     for place in 0..places {

@@ -6,7 +6,7 @@ use xh_arena::{Fits, Lot};
 /// Claim, from free, or accept, from in flight.
 pub(crate) struct Takes;
 
-impl<B: Fits> Play<Option<Lot<B>>, View> for Takes {
+impl<B: Fits> Play<Option<Lot<B>>, View<B>> for Takes {
     ghost use Rattle.xh_records.specs.inner.Steps.{took};
 
     ghost then = { took B.is_fit };
@@ -15,7 +15,7 @@ impl<B: Fits> Play<Option<Lot<B>>, View> for Takes {
 /// Pass, to in flight, or vacate, to free.
 pub(crate) struct Gives;
 
-impl<B> Play<Option<Lot<B>>, View> for Gives {
+impl<B> Play<Option<Lot<B>>, View<B>> for Gives {
     ghost use Rattle.xh_records.specs.inner.Steps.{gave};
 
     ghost then = { gave };
@@ -24,7 +24,7 @@ impl<B> Play<Option<Lot<B>>, View> for Gives {
 /// A plain load.
 pub(crate) struct Looks;
 
-impl<B> Play<Option<Lot<B>>, View> for Looks {
+impl<B> Play<Option<Lot<B>>, View<B>> for Looks {
     ghost use Rattle.xh_records.specs.inner.Steps.{looked};
 
     ghost then = { looked };
@@ -33,7 +33,7 @@ impl<B> Play<Option<Lot<B>>, View> for Looks {
 /// The next generation.
 pub(crate) struct Renews;
 
-impl<B> Play<Option<Lot<B>>, View> for Renews {
+impl<B> Play<Option<Lot<B>>, View<B>> for Renews {
     ghost use Rattle.xh_records.specs.inner.Steps.{aged};
 
     ghost then = { aged };
@@ -42,7 +42,7 @@ impl<B> Play<Option<Lot<B>>, View> for Renews {
 /// The first place goes to a new seat.
 pub(crate) struct Deal;
 
-impl Split<View> for Deal {
+impl<B> Split<View<B>> for Deal {
     ghost use Rattle.xh_records.specs.inner.Views.{dealt_from, dealt};
 
     ghost left = { dealt_from };
@@ -53,7 +53,7 @@ impl Split<View> for Deal {
 /// The whole view goes to a new seat, which holds no slot.
 pub(crate) struct Whole;
 
-impl Split<View> for Whole {
+impl<B> Split<View<B>> for Whole {
     ghost use Rattle.xh_records.specs.inner.Views.{spent};
 
     ghost left = { λ _. spent };
@@ -64,7 +64,7 @@ impl Split<View> for Whole {
 /// What one has seen goes to a new seat, which stands for no place.
 pub(crate) struct Notes;
 
-impl Split<View> for Notes {
+impl<B> Split<View<B>> for Notes {
     ghost use Rattle.xh_records.specs.inner.Views.{note_of};
 
     ghost left = { λ v. v };
@@ -75,7 +75,7 @@ impl Split<View> for Notes {
 /// A plain load, by a seat that was told what another had seen.
 pub(crate) struct Compares;
 
-impl<B> Play<Option<Lot<B>>, View> for Compares {
+impl<B> Play<Option<Lot<B>>, View<B>> for Compares {
     ghost use Rattle.xh_records.specs.inner.Steps.{compared};
 
     ghost then = { compared };
@@ -84,7 +84,7 @@ impl<B> Play<Option<Lot<B>>, View> for Compares {
 /// Two views become one.
 pub(crate) struct Both;
 
-impl Join<View> for Both {
+impl<B> Join<View<B>> for Both {
     ghost use Rattle.xh_records.specs.inner.Views.{joined, spent};
 
     ghost both = { joined };

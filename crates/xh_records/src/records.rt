@@ -11,7 +11,7 @@ ghost use Rattle.xh_records.specs.Encoding.{holder_of};
 ghost use Rattle.xh_records.specs.Showing.{IsLotOf, IsEmpty, IsFull};
 ghost use Rattle.xh_records.specs.History.{IsOneLog};
 ghost use Rattle.xh_records.specs.Seats.{SawTaken};
-ghost use Rattle.xh_records.specs.inner.Events.{taking, giving, IsAway, IsHomeLot};
+ghost use Rattle.xh_records.specs.inner.Events.{taking, giving, moving, IsAway, IsHomeLot};
 
 use crate::making::{Home, seats_of, table_of};
 use crate::plays::{Looks, Notes, Renews};
@@ -75,7 +75,7 @@ impl<B: Fits + Drop> Records<B> {
         ensures shape { IfOk result (λ r. r.0.shape ≡ record { records = records; places = places; names = names }) }
         ensures slots { IfOk result (λ r. r.0.table.slots ≡ length lots.items) }
         ensures seats { IfOk result (λ r. (length r.1.items ≡ places) × ((k : ℕ) (x : Held B) → slice_get r.1.items k ≡ Some x → IsSeatOf r.0 x
-            × (x.process ≡ k) × (x.lots ≡ []) × (x.done ≡ []) × (x.front ≡ []))) }
+            × (x.process ≡ k) × (x.lots ≡ []) × (x.done ≡ []) × (x.moved ≡ []) × (x.front ≡ []))) }
     {
         let count = lots.len();
         let arenas = names.len();
@@ -155,7 +155,8 @@ impl<B: Fits + Drop> Records<B> {
         requires exists { IsRecord self.now.shape number }
         requires away { IsAway (holder_of to) × IsHolder (holder_of to) }
         requires held { (l : LotOf B) × (value_at number seat.old.lots ≡ Some l) × IsHomeLot B.is_fit (holder_of to) l }
-        ensures { HasLost (giving seat.old.process number (holder_of to)) seat.old seat.new }
+        ensures { (l : LotOf B) → value_at number seat.old.lots ≡ Some l
+            → HasLost (giving seat.old.process number (holder_of to)) (moving (giving seat.old.process number (holder_of to)) l seat.old) seat.new }
     {
         let slot = self.slot_of(number);
         let board = &self.table.shared;
@@ -227,7 +228,7 @@ impl<B: Fits + Drop> Records<B> {
         requires own { IsSeatOf self.now seat.old }
         requires exists { IsRecord self.now.shape number × (direction < DIRECTIONS) }
         requires held { (l : LotOf B) × (value_at number seat.old.lots ≡ Some l) × IsFull B.is_fit l }
-        ensures passed { HasLost (Pass seat.old.process number direction) seat.old seat.new }
+        ensures passed { (l : LotOf B) → value_at number seat.old.lots ≡ Some l → HasLost (Pass seat.old.process number direction) (record seat.old { moved = seat.old.moved ++ l ∷ [] }) seat.new }
     {
         self.give(seat, number, OwnerWord::InFlight(direction));
     }

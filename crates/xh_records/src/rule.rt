@@ -9,7 +9,7 @@ pub struct Showing<B> {
     body: PhantomData<B>,
 }
 
-impl<B: Fits> TableRule<Option<Lot<B>>, View, Shape> for Showing<B> {
+impl<B: Fits> TableRule<Option<Lot<B>>, View<B>, Shape> for Showing<B> {
     ghost use Rattle.xh_records.specs.Showing.{Shown};
     ghost use Rattle.xh_records.specs.inner.Views.{all_places};
 

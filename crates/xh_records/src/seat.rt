@@ -20,10 +20,9 @@ pub struct Seat<B> {
 
 impl<B> Model for Seat<B> {
     ghost use Rattle.std.specs.Vec.{vec_capacity};
+    ghost use Rattle.xh_records.specs.Deeds.{carried, events};
     ghost use Rattle.xh_records.specs.Seats.{Held};
-    ghost use Rattle.xh_records.specs.inner.Views.{front_in};
-    ghost use Rattle.xh_records.specs.History.{by_place};
-    ghost use Rattle.xh_model.specs.Words.{place_of};
+    ghost use Rattle.xh_records.specs.inner.Views.{deeds_in, front_in};
     ghost use Rattle.xh_records.specs.inner.Tokens.{IsSeat, numbered};
 
     ghost Value = { Held B };
@@ -34,7 +33,8 @@ impl<B> Model for Seat<B> {
       shape = s.token.me.0.shape;
       process = s.process;
       lots = numbered s.token.me.0.shape.records s.token.me.1;
-      done = by_place (place_of s.process) (front_in s.token.me.0);
+      done = events (deeds_in s.token.me.0);
+      moved = carried (deeds_in s.token.me.0);
       front = front_in s.token.me.0;
     } };
 

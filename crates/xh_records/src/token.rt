@@ -12,6 +12,7 @@ ghost use Rattle.xh_records.specs.declared.token.TheConstants.{NEAR};
 ghost use Rattle.xh_records.specs.Encoding.{holder_of};
 ghost use Rattle.xh_records.specs.Showing.{Shown, IsLotAt, Owns, Sits};
 ghost use Rattle.xh_records.specs.inner.Events.{IsAway, IsHomeLot};
+ghost use Rattle.xh_records.specs.declared.view.View.{View};
 ghost use Rattle.xh_records.specs.inner.Views.{IsAlone, front_in, gained, joined, lost, note_of};
 ghost use Rattle.xh_records.specs.inner.Steps.{IsOthers, SeesMore, process_in};
 ghost use Rattle.xh_records.specs.History.{IsOneLog};
@@ -26,10 +27,10 @@ use atomic_table::{Play, Shared};
 use xh_arena::{Fits, Lot};
 
 /// The table, as all threads share it.
-pub(crate) type Board<B> = Shared<Option<Lot<B>>, View, Shape, Showing<B>>;
+pub(crate) type Board<B> = Shared<Option<Lot<B>>, View<B>, Shape, Showing<B>>;
 
 /// What a seat has at the table: its view, and its slots. The table calls that a seat, too.
-pub(crate) type Token<B> = atomic_table::Seat<Option<Lot<B>>, View>;
+pub(crate) type Token<B> = atomic_table::Seat<Option<Lot<B>>, View<B>>;
 
 // Turns the token's list so many times.
 pub(crate) fn turn_by<B>(token: &mut Token<B>, count: usize)
@@ -134,7 +135,7 @@ pub(crate) fn take_slot<B: Fits>(
     requires process { IsAlone token.old.me.0 process }
     requires away { IsAway (holder_of from) }
     ensures same { (token.new.table_id ≡ token.old.table_id) × (token.new.id ≡ token.old.id) }
-    ensures taken { OnOk result ((l : LotOf B) × (others : List Event) × (token.new.me ≡ (gained token.old.me.0 slot process (holder_of from) others, token.old.me.1 ++ (slot, Some l) ∷ []))
+    ensures taken { OnOk result ((l : LotOf B) × (others : List Event) × (token.new.me ≡ (gained token.old.me.0 slot process (holder_of from) l others, token.old.me.1 ++ (slot, Some l) ∷ []))
         × IsOthers token.old.me.0 others × IsLotAt token.old.me.0.shape slot l × IsHomeLot B.is_fit (holder_of from) l × ((p : ℕ) → Owns token.old.me.0 slot p → ⊥)) }
     ensures missed { IfErr result (λ word. (word ≢ word_of (holder_of from)) × SeesMore slot word token.old.me token.new.me) }
 {
@@ -163,8 +164,8 @@ pub(crate) fn give_slot<B: Fits>(
     requires lot { (l : LotOf B) × (in_slot slot token.old.me.1 ≡ Some l) × IsLotAt token.old.me.0.shape slot l × IsHomeLot B.is_fit (holder_of to) l }
     requires owned { (p : ℕ) × IsAlone token.old.me.0 p × Owns token.old.me.0 slot p }
     ensures token { (token.new.table_id ≡ token.old.table_id) × (token.new.id ≡ token.old.id) }
-    ensures given { (others : List Event) × IsOthers token.old.me.0 others × (token.new.me ≡
-        (lost token.old.me.0 slot (process_in token.old.me.0) (holder_of to) others, without slot token.old.me.1)) }
+    ensures given { (others : List Event) × IsOthers token.old.me.0 others × ((l : LotOf B) → in_slot slot token.old.me.1 ≡ Some l → token.new.me ≡
+        (lost token.old.me.0 slot (process_in token.old.me.0) (holder_of to) l others, without slot token.old.me.1)) }
     ensures place { get_elem? order.now result ≡ some slot }
 {
     let k = turn_to(token, order, slot);
@@ -187,7 +188,7 @@ pub(crate) fn join<B: Fits>(board: &Board<B>, token: &mut Token<B>, other: Token
 // Shows that of what the token has seen and what the note tells one is a beginning of the other.
 pub(crate) fn compare_note<B: Fits>(board: &Board<B>, token: &mut Token<B>, other: Token<B>)
     requires own { (token.old.table_id ≡ board.now.table_id) × (other.table_id ≡ board.now.table_id) × (0 < board.now.table_id.words) × (0 < board.now.table_id.slots) }
-    requires note { (v : View) × (other.me ≡ (note_of v, [])) }
+    requires note { (v : View B) × (other.me ≡ (note_of v, [])) }
     requires process { (p : ℕ) × IsAlone token.old.me.0 p }
     ensures token { (token.new.table_id ≡ token.old.table_id) × (token.new.id ≡ token.old.id) × (token.new.me ≡ token.old.me) }
     ensures one { IsOneLog (front_in token.old.me.0) (front_in other.me.0) }

@@ -4,12 +4,12 @@ ghost use Rattle.xh_core.specs.Calls.{alloc_tests, data_tests, split_tests};
 ghost use Rattle.xh_core.specs.declared.refused.Refused.TheVariants.{NotOwned};
 ghost use Rattle.xh_core.specs.Refusing.{Tested, first_refusal};
 ghost use Rattle.xh_model.specs.Arena.{IsGoodCut};
-ghost use Rattle.xh_model.specs.Keyed.{Distinct, keys, value_at, without};
+ghost use Rattle.xh_model.specs.Keyed.{Distinct, keys, value_at};
 ghost use Rattle.xh_model.specs.declared.limits.TheConstants.{MAX_BYTES, MAX_RECORDS, UNIT};
 ghost use Rattle.xh_place.specs.Bodies.{bytes, kind_of};
 ghost use Rattle.xh_place.specs.Desk.{HasVaults, IsAt, IsSameDesk, StaysAt};
 ghost use Rattle.xh_place.specs.Ending.{HasGivenBack};
-ghost use Rattle.xh_place.specs.Places.{Item, IsPlaceOf, found, total_of, with_blocks};
+ghost use Rattle.xh_place.specs.Places.{Item, IsPlaceOf, found, total_of, with_freed};
 ghost use Rattle.xh_place.specs.Seen.{Becomes, FindsFull, Stays};
 ghost use Rattle.xh_place.specs.Splitting.{IsUncut};
 ghost use Rattle.xh_place.specs.Starts.{start};
@@ -58,8 +58,8 @@ impl Place {
         ensures same { StaysAt V.names V.extent desk.old desk.new self.old self.new }
         ensures made { Allocates n arena self.old.place self.new.place desk.old.tallies.now desk.new.tallies.now result }
         ensures why { MatchOption (first_refusal (start self.old.place.state ++ alloc_tests arena (length self.old.place.shape.names) n (V.extent desk.old.vaults.now)))
-            (IfErr result (IsNoBlock V.changes desk.old.vaults.now desk.new.vaults.now arena (rounded n) (FindsFull self.old self.new arena)))
-            (λ refused. (result ≡ Err refused) × (desk.new.vaults.now ≡ desk.old.vaults.now)) }
+            (IfErr result (IsNoBlock V.changes desk.old.vaults.now desk.new.vaults.now arena (rounded n) (FindsFull 0 self.old self.new arena)))
+            (λ refused. (result ≡ Err refused) × (desk.new.vaults.now ≡ desk.old.vaults.now) × (self.new.place ≡ self.old.place)) }
     {
         check_start(self.state)?;
         if arena >= u32::from(desk.vaults.arenas()) {
@@ -86,7 +86,7 @@ impl Place {
         requires at { IsAt V.names desk.old self.old.place }
         requires listed { (x : Item) × (value_at r self.old.place.blocks ≡ Some x) }
         ensures same { IsSameDesk V.names V.extent desk.old desk.new }
-        ensures list { Becomes (with_blocks self.old.place (without r self.old.place.blocks)) self.old self.new }
+        ensures list { Becomes (with_freed r self.old.place) self.old self.new }
         ensures once { Distinct (keys self.old.place.blocks) }
         ensures bytes { (result ≡ len_in (found self.old.place r)) × (result + total_of self.new.place.blocks ≡ total_of self.old.place.blocks) }
         ensures back { (desk.new.tallies.now ≡ gave (r / MAX_RECORDS) result desk.old.tallies.now) × HasGivenBack result desk.old.tallies.now desk.new.tallies.now }
@@ -159,8 +159,8 @@ impl Place {
         ensures same { StaysAt V.names V.extent desk.old desk.new self.old self.new }
         ensures cut { Splits r k self.old.place self.new.place desk.old.tallies.now desk.new.tallies.now result }
         ensures untouched { OnErr result (desk.new.vaults.now ≡ desk.old.vaults.now) }
-        ensures why { MatchOption (first_refusal (start self.old.place.state ++ split_tests (found self.old.place r) k)) (IfErr result (IsUncut (FindsFull self.old self.new (r / MAX_RECORDS))))
-            (λ refused. result ≡ Err refused) }
+        ensures why { MatchOption (first_refusal (start self.old.place.state ++ split_tests (found self.old.place r) k)) (IfErr result (IsUncut (FindsFull 0 self.old self.new (r / MAX_RECORDS))))
+            (λ refused. (result ≡ Err refused) × (self.new.place ≡ self.old.place)) }
     {
         let len = self.test_cut(desk.records, r, k)?;
         let rec = cut_block(alloc, desk, &mut self.seat, r, k)?;

@@ -12,7 +12,8 @@ ghost use Rattle.xh_place.specs.Ending.{HasGivenBack, IsClosed, last};
 ghost use Rattle.xh_place.specs.Endpoints.{Shuts};
 ghost use Rattle.xh_place.specs.Ends.{Accepts, EndDoes, IsUnopened, Opens, RefusedOr, end_block, is_here};
 ghost use Rattle.xh_place.specs.Places.{Item, IsPlaceOf, found, with_blocks, with_less};
-ghost use Rattle.xh_place.specs.Seen.{Becomes, FindsFull, IsSeen, SeesMore, Stays};
+ghost use Rattle.xh_place.specs.Seen.{Becomes, FindsFull, IsSeen, Stays};
+ghost use Rattle.xh_records.specs.History.{StartsWith};
 ghost use Rattle.xh_place.specs.Starts.{start};
 ghost use Rattle.xh_place.specs.Vaults.{IsNoPair};
 ghost use Rattle.xh_records.specs.Seats.{IsRecord};
@@ -91,8 +92,9 @@ impl Place {
         requires fresh { IsPair low high }
         ensures same { StaysAt V.names V.extent desk.old desk.new self.old self.new }
         ensures opened { Opens arena low high self.old.place self.new.place desk.old.tallies.now desk.new.tallies.now result }
-        ensures why { IsUnopened (start self.old.place.state ++ arena_tests arena (length self.old.place.shape.names)) (desk.new.vaults.now ≡ desk.old.vaults.now)
-            (IsNoPair V.changes desk.old.vaults.now desk.new.vaults.now arena (2 * END_BYTES) (FindsFull self.old self.new arena) (V.extent desk.old.vaults.now)) result }
+        ensures why { IsUnopened (start self.old.place.state ++ arena_tests arena (length self.old.place.shape.names)) ((desk.new.vaults.now ≡ desk.old.vaults.now)
+            × (self.new.place ≡ self.old.place))
+            (IsNoPair V.changes desk.old.vaults.now desk.new.vaults.now arena (2 * END_BYTES) (FindsFull 1 self.old self.new arena) (V.extent desk.old.vaults.now)) result }
     {
         if let Err(why) = check_start(self.state) {
             return Err(Unopened { why, low, high });
@@ -122,8 +124,9 @@ impl Place {
         requires fresh { IsPair low high × (low.has_contract ≡ true) }
         ensures same { StaysAt V.names V.extent desk.old desk.new self.old self.new }
         ensures opened { Opens arena low high self.old.place self.new.place desk.old.tallies.now desk.new.tallies.now result }
-        ensures why { IsUnopened (start self.old.place.state ++ arena_tests arena (length self.old.place.shape.names)) (desk.new.vaults.now ≡ desk.old.vaults.now)
-            (IsNoPair V.changes desk.old.vaults.now desk.new.vaults.now arena (2 * END_BYTES) (FindsFull self.old self.new arena) (V.extent desk.old.vaults.now)) result }
+        ensures why { IsUnopened (start self.old.place.state ++ arena_tests arena (length self.old.place.shape.names)) ((desk.new.vaults.now ≡ desk.old.vaults.now)
+            × (self.new.place ≡ self.old.place))
+            (IsNoPair V.changes desk.old.vaults.now desk.new.vaults.now arena (2 * END_BYTES) (FindsFull 1 self.old self.new arena) (V.extent desk.old.vaults.now)) result }
     {
         self.open(desk, low, high, arena)
     }
@@ -207,7 +210,7 @@ impl Place {
         requires own { IsPlaceOf desk.now.records.now self.old.place }
         requires end { (x : Item) × (value_at e self.old.place.blocks ≡ Some x) × (kind_of x.content ≡ kind.End) }
         ensures shut { EndDoes e self.old.place self.new.place Shuts }
-        ensures seen { SeesMore self.old self.new }
+        ensures seen { StartsWith self.new.front self.old.front }
     {
         shut_at(desk, &mut self.seat, e);
     }
@@ -218,7 +221,7 @@ impl Place {
         requires alive { is_over self.old.place.state ≢ true }
         requires end { (p : Posted) × (value_at e self.old.place.blocks ≡ Some (end_block p)) }
         ensures drained { Drains (IsSeen self.old self.new) e self.old.place self.new.place }
-        ensures seen { SeesMore self.old self.new }
+        ensures seen { StartsWith self.new.front self.old.front }
     {
         for _count in 0..u64::MAX {
             match self.take_message(desk, e) {
@@ -234,7 +237,7 @@ impl Place {
         requires alive { is_over self.old.place.state ≢ true }
         requires listed { (x : Item) × (value_at r self.old.place.blocks ≡ Some x) }
         ensures cleared { Clears (IsSeen self.old self.new) r self.old.place self.new.place }
-        ensures seen { SeesMore self.old self.new }
+        ensures seen { StartsWith self.new.front self.old.front }
     {
         match self.look(desk.records, r).kind {
             Kind::Data => return,

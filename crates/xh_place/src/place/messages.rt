@@ -10,7 +10,8 @@ ghost use Rattle.xh_place.specs.Endpoints.{AreGot, IsGot, Takes, record_of};
 ghost use Rattle.xh_place.specs.Ends.{EndDoes, RefusedOr, toward_in};
 ghost use Rattle.xh_place.specs.Messages.{is_listed, IsSent, IsTaken, IsUntaken};
 ghost use Rattle.xh_place.specs.Places.{IsWhole, Item, IsPlaceOf, found, with_more};
-ghost use Rattle.xh_place.specs.Seen.{IsSamePlace, IsSeen, SawWord, SeesMore, Stays};
+ghost use Rattle.xh_place.specs.Seen.{IsSamePlace, IsSeen, SawWord, Stays};
+ghost use Rattle.xh_records.specs.History.{StartsWith};
 ghost use Rattle.xh_place.specs.Starts.{start};
 ghost use Rattle.xh_records.specs.Seats.{IsRecord};
 ghost use Rattle.std.specs.List.{list_all};
@@ -34,7 +35,8 @@ use xh_records::Records;
 
 impl Place {
     /// Gives blocks of the list, by the endpoint `e`, in a message with a tag. It answers the message's number.
-    /// Ended is of the process; NotOwned and NotEndpoint of the endpoint; then TooMany of more than 8 blocks, NotOwned of a block, Twice. Protocol, PeerClosed and Full name the blocks that came back.
+    /// Ended is of the process; NotOwned and NotEndpoint of the endpoint; then TooMany of more than 8 blocks, NotOwned of a block, Twice. Protocol, PeerClosed and Full name the blocks that came
+    /// back.
     pub fn give<R: Wait, V, G: Gate>(
         &mut self,
         desk: &Desk<'_, R, V, G>,
@@ -167,7 +169,7 @@ impl Place {
         requires own { IsPlaceOf desk.now.records.now self.old.place }
         requires end { (x : Item) × (value_at e self.old.place.blocks ≡ Some x) × (kind_of x.content ≡ kind.End) }
         ensures took { EndDoes e self.old.place self.new.place (Takes result.0) }
-        ensures seen { SeesMore self.old self.new }
+        ensures seen { StartsWith self.new.front self.old.front }
         ensures direction { (result.1 ≡ toward_in (value_at e self.old.place.blocks)) × (result.1 < DIRECTIONS) }
     {
         take_at(desk, &mut self.seat, e)

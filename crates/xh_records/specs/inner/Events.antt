@@ -1,10 +1,12 @@
--- Which event a step is that takes a record or gives it away, and which lot goes along.
-use Rattle.std.specs.Prelude.{◌≡◌, ℕ, Bool, Option, Some, None}
+-- Which event a step is that takes a record or gives it away, which lot goes along, and what a seat is after it.
+use Rattle.std.specs.Prelude.{◌≡◌, ℕ, Bool, List, Option, Some, None}
 use Rattle.xh_arena.specs.Views.{LotOf}
 use Rattle.xh_model.specs.declared.event.Holder.{Holder}
 use Rattle.xh_model.specs.declared.event.Holder.TheVariants.{Process, Direction}
 use Rattle.xh_model.specs.declared.event.Event.{Event}
 use Rattle.xh_model.specs.declared.event.Event.TheVariants.{Claim, Vacate, Pass, Accept}
+use Rattle.xh_records.specs.Deeds.{carry}
+use Rattle.xh_records.specs.Seats.{Held}
 use Rattle.xh_records.specs.Showing.{IsEmpty, IsFull}
 
 -- the process p takes the record r from where it is, or gives it there
@@ -27,3 +29,11 @@ abbrev pub IsHomeLot : {B : Type 0} → (B → ℕ → Bool) → Option Holder �
 IsHomeLot fits None l = IsEmpty fits l
 IsHomeLot fits (Some (Process p)) l = ⊥
 IsHomeLot fits (Some (Direction d)) l = IsFull fits l
+
+-- the seat that has seen so much
+abbrev pub seen : {B : Type 0} → List Event → Held B → Held B
+seen front x = record x { front = front }
+
+-- the seat from which or to which the lot moved, if the event moves one
+abbrev pub moving : {B : Type 0} → Event → LotOf B → Held B → Held B
+moving e l x = record x { moved = carry e l x.moved }

@@ -13,43 +13,44 @@ use Rattle.xh_records.specs.inner.Events.{IsHomeLot}
 use Rattle.xh_records.specs.inner.Views.{front_in, gained, head_of, knowing, lost, renewed}
 
 -- the process of a view that stands for one
-abbrev pub process_in : View → ℕ
+abbrev pub process_in : {B : Type 0} → View B → ℕ
 process_in v = slice_index v.processes 0
 
 -- these are events of other places than that of a view that stands for one
-abbrev pub IsOthers : View → List Event → Type 0
+abbrev pub IsOthers : {B : Type 0} → View B → List Event → Type 0
 IsOthers v others = by_place (place_of (process_in v)) others ≡ []
 
 -- what the view knows of a word at the index k, which its front tells
-abbrev pub Finds : View → ℕ → ℕ → View → Type 0
+abbrev pub Finds : {B : Type 0} → View B → ℕ → ℕ → View B → Type 0
 Finds v k word now = Knows v k word × TellsWord now.shape.records (front_in now) k word
 
 -- the view has seen events of others, and a word at the index k
-abbrev pub SeesMore : {S : Type 0} → ℕ → ℕ → Me S View → Me S View → Type 0
+abbrev pub SeesMore : {S : Type 0} → {B : Type 0} → ℕ → ℕ → Me S (View B) → Me S (View B) → Type 0
 SeesMore k word me me' = (others : List Event) × IsOthers me.0 others × (me' ≡ (knowing me.0 (others ++ []), me.1)) × Finds me.0 k word me'.0
 
 module _ {B : Type 0} where
   -- a load, whose word the seat knows, and which shows it events of others
-  abbrev pub looked : Step (Option (LotOf B)) → Me (Option (LotOf B)) View → ℕ → Me (Option (LotOf B)) View → Type 0
+  abbrev pub looked : Step (Option (LotOf B)) → Me (Option (LotOf B)) (View B) → ℕ → Me (Option (LotOf B)) (View B) → Type 0
   looked st me n me' = SeesMore st.word n me me'
 
   -- a compare that takes the record's lot, which is as it has to be at home, where it found the word that it wants, and is an event; else it is a look
-  abbrev pub took : (B → ℕ → Bool) → Step (Option (LotOf B)) → Me (Option (LotOf B)) View → ℕ → Me (Option (LotOf B)) View → Type 0
+  abbrev pub took : (B → ℕ → Bool) → Step (Option (LotOf B)) → Me (Option (LotOf B)) (View B) → ℕ → Me (Option (LotOf B)) (View B) → Type 0
   took fits st me n me' =
       (n ≡ st.first → (l : LotOf B) × (others : List Event) × IsOthers me.0 others
-      × ((h : Option Holder) → st.first ≡ word_of h → (me' ≡ (gained me.0 st.word (process_in me.0) h others, (st.word, Some l) ∷ me.1)) × IsHomeLot fits h l)
+      × ((h : Option Holder) → st.first ≡ word_of h → (me' ≡ (gained me.0 st.word (process_in me.0) h l others, (st.word, Some l) ∷ me.1)) × IsHomeLot fits h l)
       × IsLotAt me.0.shape st.word l × ((p : ℕ) → Owns me.0 st.word p → ⊥))
       × (n ≢ st.first → looked st me n me')
 
   -- a store that gives the lot back, and is an event
-  abbrev pub gave : Step (Option (LotOf B)) → Me (Option (LotOf B)) View → ℕ → Me (Option (LotOf B)) View → Type 0
-  gave st me n me' = (others : List Event) × IsOthers me.0 others × ((h : Option Holder) → st.first ≡ word_of h → me' ≡ (lost me.0 st.word (process_in me.0) h others, rest me.1))
+  abbrev pub gave : Step (Option (LotOf B)) → Me (Option (LotOf B)) (View B) → ℕ → Me (Option (LotOf B)) (View B) → Type 0
+  gave st me n me' = (others : List Event) × IsOthers me.0 others × ((h : Option Holder) (l : LotOf B) → st.first ≡ word_of h → me.1 ≡ (st.word, Some l) ∷ rest me.1
+      → me' ≡ (lost me.0 st.word (process_in me.0) h l others, rest me.1))
 
   -- a load by a seat that was told what another had seen: of two fronts one is a beginning of the other. It forgets the second
-  abbrev pub compared : Step (Option (LotOf B)) → Me (Option (LotOf B)) View → ℕ → Me (Option (LotOf B)) View → Type 0
+  abbrev pub compared : Step (Option (LotOf B)) → Me (Option (LotOf B)) (View B) → ℕ → Me (Option (LotOf B)) (View B) → Type 0
   compared st me n me' = (me' ≡ (record me.0 { fronts = head_of me.0.fronts }, me.1))
       × ((a b : ℕ × List Event) → me.0.fronts ≡ a ∷ b ∷ [] → IsOneLog a.1 b.1)
 
   -- a load, by a seat that stands for its place anew
-  abbrev pub aged : Step (Option (LotOf B)) → Me (Option (LotOf B)) View → ℕ → Me (Option (LotOf B)) View → Type 0
+  abbrev pub aged : Step (Option (LotOf B)) → Me (Option (LotOf B)) (View B) → ℕ → Me (Option (LotOf B)) (View B) → Type 0
   aged st me n me' = me' ≡ (renewed me.0, me.1)

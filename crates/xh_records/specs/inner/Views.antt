@@ -5,65 +5,73 @@ use Rattle.xh_model.specs.declared.event.Event.{Event}
 use Rattle.xh_model.specs.declared.limits.TheConstants.{PLACES}
 use Rattle.xh_model.specs.Words.{place_of, number_of}
 use Rattle.xh_model.specs.Keyed.{without}
+use Rattle.xh_arena.specs.Views.{LotOf}
+use Rattle.xh_records.specs.Deeds.{Deed}
 use Rattle.xh_records.specs.inner.Events.{taking, giving}
 use Rattle.xh_records.specs.declared.shape.Shape.{Shape}
 use Rattle.xh_records.specs.declared.view.View.{View}
-use Rattle.xh_records.specs.Seats.{no_table}
 
 -- k places from p on, each of generation 0
 abbrev pub places_from : ℕ → ℕ → List ℕ
 places_from p zero = []
 places_from p (suc k) = p ∷ places_from (suc p) k
 
--- fronts of these places, with no events
-abbrev pub no_events : List ℕ → List (ℕ × List Event)
-no_events [] = []
-no_events (p ∷ ps) = (place_of p, []) ∷ no_events ps
+-- nothing seen, or done, for each of these places
+abbrev pub none_yet : {X : Type 0} → List ℕ → List (ℕ × List X)
+none_yet [] = []
+none_yet (p ∷ ps) = (place_of p, []) ∷ none_yet ps
+
+-- the view of a seat that stands for k places from p on, each of generation 0, and has no record
+abbrev pub dealer : {B : Type 0} → Shape → ℕ → ℕ → View B
+dealer s p k = record { shape = s; processes = places_from p k; records = []; fronts = none_yet (places_from p k); deeds = none_yet (places_from p k) }
 
 -- the first seat stands for all places
-abbrev pub all_places : Shape → View
-all_places s = record { shape = s; processes = places_from 0 s.places; records = []; fronts = no_events (places_from 0 s.places) }
+abbrev pub all_places : {B : Type 0} → Shape → View B
+all_places s = dealer s 0 s.places
 
 abbrev pub no_shape : Shape
 no_shape = record { records = 0; places = 0; names = [] }
 
 -- a spent view
-abbrev pub spent : View
-spent = record { shape = no_shape; processes = []; records = []; fronts = [] }
+abbrev pub spent : {B : Type 0} → View B
+spent = record { shape = no_shape; processes = []; records = []; fronts = []; deeds = [] }
 
--- the front of a view that stands for one place, and more events in it
-abbrev pub first_front : List (ℕ × List Event) → List Event
-first_front [] = []
-first_front (x ∷ xs) = x.1
+-- the front and the deeds of a view that stands for one place, and more in them
+abbrev pub first_of : {X : Type 0} → List (ℕ × List X) → List X
+first_of [] = []
+first_of (x ∷ xs) = x.1
 
-abbrev pub front_in : View → List Event
-front_in v = first_front v.fronts
+abbrev pub front_in : {B : Type 0} → View B → List Event
+front_in v = first_of v.fronts
 
-abbrev pub adds : List Event → List (ℕ × List Event) → List (ℕ × List Event)
+abbrev pub deeds_in : {B : Type 0} → View B → List (Deed B)
+deeds_in v = first_of v.deeds
+
+abbrev pub adds : {X : Type 0} → List X → List (ℕ × List X) → List (ℕ × List X)
 adds es [] = []
-adds es (x ∷ xs) = (x.0, x.1 ++ es) ∷ xs
+adds es (x ∷ xs) = (x.0, x.1 ++ es) ∷ adds es xs
 
 -- the view stands for the process p alone
-abbrev pub IsAlone : View → ℕ → Type 0
+abbrev pub IsAlone : {B : Type 0} → View B → ℕ → Type 0
 IsAlone v p = (v.processes ≡ p ∷ []) × (v.fronts ≡ (place_of p, front_in v) ∷ [])
 
 -- the view has seen these, too
-abbrev pub knowing : View → List Event → View
+abbrev pub knowing : {B : Type 0} → View B → List Event → View B
 knowing v es = record v { fronts = adds es v.fronts }
 
--- the view of a process has seen events of others, and gains a record from where it was, or loses a record to where it goes
-abbrev pub gained : View → ℕ → ℕ → Option Holder → List Event → View
-gained v k p from others = record (knowing v (others ++ taking p (number_of v.shape.records k) from ∷ [])) { records = v.records ++ (k, p) ∷ [] }
+-- the view has seen events of others, and did one with a lot
+abbrev pub doing : {B : Type 0} → View B → List Event → Event → LotOf B → View B
+doing v others e l = record (knowing v (others ++ e ∷ [])) { deeds = adds ((e, l) ∷ []) v.deeds }
 
-abbrev pub lost : View → ℕ → ℕ → Option Holder → List Event → View
-lost v k p to others = record (knowing v (others ++ giving p (number_of v.shape.records k) to ∷ [])) { records = without k v.records }
+-- the view of a process gains a record with its lot from where it was, or loses it to where it goes
+abbrev pub gained : {B : Type 0} → View B → ℕ → ℕ → Option Holder → LotOf B → List Event → View B
+gained v k p from l others = record (doing v others (taking p (number_of v.shape.records k) from) l) { records = v.records ++ (k, p) ∷ [] }
 
--- the view of a seat that stands for k places from p on, each of generation 0, and has no record
-abbrev pub dealer : Shape → ℕ → ℕ → View
-dealer s p k = record { shape = s; processes = places_from p k; records = []; fronts = no_events (places_from p k) }
+abbrev pub lost : {B : Type 0} → View B → ℕ → ℕ → Option Holder → LotOf B → List Event → View B
+lost v k p to l others = record (doing v others (giving p (number_of v.shape.records k) to) l) { records = without k v.records }
 
 -- it stands so for one place at least
-abbrev pub IsDealer : View → Type 0
+abbrev pub IsDealer : {B : Type 0} → View B → Type 0
 IsDealer v = (s : Shape) × (p : ℕ) × (k : ℕ) × (v ≡ dealer s p (suc k))
 
 -- a seat that stands for several places deals its first one out, with no record
@@ -75,20 +83,20 @@ abbrev pub head_of : {X : Type 0} → List X → List X
 head_of [] = []
 head_of (p ∷ ps) = p ∷ []
 
-abbrev pub dealt_from : View → View
-dealt_from v = record v { processes = tail_of v.processes; fronts = tail_of v.fronts }
+abbrev pub dealt_from : {B : Type 0} → View B → View B
+dealt_from v = record v { processes = tail_of v.processes; fronts = tail_of v.fronts; deeds = tail_of v.deeds }
 
-abbrev pub dealt : View → View
-dealt v = record { shape = v.shape; processes = head_of v.processes; records = []; fronts = head_of v.fronts }
+abbrev pub dealt : {B : Type 0} → View B → View B
+dealt v = record { shape = v.shape; processes = head_of v.processes; records = []; fronts = head_of v.fronts; deeds = head_of v.deeds }
 
 -- what a view has seen, for another seat to compare: beside a number past the places
-abbrev pub note_of : View → View
-note_of v = record { shape = no_shape; processes = []; records = []; fronts = (PLACES, front_in v) ∷ [] }
+abbrev pub note_of : {B : Type 0} → View B → View B
+note_of v = record spent { fronts = (PLACES, front_in v) ∷ [] }
 
 -- two views in one
-abbrev pub joined : View → View → View
-joined v w = record { shape = v.shape; processes = v.processes ++ w.processes; records = v.records ++ w.records; fronts = v.fronts ++ w.fronts }
+abbrev pub joined : {B : Type 0} → View B → View B → View B
+joined v w = record { shape = v.shape; processes = v.processes ++ w.processes; records = v.records ++ w.records; fronts = v.fronts ++ w.fronts; deeds = v.deeds ++ w.deeds }
 
 -- the generation of each place rises by one
-abbrev pub renewed : View → View
+abbrev pub renewed : {B : Type 0} → View B → View B
 renewed v = record v { processes = map (λ p. p + PLACES) v.processes }

@@ -9,7 +9,7 @@ loop-place-preserved c =
     let is : IsSeatOfPlace seat place.place = record {
       same = (c.end-seat.ensures.same.0, c.end-seat.ensures.same.1, c.end-seat.ensures.same.2);
       lists = c.end-seat.ensures.lists;
-      moved = c.end-seat.ensures.moved;
+      events = c.end-seat.ensures.events;
       whole = λ r b at. (c.total-bytes.ensures.blocks.whole r b at).0;
     } in (
       one_ended (places_of c.args.places.items) (places_of rest) _ place.place l.seats.items c.push.new.self.items l.lines.items c.push_line.new.lines.items seat line

@@ -1,6 +1,5 @@
-use Rattle.xh_place.proofs.Common.{◌≡◌, ℕ, List, ◌++◌, sym, ap, subst, Among, value_at, away, accepted_on, passed_on, there_and_back, HasNow, SeatSaw, with_done, item_in, IsElsewhere}
-use Rattle.xh_place.proofs.Common.{lens_none, moved_twice, away_as, Pass, SeatSawAfter}
-use Rattle.xh_place.proofs.Words.{SawAt, index_of}
+use Rattle.xh_place.proofs.Common.{◌≡◌, ℕ, List, ◌++◌, sym, ap, subst, Among, value_at, away, accepted_on, passed_on, there_and_back, HasLeft, HasNow, SawAt, with_done, item_in}
+use Rattle.xh_place.proofs.Common.{[], ◌∷◌, Pass, carrying, lens_none, moved_twice, picked, refl, saw_wide, starts_same, values}
 use Rattle.xh_place.proofs.giving.give_all.Goals as goal
 
 pub returns-in_default-clause-gained : goal.returns-in_default-clause-gained
@@ -14,8 +13,9 @@ returns-clause-moved g c =
     let d : ℕ = c.post-put.result.1 in
     let log : passed_on seat.process d given ++ accepted_on mid.process d rs ≡ there_and_back seat.process (away (item_in (value_at c.args.e seat.lots)).content) given rs =
     λ i. passed_on seat.process (c.post-put.ensures.direction.0 i) given ++ accepted_on (whose i) (c.post-put.ensures.direction.0 i) rs in
-    subst (λ es. HasNow (with_done es seat) last.lots last) log
-    (moved_twice seat mid last (passed_on seat.process d given) (accepted_on mid.process d rs) c.post-put.ensures.passed c.accept_back-back.ensures.came)
+    let ls = values (picked given seat.lots) in let ms = values (picked rs last.lots) in
+    subst (λ es. HasNow (with_done es (carrying (ls ++ ms) seat)) last.lots last) log
+    (moved_twice seat mid last (passed_on seat.process d given) (accepted_on mid.process d rs) ls ms mid.lots last.lots c.post-put.ensures.passed c.accept_back-back.ensures.came)
 
 pub returns-clause-missed : goal.returns-clause-missed
 returns-clause-missed g c = λ r among missed.
@@ -23,6 +23,13 @@ returns-clause-missed g c = λ r among missed.
     let shape : mid.shape ≡ seat.shape = ap (λ h. h.shape) c.post-put.ensures.passed in
     let there = c.accept_back-back.ensures.lost r (subst (λ l. Among l r) (sym c.as_slice.ensures.value) among) missed in
     let passed = c.post-put.ensures.came r among in
-    subst (λ d. IsElsewhere (SeatSawAfter (Pass seat.process r d) seat last) d r) c.post-put.ensures.direction.0
-    (away_as (SeatSaw mid last) (SeatSawAfter (Pass seat.process r c.post-put.result.1) seat last)
-    (λ q word h. (mid.front, passed, subst (λ s. SawAt s mid.front last.front (index_of s.records q) word) shape h)) c.post-put.result.1 r there)
+    subst (λ d. HasLeft seat.process seat.shape seat.front last.front d r) c.post-put.ensures.direction.0 (
+      passed.0,
+      passed.1,
+      (
+        there.0,
+        there.1,
+        saw_wide seat.shape mid.front last.front (passed.0 ++ Pass seat.process r c.post-put.result.1 ∷ []) last.front r there.0 passed.2 (starts_same refl)
+            (subst (λ s. SawAt s mid.front last.front r there.0) shape there.2),
+      ),
+    )

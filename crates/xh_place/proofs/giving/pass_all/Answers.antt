@@ -24,9 +24,9 @@ loop-k-preserved c =
     let at : value_at r c.loop-k.seat.lots ≡ Some h.0 = is.2 r (inl refl) ∙ h.1 in
     let len : c.from-bytes.result ≡ h.0.len = c.from-bytes.ensures ∙ c.pass_block.ensures.bytes h.0 at in (
       subst (λ l. IsPassing d given l (drop (k + 1) given) c.args.seat.now last) (sym (take_more given k 0 inside))
-          (passing d given (take k given) (drop (k + 1) given) r c.args.seat.now c.loop-k.seat last (among_get k given 0 inside) is c.pass_block.ensures.passed),
+          (passing d given (take k given) (drop (k + 1) given) r h.0 c.args.seat.now c.loop-k.seat last (among_get k given 0 inside) is h.1 (c.pass_block.ensures.passed h.0 at)),
       passed_bytes given (drop (k + 1) given) (take k given) d r c.loop-k.bytes c.from-bytes.result h.0 c.args.seat.now c.loop-k.seat last c.requires.distinct (among_get k given 0 inside) is h.1
-          (ap (λ z. z.lots) c.pass_block.ensures.passed) len c.loop-k.invariant.1,
+          (ap (λ z. z.lots) (c.pass_block.ensures.passed h.0 at)) len c.loop-k.invariant.1,
       omega (arith, c.loop-k.invariant.2, c.from-bytes.ensures),
       starts_more c.args.seat.now.front c.loop-k.invariant.3 c.pass_block.ensures.seen,
       subst (λ l. ArePassed d l c.args.seat.now last) (sym (take_more given k 0 inside))

@@ -1,5 +1,5 @@
-use Rattle.xh_place.proofs.Common.{rules, ◌≡◌, ◌≢◌, ℕ, ◌-◌, List, sym, ap, ◌∙◌, subst, Some, Among, value_at, put, put_at, put_other, IsLotOf, Held, with_lots, passed_on, LotDoes, bare}
-use Rattle.xh_place.proofs.Common.{with_done, Body, Posted, Puts, lens, starts_more, starts_same, Pass, came_more}
+use Rattle.xh_place.proofs.Common.{rules, ◌≡◌, ◌≢◌, ℕ, List, sym, ap, ◌∙◌, subst, Some, Among, value_at, put, put_at, put_other, IsLotOf, Held, with_lots, passed_on, LotDoes, bare}
+use Rattle.xh_place.proofs.Common.{carrying, picked, values, with_done, Body, Posted, Puts, lens, starts_more, starts_same, Pass, came_more}
 use Rattle.xh_place.proofs.Ends.{end_kind, still_block}
 use Rattle.xh_place.proofs.giving.post.Goals.{After-pass_all-bytes}
 use Rattle.xh_place.proofs.giving.post.Goals as goal
@@ -24,7 +24,7 @@ returns g c =
     let at = there g (goal.at.returns g c).After-pass_all-bytes in
     let k = c.put_at-put.ensures q.0 at in let m = k.0 in
     let d : ℕ = c.away-direction.result in
-    let after : Held Body → List ℕ → Held Body = λ h rs. bare (with_done (passed_on h.process d rs) h) in
+    let after : Held Body → List ℕ → Held Body = λ h rs. bare (with_done (passed_on h.process d rs) (carrying (values (picked rs seat.lots)) h)) in
     let now : Held Body = after seat c.args.given.now.items in
     let chain : bare gone ≡ with_lots now gone.lots =
     pass.passed ∙ ap (λ rs. with_lots (after seat rs) gone.lots) value in

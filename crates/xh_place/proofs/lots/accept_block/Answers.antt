@@ -1,17 +1,17 @@
-use Rattle.xh_place.proofs.Common.{◌∙◌, rules, ◌≡◌, ◌<◌, ◌/◌, ◌%◌, length, sym, ap, subst, Accept, Held, did, Body, bare, Err, looked, has}
+use Rattle.xh_place.proofs.Common.{◌∙◌, rules, ◌≡◌, ◌<◌, ◌/◌, ◌%◌, length, sym, ap, subst, Accept, Held, did, Body, bare, carrying, [], ◌∷◌, Err, looked, has}
 use Rattle.xh_place.proofs.Gained.{lot_is}
 use Rattle.xh_place.proofs.lots.accept_block.Goals as goal
 
 pub look-requires-clause-held : goal.look-requires-clause-held
 look-requires-clause-held c =
     let t = c.in_ok-accept.ensures.accepted in let fresh = c.in_ok-accept.ensures.fresh in
-    let seat : Held Body = did (Accept c.args.seat.now.process c.args.r c.args.direction) c.args.seat.now in
+    let seat : Held Body = did (Accept c.args.seat.now.process c.args.r c.args.direction) (carrying (t.0 ∷ []) c.args.seat.now) in
     (t.0, has seat c.accept.new.seat c.args.r t.0 (ap bare t.1) fresh, lot_is seat c.accept.new.seat c.args.r t.0 (ap bare t.1) fresh t.2, t.3)
 
 pub returns-clause-here : goal.returns-clause-here
 returns-clause-here c =
     let t = c.in_ok-accept.ensures.accepted in let fresh = c.in_ok-accept.ensures.fresh in
-    let seat : Held Body = did (Accept c.args.seat.now.process c.args.r c.args.direction) c.args.seat.now in
+    let seat : Held Body = did (Accept c.args.seat.now.process c.args.r c.args.direction) (carrying (t.0 ∷ []) c.args.seat.now) in
     let at = has seat c.accept.new.seat c.args.r t.0 (ap bare t.1) fresh in
     let own = c.requires.own in (
       t.0,

@@ -1,5 +1,5 @@
-use Rattle.xh_place.proofs.Common.{◌≡◌, ℕ, ◌-◌, ◌/◌, ◌<◌, length, refl, sym, ap, ◌∙◌, subst, inl, Some, slice_get, IsRecord, IsCut, Body, Data, claims, vacates, advanced, no_record, starts_more}
-use Rattle.xh_place.proofs.Common.{starts_same, undone}
+use Rattle.xh_place.proofs.Common.{arith, ◌≡◌, ℕ, ◌-◌, ◌/◌, ◌<◌, ◌≤◌, length, refl, sym, ap, ◌∙◌, subst, inl, Some, slice_get, did, Claim, bare, IsRecord, IsCut, Body, Data, advanced, starts_more}
+use Rattle.xh_place.proofs.Common.{full_now, none_claimed, one_gone, starts_same}
 use Rattle.std.proofs.Math.Nat.{le_of_lt}
 use Rattle.xh_place.proofs.Parted.{Cutting, cutting, is_cut}
 use Rattle.xh_place.proofs.lots.cut_block.Goals.{In-Ok, After-rest_of}
@@ -8,15 +8,19 @@ use Rattle.xh_place.proofs.lots.cut_block.Goals as goal
 same : {X : Type 0} (x y : X) → Some x ≡ Some y → x ≡ y
 same x y e = cc
 
-claimed : (g : _) (c : In-Ok g) → Cutting c.args.desk.now.records.now c.args.seat.now c.claim.new.seat c.args.r c.in-Ok.t c.requires.held.0 c.in-Ok.ensures.claimed.0
+claimed : (g : _) (c : In-Ok g) → Cutting c.args.desk.now.records.now
+    (did (Claim c.args.seat.now.process c.in-Ok.t) c.args.seat.now) c.claim.new.seat c.args.r c.in-Ok.t c.requires.held.0 c.in-Ok.ensures.claimed.0
 claimed g c =
     let h = c.requires.held in let t = c.in-Ok.ensures.claimed in let all = c.args.desk.now.records.now in let there = subst (λ s. IsRecord s c.args.r) c.requires.own.1 h.2.exists in
-    cutting all c.args.seat.now c.claim.new.seat _ _ h.0 t.0 c.requires.own h.1 h.2 (subst (λ z. z < length all.shape.names) (sym c.in-Ok.ensures.record.0) there.0, c.in-Ok.ensures.record.1)
-    t.2 c.in-Ok.ensures.fresh (claims c.args.seat.now c.claim.new.seat _ _ _ t.1)
+    cutting all (did (Claim c.args.seat.now.process c.in-Ok.t) c.args.seat.now) c.claim.new.seat _ _ h.0 t.0 c.requires.own h.1 h.2
+    (subst (λ z. z < length all.shape.names) (sym c.in-Ok.ensures.record.0) there.0, c.in-Ok.ensures.record.1)
+    t.2 c.in-Ok.ensures.fresh (ap bare t.1)
 
-read : (g : _) (c : After-rest_of g) → Cutting c.args.desk.now.records.now c.args.seat.now c.claim.new.seat c.args.r c.in-Ok.t c.requires.held.0 c.in-Ok.ensures.claimed.0
-    → Cutting c.args.desk.now.records.now c.args.seat.now c.rest_of.new.seat c.args.r c.in-Ok.t c.requires.held.0 c.in-Ok.ensures.claimed.0
-read g c k = subst (λ h. Cutting c.args.desk.now.records.now c.args.seat.now h c.args.r c.in-Ok.t c.requires.held.0 c.in-Ok.ensures.claimed.0) (sym c.rest_of.ensures.same) k
+read : (g : _) (c : After-rest_of g) → Cutting c.args.desk.now.records.now
+    (did (Claim c.args.seat.now.process c.in-Ok.t) c.args.seat.now) c.claim.new.seat c.args.r c.in-Ok.t c.requires.held.0 c.in-Ok.ensures.claimed.0
+    → Cutting c.args.desk.now.records.now (did (Claim c.args.seat.now.process c.in-Ok.t) c.args.seat.now) c.rest_of.new.seat c.args.r c.in-Ok.t c.requires.held.0 c.in-Ok.ensures.claimed.0
+read g c k = subst (λ h. Cutting c.args.desk.now.records.now (did (Claim c.args.seat.now.process c.in-Ok.t) c.args.seat.now) h c.args.r c.in-Ok.t c.requires.held.0 c.in-Ok.ensures.claimed.0)
+    (sym c.rest_of.ensures.same) k
 
 pub rest_of-requires-clause-held : goal.rest_of-requires-clause-held
 rest_of-requires-clause-held g c =
@@ -34,11 +38,16 @@ vacate-requires-clause-held g c =
     let at = goal.at.vacate-requires-clause-held g c in let j = read g at.After-rest_of (claimed g at.In-Ok) in
     (t.0, j.tail, t.3)
 
+pub returns-in_default-clause-refused : goal.returns-in_default-clause-refused
+returns-in_default-clause-refused g c = (none_claimed (c.args.r / 256) (λ cs. length cs ≤ 1) c.args.seat.now c.claim.new.seat (omega arith) c.in_default.ensures.missed, refl)
+
 pub returns-in_default-rest_of-clause-refused : goal.returns-in_default-rest_of-clause-refused
 returns-in_default-rest_of-clause-refused g c =
-    let h = c.requires.held in let t = c.in-Ok.ensures.claimed in let r : ℕ = c.args.r in let n : ℕ = c.in-Ok.t in let all = c.args.desk.now.records.now in let seat = c.args.seat.now in
-    let at = goal.at.returns-in_default-rest_of-clause-refused g c in let j = read g at.After-rest_of (claimed g at.In-Ok) in
-    (undone seat c.rest_of.new.seat n t.0 j.is c.in-Ok.ensures.fresh c.vacate.new.seat (vacates c.rest_of.new.seat c.vacate.new.seat _ _ _ c.vacate.ensures.vacated), refl)
+    let at = goal.at.returns-in_default-rest_of-clause-refused g c in let j = read g at.After-rest_of (claimed g at.In-Ok) in (
+      one_gone (c.args.r / 256) (λ cs. length cs ≤ 1) c.args.seat.now c.rest_of.new.seat c.vacate.new.seat c.in-Ok.t c.in-Ok.ensures.claimed.0 (omega arith) c.in-Ok.ensures.record.0 j.is
+          c.in-Ok.ensures.fresh (ap bare c.vacate.ensures.vacated.0),
+      refl,
+    )
 
 pub part-requires-clause-own : goal.part-requires-clause-own
 part-requires-clause-own g c =
@@ -62,7 +71,7 @@ returns-clause-cut g c = λ l here.
     subst (λ z. IsCut seat c.part.new.seat r c.args.k z n) (same h.0 l (sym h.1 ∙ here)) cut
 
 pub returns-in_default-clause-why : goal.returns-in_default-clause-why
-returns-in_default-clause-why g c = inl (refl, no_record (c.args.r / 256) _ c.args.seat.now c.claim.new.seat c.in_default.ensures.seen)
+returns-in_default-clause-why g c = inl (refl, full_now (c.args.r / 256) 0 _ c.args.seat.now c.claim.new.seat c.requires.exist c.in_default.ensures.seen c.in_default.ensures.missed)
 
 pub returns-in_default-rest_of-clause-seen : goal.returns-in_default-rest_of-clause-seen
 returns-in_default-rest_of-clause-seen g c =

@@ -1,5 +1,7 @@
-use Rattle.xh_place.proofs.Common.{arith, ◌≡◌, ℕ, refl, sym, ap, ◌∙◌, subst, Some, slice_get, put, value_at, without, IsLotOf, IsRecord, with_lots, End, bare, starts_more, starts_same}
-use Rattle.xh_place.proofs.Gained.{both_gone, both_put, has_first, has_other}
+use Rattle.xh_place.proofs.Common.{arith, ◌≡◌, ◌≤◌, ℕ, [], ◌∷◌, length, refl, sym, ap, ◌∙◌, subst, Some, slice_get, put, value_at, without, IsLotOf, IsRecord, with_lots, End, Vacate, bare}
+use Rattle.xh_place.proofs.Common.{starts_more}
+use Rattle.xh_place.proofs.Common.{starts_same, with_done}
+use Rattle.xh_place.proofs.Gained.{both_put, has_first, has_other, two_claims, two_gone}
 use Rattle.xh_place.proofs.opening.make_ends.Goals as goal
 
 pub fit_ends-fitted-requires-clause-held : goal.fit_ends-fitted-requires-clause-held
@@ -25,7 +27,7 @@ returns-in_default-fitted-clause-made g c =
     let fitted = c.in_default-fitted.ensures.fitted l m (has_first two) (has_other two) in
     let l' = record l { len = 32; body = End c.args.low } in let m' = record m { len = 32; body = End c.args.high } in
     let now = ap bare fitted ∙ ap (λ h. with_lots h (put q m' (put r l' h.lots))) two.lots
-    ∙ ap (with_lots (bare c.args.seat.now)) (both_put lots r q two.first_fresh two.second_fresh two.apart l m l' m') in (
+    ∙ ap (with_lots (bare (with_done (two_claims c.args.seat.now r q) c.args.seat.now))) (both_put lots r q two.first_fresh two.second_fresh two.apart l m l' m') in (
       l',
       m',
       record {
@@ -48,11 +50,19 @@ vacate_two-requires-clause-held g c =
       k.2.second.2,
     )
 
+pub returns-in_default-clause-refused : goal.returns-in_default-clause-refused
+returns-in_default-clause-refused g c = let n = c.in_default.ensures.claimed in (
+  (n.0, omega (arith, n.1.0), n.2, n.3),
+  refl,
+  refl,
+  refl,
+)
+
 pub returns-clause-refused : goal.returns-clause-refused
 returns-clause-refused g c =
-    let k = c.in-Some.ensures.claimed in let r : ℕ = c.in-Some.r in let q : ℕ = c.in-Some.t in let two = k.2.two in let f = c.in-Err.ensures.refused in (
-      c.vacate_two.ensures.free ∙ ap (λ h. with_lots (bare h) (without r (without q h.lots))) f.0 ∙ ap (λ h. with_lots h (without r (without q h.lots))) two.lots
-          ∙ ap (with_lots (bare c.args.seat.now)) (both_gone c.args.seat.now.lots r q two.first_fresh two.second_fresh two.apart k.0 k.1),
+    let k = c.in-Some.ensures.claimed in let r : ℕ = c.in-Some.r in let q : ℕ = c.in-Some.t in let f = c.in-Err.ensures.refused in (
+      two_gone k.2.two c.vacate_two.new.seat (λ cs. length cs ≤ 2) (omega arith)
+          (c.vacate_two.ensures.free ∙ ap (λ h. bare (with_done (Vacate h.process q ∷ Vacate h.process r ∷ []) (with_lots h (without r (without q h.lots))))) f.0),
       f.1,
       f.2,
       f.3,

@@ -1,4 +1,4 @@
-use Rattle.xh_place.proofs.Common.{ap, ◌∙◌, value_at, without, without_other, with_lots, vacates}
+use Rattle.xh_place.proofs.Common.{◌≡◌, [], ◌∷◌, ap, ◌∙◌, bare, did_twice, value_at, Vacate, with_done, with_lots, without, without_other}
 use Rattle.xh_place.proofs.opening.vacate_two.Goals as goal
 
 pub vacate-requires-2-clause-held : goal.vacate-requires-2-clause-held
@@ -7,5 +7,8 @@ vacate-requires-2-clause-held c =
 
 pub returns-clause-free : goal.returns-clause-free
 returns-clause-free c =
-    vacates c.vacate.new.seat c.vacate-2.new.seat _ _ _ c.vacate-2.ensures.vacated
-    ∙ ap (λ h. with_lots h (without c.args.r h.lots)) (vacates c.args.seat.now c.vacate.new.seat _ _ _ c.vacate.ensures.vacated)
+    let seat = c.args.seat.now in let mid = c.vacate.new.seat in let last = c.vacate-2.new.seat in let one = c.vacate.ensures.vacated.0 in
+    let whose : mid.process ≡ seat.process = ap (λ h. h.process) one in
+    did_twice seat mid last (Vacate seat.process c.args.t ∷ []) (Vacate mid.process c.args.r ∷ []) (without c.args.t seat.lots) (without c.args.r mid.lots)
+    (ap bare one) (ap bare c.vacate-2.ensures.vacated.0)
+    ∙ (λ i. with_lots (bare (with_done (Vacate seat.process c.args.t ∷ Vacate (whose i) c.args.r ∷ []) seat)) (without c.args.r (one i).lots))

@@ -18,7 +18,7 @@ returns-clause-taken g c =
     let one = ap (λ l. get_or l 0 0) c.requires.process.0 in (
       t.0,
       t.1,
-      c.turn.ensures.2 ∙ ap (λ m. (m.0, turned m.1)) u.0 ∙ (λ i. (gained me.0 (c.from-at.ensures i) (one i) (holder_of c.args.from) t.1, me.1 ++ (c.from-at.ensures i, Some t.0) ∷ [])),
+      c.turn.ensures.2 ∙ ap (λ m. (m.0, turned m.1)) u.0 ∙ (λ i. (gained me.0 (c.from-at.ensures i) (one i) (holder_of c.args.from) t.0 t.1, me.1 ++ (c.from-at.ensures i, Some t.0) ∷ [])),
       t.2,
       subst (λ k. IsLotAt me.0.shape k t.0) c.from-at.ensures t.4,
       u.1,

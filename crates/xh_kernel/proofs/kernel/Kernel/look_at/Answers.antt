@@ -1,11 +1,11 @@
-use Rattle.xh_kernel.proofs.Common.{ap, refl, rules, starts_itself, stays_itself, ◌∙◌}
+use Rattle.xh_kernel.proofs.Common.{ap, refl, rules, starts_same, stays_itself, ◌∙◌}
 use Rattle.xh_kernel.proofs.Recorded.{stepped}
 use Rattle.xh_kernel.proofs.kernel.Kernel.look_at.Goals as goal
 
 pub note-requires : goal.note-requires
 note-requires g c κs within =
     let held = c.deref_mut-held.result.now in
-    (search rules, (search rules, (search rules, (search rules, (search rules, (held.place, held.place, held.history, stays_itself held.place, (refl, search rules), starts_itself held.place.front))))))
+    (search rules, (search rules, (search rules, (search rules, (search rules, (held.place, held.place, held.history, stays_itself held.place, (refl, search rules), starts_same refl))))))
 
 pub returns : goal.returns
 returns g c =

@@ -1,5 +1,5 @@
-use Rattle.xh_place.proofs.Common.{rules, arith, ◌≡◌, ◌<◌, [], ◌∷◌, ◌++◌, length, refl, sym, ap, ◌∙◌, true, Err, vec_capacity, Event, Accept, is_over, item_of, with_blocks, with_moved, heard}
-use Rattle.xh_place.proofs.Common.{heard_shows, block_small, list_room, total_bound, stays, won, placed, place_saw, block_whole}
+use Rattle.xh_place.proofs.Common.{rules, arith, ◌≡◌, ◌<◌, [], ◌∷◌, ◌++◌, length, refl, sym, ap, ◌∙◌, true, Err, vec_capacity, Event, Accept, is_over, item_of, with_blocks, with_events, heard}
+use Rattle.xh_place.proofs.Common.{carries, carries_shows, carrying, with_moved, heard_shows, block_small, list_room, total_bound, stays, won, placed, place_saw, block_whole}
 use Rattle.xh_place.proofs.place.Place.accept.Goals as goal
 
 pub push_reserved-requires : goal.push_reserved-requires
@@ -12,21 +12,23 @@ overflow_add-self c = let t = c.in_ok-header.ensures.here in omega (arith, total
 pub invariant_of-self-2 : goal.invariant_of-self-2
 invariant_of-self-2 c =
     let t = c.in_ok-header.ensures.here in let alive = λ (e : is_over c.self.inside.state ≡ true). c.requires.alive (ap (λ p. is_over p.state) (sym (placed c.self.view_is)) ∙ e) in
-    (won c.self.inside.list.items (heard (Accept c.self.inside.seat.process c.args.r c.args.direction ∷ []) c.self.invariant) c.accept_block.new.seat t.1 t.2 t.3 alive
+    (won c.self.inside.list.items (heard (Accept c.self.inside.seat.process c.args.r c.args.direction ∷ []) (carries (t.0 ∷ []) c.self.invariant)) c.accept_block.new.seat t.1 t.2 t.3 alive
     c.push_reserved.ensures.items c.push_reserved.ensures.capacity (c.from.ensures ∙ ap (λ z. z.len) t.4)).0
 
 pub returns-clause-here : goal.returns-clause-here
 returns-clause-here c =
     let came : Event = Accept c.self.inside.seat.process c.args.r c.args.direction in let old = c.args.self.now.place in
     let t = c.in_ok-header.ensures.here in let alive = λ (e : is_over c.self.inside.state ≡ true). c.requires.alive (ap (λ p. is_over p.state) (sym (placed c.self.view_is)) ∙ e) in
-    let both = won c.self.inside.list.items (heard (came ∷ []) c.self.invariant) c.accept_block.new.seat t.1 t.2 t.3 alive
+    let both = won c.self.inside.list.items (heard (came ∷ []) (carries (t.0 ∷ []) c.self.invariant)) c.accept_block.new.seat t.1 t.2 t.3 alive
     c.push_reserved.ensures.items c.push_reserved.ensures.capacity (c.from.ensures ∙ ap (λ z. z.len) t.4) in (
       refl,
       (
         item_of t.0,
         sym (ap (λ z. z.len) t.4),
-        both.1 (with_moved old (came ∷ [])) (heard_shows (came ∷ []) c.self.inside.seat refl (placed c.self.view_is))
-            ∙ ap (λ p. with_moved (with_blocks old (old.blocks ++ (c.args.r, item_of t.0) ∷ [])) (Accept p.process c.args.r c.args.direction ∷ [])) (placed c.self.view_is),
+        both.1 (with_events (with_moved old (item_of t.0 ∷ [])) (came ∷ []))
+            (heard_shows (came ∷ []) (carrying (t.0 ∷ []) c.self.inside.seat) (carries_shows (t.0 ∷ []) c.self.inside.seat (placed c.self.view_is)))
+            ∙ ap (λ p. with_moved (with_events (with_blocks old (old.blocks ++ (c.args.r, item_of t.0) ∷ [])) (Accept p.process c.args.r c.args.direction ∷ [])) (item_of t.0 ∷ []))
+            (placed c.self.view_is),
         block_whole t.3,
       ),
     )

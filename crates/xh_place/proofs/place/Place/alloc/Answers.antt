@@ -1,8 +1,13 @@
-use Rattle.xh_place.proofs.Common.{rules, arith, ◌≡◌, ℕ, ◌<◌, [], ◌∷◌, ◌++◌, length, sym, ap, ◌∙◌, subst, vec_capacity, SawFull, Err, None, IfErr, alloc_tests, first_refusal, Tests, start}
-use Rattle.xh_place.proofs.Common.{block_small, list_room, total_bound, over_running, stays, won, placed, untested}
+use Rattle.xh_place.proofs.Common.{rules, arith, ◌≡◌, ℕ, ◌≤◌, ◌<◌, List, [], ◌∷◌, ◌++◌, length, sym, ◌∙◌, subst, vec_capacity, Claim, Event, Err, None, IfErr, FindsFull, SeatFull, alloc_tests}
+use Rattle.xh_place.proofs.Common.{first_refusal, Tests, start, block_small, did_only, finds_full, heard, heard_shows, held_record, let_go, lets_go, list_room, no_block_as, over_running, place_seen}
+use Rattle.xh_place.proofs.Common.{placed, total_bound}
+use Rattle.xh_place.proofs.Common.{untested, with_blocks, with_events, won}
 use Rattle.xh_place.specs.Vaults.{IsNoBlock}
 use Rattle.xh_core.specs.Space.{rounded}
 use Rattle.xh_place.proofs.place.Place.alloc.Goals as goal
+
+pub make_block-requires-clause-exist : goal.make_block-requires-clause-exist
+make_block-requires-clause-exist g c = held_record c.self.invariant
 
 pub push_reserved-requires : goal.push_reserved-requires
 push_reserved-requires g c =
@@ -14,33 +19,45 @@ overflow_add-self g c = let t = c.in_ok-rec.ensures.block in omega (arith, total
 pub invariant_of-self-2 : goal.invariant_of-self-2
 invariant_of-self-2 g c =
     let t = c.in_ok-rec.ensures.block in
-    (won c.self.inside.list.items c.self.invariant c.make_block.new.seat t.1 t.2 t.3 (over_running c.self.inside.state (search rules))
+    (won c.self.inside.list.items (heard (Claim c.self.inside.seat.process c.in_ok-rec.rec ∷ []) c.self.invariant) c.make_block.new.seat t.1 t.2 t.3 (over_running c.self.inside.state (search rules))
     c.push_reserved.ensures.items c.push_reserved.ensures.capacity (c.from-2.ensures ∙ sym t.4)).0
 
 pub returns-clause-made : goal.returns-clause-made
 returns-clause-made g c =
     let t = c.in_ok-rec.ensures.block in
-    let both = won c.self.inside.list.items c.self.invariant c.make_block.new.seat t.1 t.2 t.3 (over_running c.self.inside.state (search rules))
+    let es : List Event = Claim c.self.inside.seat.process c.in_ok-rec.rec ∷ [] in let old = c.args.self.now.place in
+    let both = won c.self.inside.list.items (heard es c.self.invariant) c.make_block.new.seat t.1 t.2 t.3 (over_running c.self.inside.state (search rules))
     c.push_reserved.ensures.items c.push_reserved.ensures.capacity (c.from-2.ensures ∙ sym t.4) in record {
-      made = both.1 c.args.self.now.place (placed c.self.view_is)
-          ∙ ap (λ z. record c.args.self.now.place { blocks = c.args.self.now.place.blocks ++ (c.in_ok-rec.rec, z) ∷ [] }) (λ i. record { len = t.4 i; content = t.5 i });
+      made = both.1 (with_events old es) (heard_shows es c.self.inside.seat (placed c.self.view_is))
+          ∙ (λ i. with_events (with_blocks old (old.blocks ++ (c.in_ok-rec.rec, record { len = t.4 i; content = t.5 i }) ∷ [])) (Claim (placed c.self.view_is i).process c.in_ok-rec.rec ∷ []));
       block = search rules;
       taken = search rules;
       refused = search rules;
     }
 
 pub invariant_of-self : goal.invariant_of-self
-invariant_of-self g c = (stays c.self.inside.list.items c.self.invariant c.make_block.new.seat c.in_err-rec.ensures.refused.0).0
+invariant_of-self g c = let f = c.in_err-rec.ensures.refused.0 in (did_only c.self.inside.list.items c.self.invariant c.make_block.new.seat (let_go c.self.inside.seat.process f.0) f.3).0
+
+pub returns-in_err-rec-clause-made : goal.returns-in_err-rec-clause-made
+returns-in_err-rec-clause-made g c =
+    let f = c.in_err-rec.ensures.refused in let is : c.from_residual-in_err-rec.result ≡ Err c.in_err-rec.field-0.0 = search rules in
+    rw is (record {
+      made = tt;
+      block = tt;
+      taken = tt;
+      refused = (lets_go c.self.inside.list.items c.self.invariant c.make_block.new.seat (λ cs. length cs ≤ 1) c.args.arena c.args.self.now.place (placed c.self.view_is) f.0, f.1);
+    })
 
 pub returns-in_err-rec-clause-why : goal.returns-in_err-rec-clause-why
 returns-in_err-rec-clause-why g c =
-    let vaults = c.args.desk.now.vaults.now in let left = c.make_block.new.desk.vaults.now in let last = c.make_block.new.seat in let old = c.args.self.now in
+    let vaults = c.args.desk.now.vaults.now in let left = c.make_block.new.desk.vaults.now in let seat = c.self.inside.seat in let last = c.make_block.new.seat in let old = c.args.self.now in
+    let rs = c.self.inside.list.items in let new = place_seen last rs c.self.inside.state in
     let arena : ℕ = c.args.arena in let e = c.in_err-rec.field-0.0 in
     let is : c.from_residual-in_err-rec.result ≡ Err e = search rules in
     let tests : Tests = start old.place.state ++ alloc_tests arena (length old.place.shape.names) c.args.n (g.V.Vaults.extent vaults) in
     let passed : first_refusal tests ≡ None = search rules in
-    let saw : IsNoBlock g.V.Vaults.changes vaults left arena c.round_up-len.result (SawFull old.place.shape old.front last.front arena) e =
-    subst (λ p. IsNoBlock g.V.Vaults.changes vaults left arena c.round_up-len.result (SawFull p.place.shape p.front last.front arena) e) c.self.view_is c.in_err-rec.ensures.why in
-    let why = subst (λ k. IsNoBlock g.V.Vaults.changes vaults left arena k (SawFull old.place.shape old.front last.front arena) e) c.round_up-len.ensures.result saw in
-    untested tests (IfErr c.from_residual-in_err-rec.result (IsNoBlock g.V.Vaults.changes vaults left arena (rounded c.args.n) (SawFull old.place.shape old.front last.front arena)))
-    (λ refused. (c.from_residual-in_err-rec.result ≡ Err refused) × (left ≡ vaults)) passed (rw is why)
+    let saw = no_block_as g.V.Vaults.changes vaults left arena c.round_up-len.result (SeatFull 0 seat last arena) (FindsFull 0 old new arena)
+    (finds_full rs c.self.invariant last 0 arena old c.self.view_is) e c.in_err-rec.ensures.why in
+    let why = subst (λ k. IsNoBlock g.V.Vaults.changes vaults left arena k (FindsFull 0 old new arena) e) c.round_up-len.ensures.result saw in
+    untested tests (IfErr c.from_residual-in_err-rec.result (IsNoBlock g.V.Vaults.changes vaults left arena (rounded c.args.n) (FindsFull 0 old new arena)))
+    (λ refused. (c.from_residual-in_err-rec.result ≡ Err refused) × (left ≡ vaults) × (new.place ≡ old.place)) passed (rw is why)

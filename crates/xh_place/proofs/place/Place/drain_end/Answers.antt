@@ -1,4 +1,4 @@
-use Rattle.xh_place.proofs.Common.{◌≡◌, sym, ap, ◌∙◌, subst, refl, Some, value_at, put, put_at, end_block, Clears, header_of, entry_of, with_blocks, IsSeen, drains_as, seen_wide, starts_same}
+use Rattle.xh_place.proofs.Common.{◌≡◌, sym, ap, ◌∙◌, subst, refl, Some, value_at, put, put_at, end_block, Clears, header_of, option_map, with_blocks, IsSeen, drains_as, seen_wide, starts_same}
 use Rattle.xh_place.proofs.Common.{starts_more}
 use Rattle.xh_place.proofs.Drained.{cleared, cleared_bytes}
 use Rattle.xh_place.proofs.place.Place.drain_end.Goals as goal
@@ -19,5 +19,5 @@ returns-clause-cleared g c =
 pub returns-in-Data-clause-cleared : goal.returns-in-Data-clause-cleared
 returns-in-Data-clause-cleared g c =
     let q = c.requires.listed in
-    let both : Some c.look.result ≡ Some (header_of q.0) = c.look.ensures.header ∙ ap entry_of q.1 in let one : c.look.result ≡ header_of q.0 = cc in
+    let both : Some c.look.result ≡ Some (header_of q.0) = c.look.ensures.header ∙ ap (option_map header_of) q.1 in let one : c.look.result ≡ header_of q.0 = cc in
     cleared_bytes (IsSeen c.args.self.now c.look.new.self) c.args.r q.0 c.args.self.now.place c.look.new.self.place q.1 (sym (ap (λ h. h.kind) one) ∙ c.in-Data.is) c.look.ensures.same.0

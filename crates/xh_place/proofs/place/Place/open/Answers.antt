@@ -1,8 +1,13 @@
-use Rattle.xh_place.proofs.Common.{rules, arith, ◌≡◌, ℕ, ◌+◌, ◌<◌, List, [], ◌∷◌, ◌++◌, length, refl, sym, ap, ◌∙◌, subst, vec_capacity, with_blocks, Err, None, IfErr, OnOk, arena_tests}
-use Rattle.xh_place.proofs.Common.{first_refusal, Tests, start, SawFull, list_room, over_running, stays, total_bound, placed, untested}
+use Rattle.xh_place.proofs.Common.{Claim, rules, arith, ◌≡◌, ℕ, ◌+◌, ◌<◌, List, [], ◌∷◌, ◌++◌, length, refl, sym, ap, ◌∙◌, subst, vec_capacity, with_blocks, Err, None, IfErr, OnOk, arena_tests}
+use Rattle.xh_place.proofs.Common.{◌≤◌, Event, FindsFull, SeatFull, did_only, finds_full, first_refusal, held_record, heard_shows, let_go, lets_go, no_pair_as, place_seen, Tests, start, list_room}
+use Rattle.xh_place.proofs.Common.{over_running}
+use Rattle.xh_place.proofs.Common.{total_bound, placed, untested, with_events}
 use Rattle.xh_place.specs.Vaults.{IsNoPair}
 use Rattle.xh_place.proofs.Gained.{both_listed, opened, room_second}
 use Rattle.xh_place.proofs.place.Place.open.Goals as goal
+
+pub make_ends-requires-clause-exist : goal.make_ends-requires-clause-exist
+make_ends-requires-clause-exist g c = held_record c.self.invariant
 
 pub push_reserved-requires : goal.push_reserved-requires
 push_reserved-requires g c =
@@ -30,9 +35,11 @@ pub returns-clause-opened : goal.returns-clause-opened
 returns-clause-opened g c =
     let k = c.in_ok-made.ensures.made in let old = c.args.self.now.place in let rs = c.self.inside.list.items in let alive = over_running c.self.inside.state (search rules) in
     let sum : c.self.inside.total + c.from-2.result ≡ c.self.inside.total + k.0.len + k.1.len = omega (arith, c.from-2.ensures, ap (λ x. x.len) k.3, ap (λ x. x.len) k.4) in
+    let es : ℕ → List Event = λ p. Claim p c.in_ok-made.made.0 ∷ Claim p c.in_ok-made.made.1 ∷ [] in
     let both = opened rs c.self.invariant alive k.2
     (c.push_reserved-2.ensures.items ∙ ap (λ z. z ++ c.in_ok-made.made.1 ∷ []) c.push_reserved.ensures.items) (c.push_reserved-2.ensures.capacity ∙ c.push_reserved.ensures.capacity) sum in (
-      both.1 old (placed c.self.view_is) ∙ (λ i. with_blocks old (old.blocks ++ (c.in_ok-made.made.0, k.3 i) ∷ (c.in_ok-made.made.1, k.4 i) ∷ [])),
+      both.1 (with_events old (es c.self.inside.seat.process)) (heard_shows (es c.self.inside.seat.process) c.self.inside.seat (placed c.self.view_is))
+          ∙ (λ i. with_events (with_blocks old (old.blocks ++ (c.in_ok-made.made.0, k.3 i) ∷ (c.in_ok-made.made.1, k.4 i) ∷ [])) (es (placed c.self.view_is i).process)),
       (refl, k.2.two.first_arena),
       (refl, k.2.two.second_arena),
       c.in_ok-made.ensures.taken,
@@ -40,16 +47,22 @@ returns-clause-opened g c =
     )
 
 pub invariant_of-self : goal.invariant_of-self
-invariant_of-self g c = (stays c.self.inside.list.items c.self.invariant c.make_ends.new.seat c.in_err-made.ensures.refused.0).0
+invariant_of-self g c = let f = c.in_err-made.ensures.refused.0 in (did_only c.self.inside.list.items c.self.invariant c.make_ends.new.seat (let_go c.self.inside.seat.process f.0) f.3).0
+
+pub returns-in_err-made-clause-opened : goal.returns-in_err-made-clause-opened
+returns-in_err-made-clause-opened g c =
+    let f = c.in_err-made.ensures.refused in let is : c.from_residual.result ≡ Err c.in_err-made.field-0.0 = search rules in
+    rw is (f.2, f.3, lets_go c.self.inside.list.items c.self.invariant c.make_ends.new.seat (λ cs. length cs ≤ 2) c.args.arena c.args.self.now.place (placed c.self.view_is) f.0, f.1)
 
 pub returns-in_err-made-clause-why : goal.returns-in_err-made-clause-why
 returns-in_err-made-clause-why g c =
-    let vaults = c.args.desk.now.vaults.now in let left = c.make_ends.new.desk.vaults.now in let last = c.make_ends.new.seat in let old = c.args.self.now in
+    let vaults = c.args.desk.now.vaults.now in let left = c.make_ends.new.desk.vaults.now in let seat = c.self.inside.seat in let last = c.make_ends.new.seat in let old = c.args.self.now in
+    let rs = c.self.inside.list.items in let new = place_seen last rs c.self.inside.state in
     let arena : ℕ = c.args.arena in let u = c.in_err-made.field-0.0 in
     let is : c.from_residual.result ≡ Err u = search rules in
     let tests : Tests = start old.place.state ++ arena_tests arena (length old.place.shape.names) in
     let passed : first_refusal tests ≡ None = search rules in
-    let why = subst (λ p. IsNoPair g.V.Vaults.changes vaults left arena 64 (SawFull p.place.shape p.front last.front arena) (g.V.Vaults.extent vaults) u.why) c.self.view_is
-    c.in_err-made.ensures.why in
-    untested tests (IfErr c.from_residual.result (λ z. IsNoPair g.V.Vaults.changes vaults left arena 64 (SawFull old.place.shape old.front last.front arena) (g.V.Vaults.extent vaults) z.why))
-    (λ refused. IfErr c.from_residual.result (λ z. z.why ≡ refused) × OnOk c.from_residual.result ⊥ × (left ≡ vaults)) passed (rw is why)
+    let why = no_pair_as g.V.Vaults.changes vaults left arena 64 (SeatFull 1 seat last arena) (FindsFull 1 old new arena)
+    (finds_full rs c.self.invariant last 1 arena old c.self.view_is) (g.V.Vaults.extent vaults) u.why c.in_err-made.ensures.why in
+    untested tests (IfErr c.from_residual.result (λ z. IsNoPair g.V.Vaults.changes vaults left arena 64 (FindsFull 1 old new arena) (g.V.Vaults.extent vaults) z.why))
+    (λ refused. IfErr c.from_residual.result (λ z. z.why ≡ refused) × OnOk c.from_residual.result ⊥ × ((left ≡ vaults) × (new.place ≡ old.place))) passed (rw is why)

@@ -1,5 +1,5 @@
-use Rattle.xh_place.proofs.Common.{arith, value_at, end_listed, [], ◌∷◌, refl, ap, ◌∙◌, Event, Pass, without, with_blocks, with_moved, found, own_record, heard, heard_shows, enough, list_distinct}
-use Rattle.xh_place.proofs.Common.{lost, placed, since}
+use Rattle.xh_place.proofs.Common.{arith, value_at, end_listed, [], ◌∷◌, ap, ◌∙◌, Event, Pass, without, with_blocks, with_events, found, own_record, heard, heard_shows, enough, list_distinct}
+use Rattle.xh_place.proofs.Common.{alone, carries, carries_shows, carrying, item_of, lost, placed, since, sym, values, with_moved}
 use Rattle.xh_place.proofs.place.Place.pass_end.Goals as goal
 
 pub pass_block-len-requires : goal.pass_block-len-requires
@@ -19,17 +19,20 @@ overflow_sub-self c =
 pub invariant_of-self : goal.invariant_of-self
 invariant_of-self c =
     let q = end_listed (value_at c.args.r c.args.self.now.place.blocks) c.requires.end in let f = found c.self.invariant (placed c.self.view_is) c.args.r q.1 in
-    (lost c.self.inside.list.items (heard (Pass c.self.inside.seat.process c.args.r c.args.direction ∷ []) c.self.invariant) c.pass_block-len.new.seat c.args.r f.entry c.pass_block-len.ensures.passed
+    (lost c.self.inside.list.items (heard (Pass c.self.inside.seat.process c.args.r c.args.direction ∷ []) (carries (f.lot ∷ []) c.self.invariant)) c.pass_block-len.new.seat c.args.r f.entry
+    (c.pass_block-len.ensures.passed f.lot f.held)
     c.remove.ensures.items c.remove.ensures.room (c.from.ensures ∙ c.pass_block-len.ensures.bytes f.lot f.held ∙ ap (λ z. z.len) f.same)).0
 
 pub returns : goal.returns
 returns c =
     let q = end_listed (value_at c.args.r c.args.self.now.place.blocks) c.requires.end in let f = found c.self.invariant (placed c.self.view_is) c.args.r q.1 in
+    let moved = ap (λ x. x ∷ []) f.same ∙ ap (λ o. values (alone c.args.r o)) (sym q.1) in
     let gone : Event = Pass c.self.inside.seat.process c.args.r c.args.direction in
     let old = c.args.self.now.place in
-    let both = lost c.self.inside.list.items (heard (gone ∷ []) c.self.invariant) c.pass_block-len.new.seat c.args.r f.entry c.pass_block-len.ensures.passed
+    let both = lost c.self.inside.list.items (heard (gone ∷ []) (carries (f.lot ∷ []) c.self.invariant)) c.pass_block-len.new.seat c.args.r f.entry (c.pass_block-len.ensures.passed f.lot f.held)
     c.remove.ensures.items c.remove.ensures.room (c.from.ensures ∙ c.pass_block-len.ensures.bytes f.lot f.held ∙ ap (λ z. z.len) f.same) in (
-      both.1 (with_moved old (gone ∷ [])) (heard_shows (gone ∷ []) c.self.inside.seat refl (placed c.self.view_is))
-          ∙ ap (λ p. with_moved (with_blocks old (without c.args.r old.blocks)) (Pass p.process c.args.r c.args.direction ∷ [])) (placed c.self.view_is),
+      both.1 (with_events (with_moved old (item_of f.lot ∷ [])) (gone ∷ []))
+          (heard_shows (gone ∷ []) (carrying (f.lot ∷ []) c.self.inside.seat) (carries_shows (f.lot ∷ []) c.self.inside.seat (placed c.self.view_is)))
+          ∙ (λ i. with_moved (with_events (with_blocks old (without c.args.r old.blocks)) (Pass (placed c.self.view_is i).process c.args.r c.args.direction ∷ [])) (moved i)),
       since c.self.view_is c.pass_block-len.ensures.seen,
     )

@@ -1,4 +1,4 @@
-use Rattle.xh_place.proofs.Common.{◌≡◌, ◌-◌, ◌*◌, ◌≤◌, length, IsSameDesk, HasGivenBack, IsSweptBy, with_list, IsSeen, SeesMore}
+use Rattle.xh_place.proofs.Common.{StartsWith, ◌≡◌, ◌-◌, ◌*◌, ◌≤◌, length, IsSameDesk, HasGivenBack, IsSweptBy, with_list, IsSeen}
 use Rattle.xh_place.proofs.place.Place.sweep.Given as goal
 
 abbrev pub invariant-loop-used : goal.invariant-loop-used
@@ -6,7 +6,7 @@ invariant-loop-used g l = (l.used ≤ l.budget) × (l.bytes ≤ l.used * 4294967
     × IsSweptBy (IsSeen l.initial.self l.self) l.from l.used l.initial.self.place l.self.place l.bytes
     × (length l.initial.self.place.blocks ≤ l.from → l.self.place.blocks ≡ l.initial.self.place.blocks)
     × IsSameDesk g.V.Vaults.names g.V.Vaults.extent l.initial.desk l.desk × HasGivenBack l.bytes l.initial.desk.tallies.now l.desk.tallies.now
-    × SeesMore l.initial.self l.self
+    × StartsWith l.self.front l.initial.self.front
 
 abbrev pub decreases-loop-used : goal.decreases-loop-used
 decreases-loop-used g l = l.budget - l.used

@@ -1,4 +1,4 @@
-use Rattle.xh_place.proofs.Common.{length, ap, ◌∙◌, with_blocks, found, own_record, placed, starts_same, since, starts_more, same_place, entry_of, on_err_weaker}
+use Rattle.xh_place.proofs.Common.{length, ap, ◌∙◌, with_blocks, found, own_record, placed, starts_same, since, starts_more, same_place, option_map, header_of, on_err_weaker}
 use Rattle.xh_place.proofs.Parted.{overwritten, tested_range}
 use Rattle.xh_place.proofs.place.Place.write.Goals as goal
 
@@ -22,7 +22,7 @@ returns c =
     let p = c.args.self.now.place in let e = w.1.1 p v in
     record {
       place = same_place c.args.self.now _ _ e (starts_more c.args.self.now.front c.in_ok-test_block.ensures.same.1 (since c.self.view_is (starts_same w.4)));
-      written = tested_range p.state _ _ c.args.at (length c.args.bytes.now) c.write_lot.result c.in_ok-test_block.ensures.tested.0 (ap entry_of q.1) f.same w.2
+      written = tested_range p.state _ _ c.args.at (length c.args.bytes.now) c.write_lot.result c.in_ok-test_block.ensures.tested.0 (ap (option_map header_of) q.1) f.same w.2
           (λ _ g. (q.0, q.1, e ∙ ap (λ h. with_blocks p (h p.blocks)) g));
       refused = on_err_weaker c.write_lot.result (λ g. e ∙ ap (λ h. with_blocks p (h p.blocks)) g) w.3;
     }

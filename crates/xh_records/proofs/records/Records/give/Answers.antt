@@ -1,8 +1,8 @@
-use Rattle.xh_records.proofs.Common.{rules, ◌≡◌, ℕ, ◌<◌, List, [], ◌∷◌, ◌++◌, get_or, length, refl, ap, ◌∙◌, subst, Option, get_elem?, some, number_of, place_of, without, Event, holder_of, giving}
-use Rattle.xh_records.proofs.Common.{adds, lost, numbered, Holder, Me, LotOf, View}
+use Rattle.xh_records.proofs.Common.{rules, ◌≡◌, ℕ, ◌<◌, List, [], ◌∷◌, ◌++◌, get_or, length, refl, ap, ◌∙◌, subst, Option, get_elem?, some, number_of, without, Event, holder_of, giving}
+use Rattle.xh_records.proofs.Common.{Deed, Some, in_slot, adds, carried, carry, deeds_in, events, moving, sym, lost, numbered, Holder, Me, LotOf, View}
 use Rattle.xh_records.specs.inner.Steps.{process_in}
-use Rattle.xh_records.proofs.History.{by_place_more}
-use Rattle.xh_records.proofs.Keeps.{giving_is}
+use Rattle.xh_records.proofs.Deeds.{carried_more, events_more}
+use Rattle.xh_records.proofs.History.{adds_one}
 use Rattle.xh_records.proofs.Elements.{in_range}
 use Rattle.xh_records.proofs.Seating.{loses, is_alone, seat_is}
 use Rattle.xh_records.proofs.Numbered.{without_numbered, lost_by, held_as}
@@ -11,13 +11,13 @@ use Rattle.xh_records.proofs.records.Records.give.Given.{Over}
 use Rattle.xh_records.proofs.records.Records.give.Goals.{After-as_slice, After-give_slot-k}
 use Rattle.xh_records.proofs.records.Records.give.Goals as goal
 
-abbrev Is : {B : Type 0} → Me (Option (LotOf B)) View → Me (Option (LotOf B)) View → Type 0
+abbrev Is : {B : Type 0} → Me (Option (LotOf B)) (View B) → Me (Option (LotOf B)) (View B) → Type 0
 Is x y = x ≡ y
 
 -- the process of a seat's view is the seat's
-who : {B : Type 0} {p : ℕ} (me : Me (Option (LotOf B)) View) (slot : ℕ) (h : Option Holder) (others : List Event) → me.0.processes ≡ p ∷ []
-    → Is (lost me.0 slot (process_in me.0) h others, without slot me.1) (lost me.0 slot p h others, without slot me.1)
-who me slot h others mine = ap (λ l. (lost me.0 slot (get_or l 0 0) h others, without slot me.1)) mine
+who : {B : Type 0} {p : ℕ} (me : Me (Option (LotOf B)) (View B)) (slot : ℕ) (h : Option Holder) (l : LotOf B) (others : List Event) → me.0.processes ≡ p ∷ []
+    → Is (lost me.0 slot (process_in me.0) h l others, without slot me.1) (lost me.0 slot p h l others, without slot me.1)
+who me slot h l others mine = ap (λ z. (lost me.0 slot (get_or z 0 0) h l others, without slot me.1)) mine
 
 -- where the lot is, and where its slot stands
 lent : (g : Over) (c : After-as_slice g) → Lent c.args.seat.now _ _ _ c.seat.inside.token.me c.seat.view_is _ _ _ c.seat.invariant c.slot_of-slot.result c.args.number c.requires.held.0
@@ -44,23 +44,35 @@ remove-requires g c =
     (place g (goal.at.remove-requires g c).After-give_slot-k) in
     search rules
 
+-- the seat's view and list afterwards
+now : (g : Over) (c : After-give_slot-k g) → in_slot c.slot_of-slot.result c.seat.inside.token.me.1 ≡ Some c.requires.held.0 → Is c.give_slot-k.new.token.me (
+  lost c.seat.inside.token.me.0 c.slot_of-slot.result c.seat.inside.process (holder_of c.args.to) c.requires.held.0 c.give_slot-k.ensures.given.0,
+  without c.slot_of-slot.result c.seat.inside.token.me.1,
+)
+now g c has = c.give_slot-k.ensures.given.2 c.requires.held.0 has
+    ∙ who c.seat.inside.token.me c.slot_of-slot.result (holder_of c.args.to) c.requires.held.0 c.give_slot-k.ensures.given.0 c.seat.invariant.processes
+
 pub invariant_of-seat : goal.invariant_of-seat
 invariant_of-seat g c =
-    seat_is _ _ _ _ _ _ _ _ _ _ refl c.remove.ensures.items c.remove.ensures.capacity (ap (λ z. z.slots) c.give_slot-k.ensures.token.0)
-    (c.give_slot-k.ensures.given.2 ∙ who c.seat.inside.token.me c.slot_of-slot.result (holder_of c.args.to) c.give_slot-k.ensures.given.0 c.seat.invariant.processes)
-    (loses _ _ _ _ c.seat.inside.token.me c.give_slot-k.result c.slot_of-slot.result (holder_of c.args.to) c.give_slot-k.ensures.given.0 c.seat.invariant
-    (place g (goal.at.invariant_of-seat g c).After-give_slot-k))
+    let at = (goal.at.invariant_of-seat g c).After-give_slot-k in let has = (lent g (goal.at.invariant_of-seat g c).After-as_slice).reach.has in
+    seat_is _ _ _ _ _ _ _ _ _ _ refl c.remove.ensures.items c.remove.ensures.capacity (ap (λ z. z.slots) c.give_slot-k.ensures.token.0) (now g at has)
+    (loses _ _ _ _ c.seat.inside.token.me c.give_slot-k.result c.slot_of-slot.result (holder_of c.args.to) c.requires.held.0 c.give_slot-k.ensures.given.0 c.seat.invariant (place g at))
 
 pub returns : goal.returns
-returns g c =
+returns g c = λ l has.
     let slot : ℕ = c.slot_of-slot.result in
     let x = c.args.seat.now in let me = c.seat.inside.token.me in let last = c.give_slot-k.ensures.token in
     let number : number_of me.0.shape.records slot ≡ c.args.number = (lent g (goal.at.returns g c).After-as_slice).number in
     let h = holder_of c.args.to in
     let given = c.give_slot-k.ensures.given in let e = giving x.process c.args.number h in
     let whose = ap (λ z. z.process) c.seat.view_is in
-    let now = given.2 ∙ who me slot h given.0 c.seat.invariant.processes in
-    lost_by x _ x.process c.args.number h (held_as x _ _ _ me c.seat.view_is _ _ _ c.seat.invariant _ _ c.give_slot-k.new.token.me _ given.0 (e ∷ []) _ last.0 last.1 (ap (λ m. m.0.shape) now)
-    (ap (λ m. numbered m.0.shape.records m.1) now ∙ without_numbered me.0.shape c.seat.invariant.small me.1 slot c.seat.invariant.lots ∙ (λ i. without (number i) (c.seat.view_is i).lots))
-    (ap (λ m. m.0.fronts) now ∙ (λ i. adds (given.0 ++ giving (whose i) (number i) h ∷ []) me.0.fronts)) given.1
-    (by_place_more (place_of x.process) [] e (ap place_of (giving_is x.process c.args.number h c.requires.away.0).3)) refl)
+    let is = now g (goal.at.returns g c).After-give_slot-k (lent g (goal.at.returns g c).After-as_slice).reach.has in
+    let d : Deed g.row.B.Denot = (giving c.seat.inside.process (number_of me.0.shape.records slot) h, c.requires.held.0) in
+    let deeds = ap (λ m. deeds_in m.0) is ∙ (adds_one (d ∷ []) _ me.0.deeds c.seat.invariant.deeds).0 in
+    let same : c.requires.held.0 ≡ l = (let e : Some c.requires.held.0 ≡ Some l = sym c.requires.held.1 ∙ has in cc) in
+    lost_by (moving e l x) _ x.process c.args.number h (held_as x _ _ _ me c.seat.view_is _ _ _ c.seat.invariant _ _ c.give_slot-k.new.token.me _ given.0 (e ∷ []) _ _ last.0 last.1
+    (ap (λ m. m.0.shape) is)
+    (ap (λ m. numbered m.0.shape.records m.1) is ∙ without_numbered me.0.shape c.seat.invariant.small me.1 slot c.seat.invariant.lots ∙ (λ i. without (number i) (c.seat.view_is i).lots))
+    (ap (λ m. m.0.fronts) is ∙ (λ i. adds (given.0 ++ giving (whose i) (number i) h ∷ []) me.0.fronts)) given.1
+    (ap events deeds ∙ events_more (deeds_in me.0) d ∙ (λ i. (c.seat.view_is i).done ++ giving (whose i) (number i) h ∷ []))
+    (ap carried deeds ∙ carried_more (deeds_in me.0) d ∙ (λ i. carry (giving (whose i) (number i) h) (same i) (c.seat.view_is i).moved)))

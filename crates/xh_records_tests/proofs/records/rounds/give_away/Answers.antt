@@ -1,9 +1,9 @@
 use Rattle.xh_arena.specs.Views.{LotOf}
 use Rattle.xh_model.specs.declared.event.Event.TheVariants.{Claim}
-use Rattle.xh_records.specs.Seats.{Held, did, seen, with_lots}
+use Rattle.xh_records.specs.Seats.{Held, did, with_lots}
 use Rattle.xh_records_tests.specs.declared.records.Any.{Any}
-use Rattle.std.proofs.Common.{arith, ◌≡◌, ◌∷◌, [], ◌∙◌, ap, refl}
-use Rattle.xh_records_tests.proofs.OneLot.{gains_one, has_one, changes_one, loses_one, still_of}
+use Rattle.std.proofs.Common.{arith, ◌≡◌, ◌∷◌, ◌++◌, [], ◌∙◌, ap, refl}
+use Rattle.xh_records_tests.proofs.OneLot.{gains_one, has_one, changes_one, loses_one, seen, still_of}
 use Rattle.xh_records_tests.proofs.records.rounds.give_away.Given.{Over}
 use Rattle.xh_records_tests.proofs.records.rounds.give_away.Goals.{In-Some}
 use Rattle.xh_records_tests.proofs.records.rounds.give_away.Goals as goal
@@ -34,5 +34,7 @@ pass-requires-clause-held g c =
 pub returns-clause-seat : goal.returns-clause-seat
 returns-clause-seat g c =
     let s = (goal.at.returns-clause-seat g c).In-Some in
-    let none = loses_one (claimed g s) _ _ c.in-Ok.number (lot g s) (lot g s) _ (carved g s) c.pass.ensures.passed.0 in
+    let carry : Held Any → Held Any = λ h. record h { moved = h.moved ++ lot g s ∷ [] } in
+    let passed = c.pass.ensures.passed (lot g s) (has_one (claimed g s) _ (claimed g s) c.in-Ok.number (lot g s) (lot g s) (carved g s)) in
+    let none = loses_one (carry (claimed g s)) (carry c.carve_at.new.seat) c.pass.new.seat c.in-Ok.number (lot g s) (lot g s) _ (ap carry (carved g s)) passed.0 in
     (ap (λ h. h.table) none, ap (λ h. h.shape) none, ap (λ h. h.process) none, ap (λ h. h.lots) none)

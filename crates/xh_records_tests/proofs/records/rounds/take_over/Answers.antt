@@ -1,11 +1,11 @@
-use Rattle.std.proofs.Common.{◌≡◌, ◌∷◌, [], ◌∙◌, ap, refl}
+use Rattle.std.proofs.Common.{◌≡◌, ◌∷◌, ◌++◌, [], ◌∙◌, ap, refl}
 use Rattle.xh_arena.specs.Views.{LotOf}
 use Rattle.xh_model.specs.Keyed.{without}
 use Rattle.xh_model.specs.declared.event.Event.{Event}
 use Rattle.xh_model.specs.declared.event.Event.TheVariants.{Accept, Vacate}
-use Rattle.xh_records.specs.Seats.{Held, IsSeatOf, did, seen, with_lots}
+use Rattle.xh_records.specs.Seats.{Held, IsSeatOf, did, with_lots}
 use Rattle.xh_records_tests.specs.declared.records.Any.{Any}
-use Rattle.xh_records_tests.proofs.OneLot.{gains_one, has_one, changes_one, loses_one, still_of}
+use Rattle.xh_records_tests.proofs.OneLot.{gains_one, has_one, changes_one, loses_one, seen, still_of}
 use Rattle.xh_records_tests.proofs.records.rounds.take_over.Given.{Over}
 use Rattle.xh_records_tests.proofs.records.rounds.take_over.Goals.{After-give_back_at}
 use Rattle.xh_records_tests.proofs.records.rounds.take_over.Goals as goal
@@ -13,7 +13,7 @@ use Rattle.xh_records_tests.proofs.records.rounds.take_over.Goals as goal
 -- the seat once the record is accepted and its bytes are given back
 module _ (g : Over) (c : After-give_back_at g) where
   abbrev accepted : Held Any
-  accepted = seen c.assert_word.new.seat.front (did (Accept c.miss.new.seat.process 0 5) c.miss.new.seat)
+  accepted = seen c.assert_word.new.seat.front (did (Accept c.miss.new.seat.process 0 5) (record c.miss.new.seat { moved = c.miss.new.seat.moved ++ c.in-Ok.ensures.accepted.0 ∷ [] }))
 
   abbrev lot : LotOf Any
   lot = record c.in-Ok.ensures.accepted.0 { len = 0 }
