@@ -42,6 +42,6 @@ pub use Rattle.xh_place.specs.{Seen.PlaceSeen, Tallies.ids_of, Tallies.took, dec
 pub use Rattle.xh_place.specs.Places.{IsPlaceOf, Item, Lists, PlaceOf, item_of, line, line_in, total_of}
 pub use Rattle.xh_records.proofs.{Elements.elem_slice, Elements.in_range, Elements.is_there, Elements.slice_elem, Keeps.never, Keeps.one_holder, Keeps.same_place}
 pub use Rattle.xh_records.specs.{Deeds.Deed, Deeds.IsLeft, Deeds.carried, Deeds.deeds_by, Deeds.events}
-pub use Rattle.xh_records.specs.{History.LeadsTo, History.StartsWith, History.all_free, History.by_place, Showing.IsLotAt, Showing.IsSmall, declared.shape.Shape.Shape}
+pub use Rattle.xh_records.specs.{History.LeadsTo, History.StartsWith, History.all_free, Showing.IsLotAt, Showing.IsSmall, declared.shape.Shape.Shape}
 pub use Rattle.xh_records.specs.Seats.{Ends, Held, IsSeatOf, RecordsOf, lot_in}
 pub use mathlib.Core.Logic.{dite, ∥∥₁_elim}

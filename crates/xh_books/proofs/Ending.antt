@@ -1,5 +1,5 @@
 -- The places' seats and lines, one place after the other.
-use Rattle.xh_books.proofs.Common.{AreSeats, Body, Event, Held, IsSeatOfPlace, Item, List, Lists, None, Option, PlaceLine, PlaceOf, PlaceSeen, Some, Status, [], all_zipped_more, ap, append_assoc}
+use Rattle.xh_books.proofs.Common.{AreSeats, Body, Deed, Held, IsSeatOfPlace, Item, List, Lists, None, Option, PlaceLine, PlaceOf, PlaceSeen, Some, Status, [], all_zipped_more, ap, append_assoc}
 use Rattle.xh_books.proofs.Common.{arith, bytes_owned, common_steps, cons_option, filter_map-append, is_over, length, line, line_in, map, map-append, place_lines, refl, subst, sum_by}
 use Rattle.xh_books.proofs.Common.{sum_by-append, sum_by-cons, sym, total_of, true, value_at, value_here, ℕ, ◌++◌, ◌+◌, ◌∙◌, ◌∷◌, ◌≡◌, ◌≤◌}
 
@@ -49,9 +49,9 @@ FrontsSoFar all rest seats = map (λ x. x.front) seats ++ map (λ p. p.front) re
 pub fronts_more : (all now_ rest : List PlaceSeen) (p : PlaceSeen) (seats seats' : List (Held Body)) (x : Held Body) → FrontsSoFar all now_ seats → now_ ≡ p ∷ rest → x.front ≡ p.front
     → seats' ≡ seats ++ x ∷ [] → FrontsSoFar all rest seats'
 fronts_more all now_ rest p seats seats' x was next same more =
-    let f : Held Body → List Event = λ y. y.front in let g : PlaceSeen → List Event = λ q. q.front in
-    ap (λ (ys : List (Held Body)). map f ys ++ map g rest) more ∙ ap (λ (l : List (List Event)). l ++ map g rest) (map-append f seats (x ∷ [])) ∙ append_assoc (map f seats) (x.front ∷ []) (map g rest)
-    ∙ ap (λ (l : List Event). map f seats ++ l ∷ map g rest) same ∙ ap (λ (qs : List PlaceSeen). map f seats ++ map g qs) (sym next) ∙ was
+    let f : Held Body → List (Deed Body) = λ y. y.front in let g : PlaceSeen → List (Deed Body) = λ q. q.front in
+    ap (λ (ys : List (Held Body)). map f ys ++ map g rest) more ∙ ap (λ (l : List (List (Deed Body))). l ++ map g rest) (map-append f seats (x ∷ [])) ∙ append_assoc (map f seats) (x.front ∷ []) (map g rest)
+    ∙ ap (λ (l : List (Deed Body)). map f seats ++ l ∷ map g rest) same ∙ ap (λ (qs : List PlaceSeen). map f seats ++ map g qs) (sym next) ∙ was
 
 pub one_more : (lines lines' : List PlaceLine) (o : Option PlaceLine) → lines' ≡ lines ++ cons_option o [] → length lines' ≤ length lines + 1
 one_more lines lines' o e = grind (arith, common_steps, e)

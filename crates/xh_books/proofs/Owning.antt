@@ -1,11 +1,11 @@
 -- What the places list is what the closed table's lots have, each once.
-use Rattle.xh_books.proofs.Common.{All, AllZip-left, AllZip-right, AreAt, AreFlightLines, AreFronts, AreSeats, Body, Bool, Direction, Ends, Event, FlightLine, Held, Holder, IsHeldBy, IsHolder}
+use Rattle.xh_books.proofs.Common.{All, AllZip-left, AllZip-right, AreAt, AreFlightLines, AreFronts, AreSeats, Body, Bool, Direction, Ends, FlightLine, Held, Holder, IsHeldBy, IsHolder}
 use Rattle.xh_books.proofs.Common.{IsInFlight, IsLotAt, IsPlaceOf, IsSeatOf, IsSeatOfPlace, IsSomeAnd, Item, List, LotOf, MatchOption-at_some, None, Option, PlaceOf, PlaceSeen, Process, RecordsOf}
-use Rattle.xh_books.proofs.Common.{Shape, Some, Stands, StartsWith, TellFlight, ap, arena_of_number, arith, below_get, by_place, bytes_in_flight, bytes_owned, elem_slice, false}
+use Rattle.xh_books.proofs.Common.{Shape, Some, Stands, StartsWith, TellFlight, ap, arena_of_number, arith, below_get, bytes_in_flight, bytes_owned, elem_slice, false}
 use Rattle.xh_books.proofs.Common.{false_from_ne_true, flight_lines, get_or, get_or_from_slice_get, in_range, index_back, index_of, is_listed, is_there, item_of, length, length-map, lens_of}
 use Rattle.xh_books.proofs.Common.{lot_in, map, mod-lt, never, number_back, number_of, one_holder, option_map, place_of, place_of_number, places_of, refl, same_Some, same_place, slice_elem}
 use Rattle.xh_books.proofs.Common.{slice_get, slice_get-map, subst, sum, sym, there, value_at, word_of, zip, ℕ, ◌%◌, ◌+◌, ◌<◌, ◌∙◌, ◌≡◌, ◌≤◌}
-use Rattle.xh_books.proofs.Common.{IsLeft, IsPart, carried, deeds_by, events}
+use Rattle.xh_books.proofs.Common.{Deed, IsLeft, IsPart, carried, deeds_by, events}
 use Rattle.xh_books.proofs.Audited.{len_at}
 use Rattle.xh_books.proofs.FlightLines.{all_full, are_lines, flying_is}
 use Rattle.xh_books.proofs.Flying.{ListsAt, all_lists, listed_at}
@@ -140,7 +140,7 @@ module _ (fits : Body → ℕ → Bool) (all : RecordsOf) (seats : List (Held Bo
   parts : All (IsPart ends.log) ps
   parts j d below =
       let p : PlaceOf = get_or ps j d in let s = seat_at seats ps j p are (there ps j d below) in (
-        sym s.2.events.0 ∙ ends.parts j s.0 s.1 ∙ ap (λ (z : ℕ). by_place (place_of z) (events ends.log)) s.2.same.2,
+        sym s.2.events.0 ∙ ends.parts j s.0 s.1 ∙ ap (λ (z : ℕ). events (deeds_by (place_of z) ends.log)) s.2.same.2,
         sym s.2.events.1 ∙ ap (map item_of) (ends.moved j s.0 s.1) ∙ ap (λ (z : ℕ). map item_of (carried (deeds_by (place_of z) ends.log))) s.2.same.2,
       )
 
@@ -156,13 +156,13 @@ module _ (fits : Body → ℕ → Bool) (all : RecordsOf) (seats : List (Held Bo
   long = sym (length-map lots (λ (l : LotOf Body). l.len) ∙ ends.lots_long)
 
   -- and each has seen a beginning of it
-  seen : AreFronts seats places → All (λ p. StartsWith (events ends.log) p.front) places
+  seen : AreFronts seats places → All (λ p. StartsWith ends.log p.front) places
   seen fronts j d below =
       let p : PlaceSeen = get_or places j d in let at = there places j d below in
       let s = seat_at seats ps j p.place are (slice_get-map (λ (q : PlaceSeen). q.place) places j ∙ ap (option_map (λ (q : PlaceSeen). q.place)) at) in
       let same : s.0.front ≡ p.front = same_Some s.0.front p.front (ap (option_map (λ (x : Held Body). x.front)) (sym s.1) ∙ sym (slice_get-map (λ (x : Held Body). x.front) seats j)
-      ∙ ap (λ (l : List (List Event)). slice_get l j) fronts ∙ slice_get-map (λ (q : PlaceSeen). q.front) places j ∙ ap (option_map (λ (q : PlaceSeen). q.front)) at) in
-      subst (StartsWith (events ends.log)) same (ends.fronts j s.0 s.1)
+      ∙ ap (λ (l : List (List (Deed Body))). slice_get l j) fronts ∙ slice_get-map (λ (q : PlaceSeen). q.front) places j ∙ ap (option_map (λ (q : PlaceSeen). q.front)) at) in
+      subst (StartsWith ends.log) same (ends.fronts j s.0 s.1)
 
   in_flight : AreFronts seats places → (lines : List FlightLine) → lines ≡ flight_lines (zip words (lens_of lots)) → IsInFlight all.shape places (lens_of lots) lines
   in_flight fronts lines e = record {

@@ -15,7 +15,7 @@ use Rattle.xh_place.specs.Seen.{PlaceSeen}
 use Rattle.xh_records.specs.declared.shape.Shape.{Shape}
 use Rattle.xh_arena.specs.Views.{LotOf}
 use Rattle.xh_records.specs.Deeds.{Arrives, Deed, IsLeft, carried, deeds_by, events}
-use Rattle.xh_records.specs.History.{LeadsTo, StartsWith, all_free, by_place, process_of}
+use Rattle.xh_records.specs.History.{LeadsTo, StartsWith, all_free, process_of}
 use Rattle.xh_books.specs.Ledgers.{is_listed}
 
 -- ---- the lines, of all records, each given by the word of its holder and its length
@@ -43,16 +43,16 @@ Stands places r n (Some (Direction d)) = (0 < n) × (is_listed r places ≡ fals
 
 -- a place's events are its part of the log, and what left and came by them is what the log has beside each
 abbrev pub IsPart : List (Deed Body) → PlaceOf → Type 0
-IsPart log p = (p.events ≡ by_place (place_of p.process) (events log)) × (p.moved ≡ map item_of (carried (deeds_by (place_of p.process) log)))
+IsPart log p = (p.events ≡ events (deeds_by (place_of p.process) log)) × (p.moved ≡ map item_of (carried (deeds_by (place_of p.process) log)))
 
--- These lines are what is in flight, of records that have these lengths. There is one log of all record events, each by a process of these places, of which each place's events are its part,
+-- These lines are what is in flight, of records that have these lengths. There is one log of all deeds on records, each by a process of these places, of which each place's events are its part,
 -- and of which each place has seen a beginning. It leads from where all records are free to the owners by which each record stands where it does, and the lines are those of these owners.
 -- What arrives is what was given: whatever was accepted, or is in flight, is as the last pass of its record left it. It is quiet: whatever a process or a direction has has bytes.
 pub record IsInFlight (s : Shape) (places : List PlaceSeen) (lengths : List ℕ) (lines : List FlightLine) : Type 0 where
   pub log : List (Deed Body)
   pub theirs : (e : Event) → Among (events log) e → place_of (process_of e) < s.places
   pub parts : All (IsPart log) (places_of places)
-  pub seen : All (λ p. StartsWith (events log) p.front) places
+  pub seen : All (λ p. StartsWith log p.front) places
   pub owners : Ownership
   pub count : length owners ≡ length lengths
   pub leads : LeadsTo s.records (all_free (length owners)) (events log) owners

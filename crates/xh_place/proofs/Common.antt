@@ -16,7 +16,8 @@ pub use Rattle.xh_place.proofs.Found.{all_found, end_listed, entry_some, found, 
 pub use Rattle.xh_place.proofs.Listing.{among_get, distinct_unless, get_at, key_at, keys_without, lens_none, less_absent, removed_number, shown_keys, shown_long, total_without}
 pub use Rattle.xh_place.proofs.Events.{carries, carries_shows, did_none, did_only, did_twice, finds_full, full_since, heard, heard_shows, lets_go, lets_none, more_twice, moved_twice, picked_items}
 pub use Rattle.xh_place.proofs.Events.{there_and_back, with_moved}
-pub use Rattle.xh_place.proofs.Seeing.{advanced, all_got_as, away_as, clears_as, drains_as, fronted, full_wide, got_as, looked, place_gone, place_saw, placed, saw_later}
+pub use Rattle.xh_place.specs.Seen.{Arrived}
+pub use Rattle.xh_place.proofs.Seeing.{advanced, arrived_last, arrived_wide, place_arrived, all_got_as, away_as, clears_as, drains_as, fronted, full_wide, got_as, looked, place_gone, place_saw, placed, saw_later}
 pub use Rattle.xh_place.proofs.Seeing.{came_before, came_last, saw_wide, came_more, seen_wide, since, no_block_as, no_pair_as, starts_more, starts_same, swept_as, swept_by_as, word_wide, one_more}
 pub use Rattle.xh_place.proofs.Steps.{IsNow, place_seen, block_small, count_room, enough, held_is, held_record, holds_nothing, list_distinct, list_few, list_room, listed, lost, over_running, stays}
 pub use Rattle.xh_place.proofs.Steps.{total_bound}

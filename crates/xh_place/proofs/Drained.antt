@@ -1,4 +1,6 @@
 -- An endpoint of a place that takes one message after another.
+use Rattle.xh_place.specs.Seen.{Sight, brings}
+use Rattle.xh_place.proofs.Words.{away_in}
 use Rattle.xh_place.proofs.Words.{on_err_weaker, ◌≡◌, ℕ, ◌≤◌, inl, inr, List, [], ◌∷◌, ◌++◌, append_assoc, append-nil, length, refl, sym, ap, ◌∙◌, subst, Some, None, Option, Ok, Err, Result}
 use Rattle.xh_place.proofs.Words.{MatchResult, map-append, Message, Posted, Refused, put, value_at, front_at, put_at, put_same, put_twice, Content, bytes, endpoint, kind_of, toward, Taken, AreGot}
 use Rattle.xh_place.proofs.Words.{AreUnpacked, EndsWith, IsDrained, Shuts, Takes, TakesEach, blocks_of, record_of, EndDoes, end_block, toward_in, Clears, Drains, IsUntaken, Unpacks, IsSent}
@@ -70,23 +72,23 @@ blocks_more [] m = append-nil m.blocks.items
 blocks_more (n ∷ ms) m = ap (λ (l : List ℕ). n.blocks.items ++ l) (blocks_more ms m) ∙ sym (append_assoc n.blocks.items (blocks_of ms) m.blocks.items)
 
 -- until now the endpoint took these messages, and what came with them is at the end of the list
-abbrev pub Draining : (ℕ → ℕ → Type 0) → ℕ → List Message → PlaceOf → PlaceOf → Type 0
+abbrev pub Draining : (ℕ → Sight → Type 0) → ℕ → List Message → PlaceOf → PlaceOf → Type 0
 Draining saw e ms old new = (mid : PlaceOf) × (ys : List (ℕ × Item)) × EndDoes e old mid (TakesEach ms) × AreUnpacked saw (toward_in (value_at e old.blocks)) ms ys
     × (new ≡ with_more (toward_in (value_at e old.blocks)) ys mid)
 
-pub draining_none : (saw : ℕ → ℕ → Type 0) (e : ℕ) (p : Posted) (old : PlaceOf) → value_at e old.blocks ≡ Some (end_block p) → put e (end_block p) old.blocks ≡ old.blocks → Draining saw e [] old old
+pub draining_none : (saw : ℕ → Sight → Type 0) (e : ℕ) (p : Posted) (old : PlaceOf) → value_at e old.blocks ≡ Some (end_block p) → put e (end_block p) old.blocks ≡ old.blocks → Draining saw e [] old old
 draining_none saw e p old at same =
     (old, [], (p, p, at, ap (with_blocks old) (sym same), refl), ([], refl, refl), more_none (toward_in (value_at e old.blocks)) old)
 
 -- the looks are looks in another sense
-pub draining_as : (P Q : ℕ → ℕ → Type 0) → ((r word : ℕ) → P r word → Q r word) → (e : ℕ) (ms : List Message) (old new : PlaceOf) → Draining P e ms old new → Draining Q e ms old new
+pub draining_as : (P Q : ℕ → Sight → Type 0) → ((r : ℕ) (s : Sight) → P r s → Q r s) → (e : ℕ) (ms : List Message) (old new : PlaceOf) → Draining P e ms old new → Draining Q e ms old new
 draining_as P Q f e ms old new is = (is.0, is.1, is.2, unpacked_as P Q f (toward_in (value_at e old.blocks)) ms is.1 is.3, is.4)
 
 -- the endpoint took a message, and its blocks came
-abbrev pub TakesOne : (ℕ → ℕ → Type 0) → ℕ → PlaceOf → PlaceOf → Taken → Type 0
+abbrev pub TakesOne : (ℕ → Sight → Type 0) → ℕ → PlaceOf → PlaceOf → Taken → Type 0
 TakesOne saw e old new taken = (mid : PlaceOf) × (m : Message) × EndDoes e old mid (Takes (Ok m)) × Unpacks saw (toward_in (value_at e old.blocks)) m mid new taken
 
-pub takes_as : (P Q : ℕ → ℕ → Type 0) → ((r word : ℕ) → P r word → Q r word) → (e : ℕ) (old new : PlaceOf) (taken : Taken) → TakesOne P e old new taken → TakesOne Q e old new taken
+pub takes_as : (P Q : ℕ → Sight → Type 0) → ((r : ℕ) (s : Sight) → P r s → Q r s) → (e : ℕ) (old new : PlaceOf) (taken : Taken) → TakesOne P e old new taken → TakesOne Q e old new taken
 takes_as P Q f e old new taken t = let u = t.3 in (
   t.0,
   t.1,
@@ -101,7 +103,7 @@ takes_as P Q f e old new taken t = let u = t.3 in (
   },
 )
 
-module _ (saw : ℕ → ℕ → Type 0) (e : ℕ) (ms : List Message) (old mid : PlaceOf) (is : Draining saw e ms old mid) where
+module _ (saw : ℕ → Sight → Type 0) (e : ℕ) (ms : List Message) (old mid : PlaceOf) (is : Draining saw e ms old mid) where
   abbrev d : ℕ
   d = toward_in (value_at e old.blocks)
 
@@ -157,7 +159,7 @@ module _ (saw : ℕ → ℕ → Type 0) (e : ℕ) (ms : List Message) (old mid :
   drained_all all = (is.0, is.1, ms, (before, after, is.2.2, is.2.3, (after, is.2.4, inr (all, refl, each_many ms before after is.2.4 all))), is.3, is.4)
 
 -- it was shut before
-pub cleared : (saw : ℕ → ℕ → Type 0) (r : ℕ) (old mid new : PlaceOf) → EndDoes r old mid Shuts → Drains saw r mid new → Clears saw r old new
+pub cleared : (saw : ℕ → Sight → Type 0) (r : ℕ) (old mid new : PlaceOf) → EndDoes r old mid Shuts → Drains saw r mid new → Clears saw r old new
 cleared saw r old mid new shut drain =
     let p : Posted = shut.0 in let s : Posted = shut.1 in let does = drain.3 in let q : Posted = does.1 in let ms : List Message = drain.2 in
     let at : value_at r mid.blocks ≡ Some (end_block s) = ap (λ (z : PlaceOf). value_at r z.blocks) shut.3 ∙ put_at r (end_block s) (end_block p) old.blocks shut.2 in
@@ -176,7 +178,7 @@ cleared saw r old mid new shut drain =
     )
 
 -- nothing came with bytes
-pub cleared_bytes : (saw : ℕ → ℕ → Type 0) (r : ℕ) (x : Item) (old new : PlaceOf) → value_at r old.blocks ≡ Some x → kind_of x.content ≡ kind.Data → new ≡ old → Clears saw r old new
+pub cleared_bytes : (saw : ℕ → Sight → Type 0) (r : ℕ) (x : Item) (old new : PlaceOf) → value_at r old.blocks ≡ Some x → kind_of x.content ≡ kind.Data → new ≡ old → Clears saw r old new
 cleared_bytes saw r x old new at plain same = (
   x,
   x,
@@ -195,7 +197,7 @@ cleared_bytes saw r x old new at plain same = (
 pub taken_from : (e : ℕ) (old mid new : PlaceSeen) (result : Result Taken Refused) → Stays old mid → MatchResult result (IsTaken e mid new) (IsUntaken e mid.place new.place)
     → MatchResult result (IsTaken e old new) (IsUntaken e old.place new.place)
 taken_from e old mid new (Ok taken) same is = subst (λ (p : PlaceOf). TakesOne (IsSeen old new) e p new.place taken) same.0
-    (takes_as (IsSeen mid new) (IsSeen old new) (seen_wide mid new old new (ap (λ (p : PlaceOf). p.shape) same.0) same.1 (starts_same refl)) e mid.place new.place taken is)
+    (takes_as (IsSeen mid new) (IsSeen old new) (seen_wide mid new old new (ap (λ (p : PlaceOf). p.shape) same.0) (ap (λ (p : PlaceOf). p.process) same.0) same.1 (starts_same refl)) e mid.place new.place taken is)
 taken_from e old mid new (Err refused) same is = subst (λ (p : PlaceOf). IsUntaken e p new.place refused) same.0 is
 
 pub sent_from : (e tag : ℕ) (given : List ℕ) (old mid new : PlaceSeen) (result : Result ℕ Refused) → Stays old mid → IsSent e tag given mid new result → IsSent e tag given old new result
@@ -208,7 +210,9 @@ sent_from e tag given old mid new result same is =
       all = is.all;
       made = is.made;
       moved = is.moved;
+      arrived = λ r x among. seen_wide mid new (record { place = mid.place; front = old.front }) new refl refl same.1 (starts_same refl) r (brings (away_in (value_at e mid.place.blocks)) x)
+          (is.arrived r x among);
       lost = on_err_weaker is.answered (λ h r among missed.
-          let w = h r among missed in (w.0, starts_more old.front same.1 w.1, w.2)) is.lost;
+          let w = h r among missed in (w.0, w.1, starts_more old.front same.1 w.2, w.3)) is.lost;
       answer = is.answer;
     })

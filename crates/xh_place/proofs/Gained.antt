@@ -54,8 +54,8 @@ full_now arena most words seat last all taken looked = none_claimed arena
 
 pub full_after : (arena : ℕ) (words : List ℕ) (seat mid late last : Held Body) (r : ℕ) (l : LotOf Body) → ((q : ℕ) → Among (keys seat.lots) q → IsRecord seat.shape q) → r / 256 ≡ arena
     → IsRecord seat.shape r → HasNow (did (Claim seat.process r) seat) (seat.lots ++ (r, l) ∷ []) mid → (Among (keys seat.lots) r → ⊥) → StartsWith mid.front seat.front
-    → SawTaken arena words mid late → HasLooked mid late → HasLost (Vacate late.process r) late last → SeatFull 1 seat last arena
-full_after arena words seat mid late last r l all near exists is fresh before taken looked lost =
+    → SawTaken arena words mid late → HasLooked mid late → (v : LotOf Body) → HasLost (Vacate late.process r) v late last → SeatFull 1 seat last arena
+full_after arena words seat mid late last r l all near exists is fresh before taken looked v lost =
     let keyed : keys (seat.lots ++ (r, l) ∷ []) ≡ keys seat.lots ++ r ∷ [] = keys_push seat.lots (r, l) in
     let there : (q : ℕ) → Among (keys mid.lots) q → IsRecord mid.shape q = subst (λ (z : Held Body). (q : ℕ) → Among (keys z.lots) q → IsRecord z.shape q) (sym is)
     (λ q a. ⊎_elim (all q) (λ b. ⊎_elim (λ (e : q ≡ r). subst (IsRecord seat.shape) (sym e) exists) (λ z. absurd z) b)

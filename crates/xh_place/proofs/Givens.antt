@@ -12,7 +12,8 @@ use Rattle.std.proofs.Math.Bool.{or-false}
 use Rattle.std.proofs.lemmas.List.Folds.{list_any-append}
 use Rattle.xh_place.proofs.Steps.{IsNow, is_now, quiet_alive, turned}
 use Rattle.xh_place.proofs.Listing.{keys_settled, lens_none, lens_same, shown_keys, total_put, total_without, lens_one, unequal}
-use Rattle.xh_place.proofs.Seeing.{came_before, came_more, away_as, saw_later, starts_same}
+use Rattle.xh_place.proofs.Seeing.{arrived_wide, came_before, came_more, away_as, saw_later, starts_same}
+use Rattle.xh_place.specs.Seen.{Arrived}
 use Rattle.xh_place.proofs.Words.{alone, bare, carrying, map, picked, values}
 use Rattle.xh_place.proofs.Events.{moved_none, moved_twice, own_lots, picked_append, picked_one, picked_same}
 
@@ -24,7 +25,7 @@ both : (a b : Bool) → (a && b) ≡ true → (a ≡ true) × (b ≡ true)
 both true b e = (refl, e)
 both false b e = absurd (cc)
 
-none_of : (e : ℕ) (rs : List ℕ) → list_any (λ q. q == e) rs ≡ false → Among rs e → ⊥
+pub none_of : (e : ℕ) (rs : List ℕ) → list_any (λ q. q == e) rs ≡ false → Among rs e → ⊥
 none_of e [] h a = a
 none_of e (r ∷ rs) h a = let t = neither (eqb r e) (list_any (λ q. q == e) rs) h in
     ⊎_elim (λ s. let is : eqb r e ≡ true = eq-eqb r e (sym s) in let not_so : true ≡ false = sym is ∙ t.0 in absurd (cc)) (λ b. none_of e rs t.1 b) a
@@ -295,7 +296,7 @@ accepting d given more r bytes n old seat last back new once among is came = ⊎
     let shape : seat.shape ≡ last.shape = sym (ap (λ (k : Held Body). k.shape) h.3) in
     let more_bytes : lens given (λ q. value_at q last.lots) ≡ lens given (λ q. value_at q seat.lots) + (item_in (value_at r last.lots)).len =
     lens_one given r (λ q. value_at q seat.lots) (λ q. value_at q last.lots) once among none at in
-    let len : (item_in (value_at r last.lots)).len ≡ l.len = ap (λ (o : Option (LotOf Body)). (item_in o).len) mine in let told : n ≡ l.len = h.5 in
+    let len : (item_in (value_at r last.lots)).len ≡ l.len = ap (λ (o : Option (LotOf Body)). (item_in o).len) mine in let told : n ≡ l.len = h.6 in
     let before : bytes ≡ lens given (λ q. value_at q seat.lots) = is.5 in (
       subst (λ (z : List Event × List (LotOf Body)). HasNow (with_done z.0 (carrying z.1 old)) last.lots last) (λ i. (log i, moved i))
           (moved_twice old seat last (accepted_on p d back) (accepted_on seat.process d (r ∷ [])) (values (picked back seat.lots)) (l ∷ []) seat.lots last.lots is.0 now),
@@ -326,6 +327,44 @@ passed_more d gone r old seat last whose before after all one q among = ⊎_elim
     (λ a. ⊎_elim (λ (e : q ≡ r). subst (λ (z : ℕ). Came (Pass old.process z d) old.front last.front) (sym e)
     (came_before (Pass old.process r d) old.front before (subst (λ (p : ℕ). Came (Pass p r d) seat.front last.front) whose one))) (λ z. absurd z) a)
     (among_either gone (r ∷ []) q among)
+
+-- each of these that came back is as it was passed
+abbrev pub AreArrived : ℕ → List ℕ → Held Body → Held Body → Type 0
+AreArrived d back old new = (r : ℕ) (l : LotOf Body) → Among back r → value_at r new.lots ≡ Some l → Arrived old.process old.front new.front r d (item_of l)
+
+pub arrived_more : (d r n : ℕ) (old seat last : Held Body) (back new : List ℕ) → seat.process ≡ old.process → StartsWith seat.front old.front → StartsWith last.front seat.front
+    → (Among back r → ⊥) → AreArrived d back old seat → CameBack d r seat last back new n → AreArrived d new old last
+arrived_more d r n old seat last back new whose before after away are came q l among at = ⊎_elim
+    (λ h. wide (are q l (subst (λ (z : List ℕ). Among z q) h.0 among) (sym (ap (λ (k : Held Body). value_at q k.lots) h.1) ∙ at)))
+    (λ h. ⊎_elim
+    (λ a. wide (are q l a (sym (last_other q r h.0 seat.lots (λ e. away (subst (λ (z : ℕ). Among back z) (sym e) a))) ∙ sym (ap (λ (k : Held Body). value_at q k.lots) h.3) ∙ at)))
+    (λ a. ⊎_elim (λ (e : q ≡ r).
+    let mine : value_at q last.lots ≡ Some h.0 = ap (λ (z : ℕ). value_at z last.lots) e ∙ ap (λ (k : Held Body). value_at r k.lots) h.3 ∙ last_at r h.0 seat.lots h.2 in
+    let two : Some h.0 ≡ Some l = sym mine ∙ at in let one : h.0 ≡ l = cc in
+    subst (λ (z : ℕ × ℕ × LotOf Body). Arrived z.0 old.front last.front z.1 d (item_of z.2)) (λ i. (whose i, sym e i, one i))
+    (arrived_wide seat.process seat.front last.front old.front last.front r d (item_of h.0) before (starts_same refl) h.5)) (λ z. absurd z) a)
+    (among_either back (r ∷ []) q (subst (λ (z : List ℕ). Among z q) h.1 among)))
+    came where
+      wide : Arrived old.process old.front seat.front q d (item_of l) → Arrived old.process old.front last.front q d (item_of l)
+      wide h = arrived_wide old.process old.front seat.front old.front last.front q d (item_of l) (starts_same refl) after h
+
+among_shown : (lots : List (ℕ × LotOf Body)) (rs : List ℕ) (r : ℕ) (x : Item) → Among (shown lots rs) (r, x) → Among rs r × (x ≡ item_in (value_at r lots))
+among_shown lots [] r x a = absurd a
+among_shown lots (q ∷ qs) r x a = ⊎_elim
+    (λ (e : (r, x) ≡ (q, item_in (value_at q lots))). let is : r ≡ q = ap (λ (z : ℕ × Item). z.0) e in
+    (inl is, ap (λ (z : ℕ × Item). z.1) e ∙ ap (λ (z : ℕ). item_in (value_at z lots)) (sym is)))
+    (λ t. let m = among_shown lots qs r x t in (inr m.0, m.1))
+    a
+
+pub shown_arrived : (d : ℕ) (given back : List ℕ) (old new : Held Body) → AreBack given back new → AreArrived d back old new → (r : ℕ) (x : Item) → Among (shown new.lots back) (r, x)
+    → Arrived old.process old.front new.front r d x
+shown_arrived d given back old new are all r x among = go (value_at r new.lots) refl where
+  s : Among back r × (x ≡ item_in (value_at r new.lots))
+  s = among_shown new.lots back r x among
+
+  go : (o : Option (LotOf Body)) → value_at r new.lots ≡ o → Arrived old.process old.front new.front r d x
+  go None e = absurd (none_of r back (are.here r (are.only r s.0) ∙ ap is_some e) s.0)
+  go (Some l) e = subst (λ (z : Item). Arrived old.process old.front new.front r d z) (sym (s.1 ∙ ap item_in e)) (all r l s.0 e)
 
 -- each of these that didn't come back had another word
 abbrev pub AreLost : ℕ → List ℕ → List ℕ → Held Body → Held Body → Type 0

@@ -1,4 +1,5 @@
 -- Sweeps one after another, what a worker gave back, and how far a process has come before a sweep and after it.
+use Rattle.xh_place.specs.Seen.{Sight}
 use Rattle.xh_place.proofs.Words.{◌≡◌, ℕ, zero, suc, ◌+◌, ◌-◌, ◌<◌, ◌≤◌, ◌⊎◌, ⊎_elim, inl, inr, List, [], ◌∷◌, ◌++◌, length, take, drop, length-append, refl, sym, ap, ◌∙◌, subst, arith}
 use Rattle.xh_place.proofs.Words.{take-append-drop, Option, None, Result, Err, MatchOption, TallyOf, Refused, reclaimed, Tests, first_refusal, Status, Ending, Ended, true, MAX_BUDGET, is_over}
 use Rattle.xh_place.proofs.Words.{HasGivenBack, IsSwept, Vacate, with_events, with_freed, ending, RefusedOr, IsTooLate, ending_again, IsSweptLate, Item, PlaceOf, total_of, with_list, with_more}
@@ -15,7 +16,7 @@ again_same Ended xs none = ap (λ (l : List (ℕ × Item)). ending_again Ended (
 again_same s xs none = refl
 
 -- a sweep says nothing of how far the process has come
-any_state : (saw : ℕ → ℕ → Type 0) (from budget bytes left : ℕ) (old new : PlaceOf) (s t : Status) → IsSwept saw from budget old new bytes left
+any_state : (saw : ℕ → Sight → Type 0) (from budget bytes left : ℕ) (old new : PlaceOf) (s t : Status) → IsSwept saw from budget old new bytes left
     → IsSwept saw from budget (record old { state = s }) (record new { state = t }) bytes left
 any_state saw from budget bytes left old new s t is = let by = is.by in record {
   count = is.count;
@@ -26,7 +27,7 @@ any_state saw from budget bytes left old new s t is = let by = is.by in record {
 }
 
 -- a stop: the process is ending while the list is swept, and then is as far as the blocks that are left say
-pub stopped : (saw : ℕ → ℕ → Type 0) (budget bytes left count : ℕ) (old mid swept new : PlaceOf) (result : Result ℕ Refused) → mid ≡ record old { state = Ending }
+pub stopped : (saw : ℕ → Sight → Type 0) (budget bytes left count : ℕ) (old mid swept new : PlaceOf) (result : Result ℕ Refused) → mid ≡ record old { state = Ending }
     → IsSwept saw 0 budget mid swept bytes left → swept ≡ with_list mid swept → count ≡ length swept.blocks - 0 → new ≡ record swept { state = ending count } → result ≡ reclaimed bytes count
     → IsSwept saw 0 budget old new bytes (length new.blocks) × (new ≡ record (with_list old new) { state = ending (length new.blocks) }) × (result ≡ reclaimed bytes (length new.blocks))
 stopped saw budget bytes left count old mid swept new result start is list counted end told =
@@ -58,7 +59,7 @@ total_left : (k : ℕ) (xs : List (ℕ × Item)) → total_of (drop k xs) ≤ to
 total_left k xs = omega (arith, total_both (take k xs) (drop k xs), ap total_of (take-append-drop k xs))
 
 -- what a sweep from the last record on gave back is no less than its length
-pub last_bytes : (saw : ℕ → ℕ → Type 0) (front : List (ℕ × Item)) (r : ℕ) (x : Item) (old new : PlaceOf) (bytes left : ℕ) → old.blocks ≡ front ++ (r, x) ∷ []
+pub last_bytes : (saw : ℕ → Sight → Type 0) (front : List (ℕ × Item)) (r : ℕ) (x : Item) (old new : PlaceOf) (bytes left : ℕ) → old.blocks ≡ front ++ (r, x) ∷ []
     → IsSwept saw (length front) MAX_BUDGET old new bytes left → x.len ≤ bytes
 last_bytes saw front r x old new bytes left whole is = go is.count refl is.by.accepted is.by.list is.by.sum where
   from : ℕ
@@ -81,7 +82,7 @@ last_bytes saw front r x old new bytes left whole is = go is.count refl is.by.ac
       let less : total_of (drop k accepted) ≤ total_of accepted = total_left k accepted in omega (arith, here, less, sum, all)
 
 -- an endpoint came, or none did, and the place is as far as it was, or ending again; `none` is what is known where none did
-pub turned : (saw : ℕ → ℕ → Type 0) (none : Type 0) (d r n : ℕ) (old mid swept new : PlaceOf) (told now : List TallyOf) → (is_over old.state ≡ true → old.blocks ≡ [])
+pub turned : (saw : ℕ → Sight → Type 0) (none : Type 0) (d r n : ℕ) (old mid swept new : PlaceOf) (told now : List TallyOf) → (is_over old.state ≡ true → old.blocks ≡ [])
     → mid ≡ record old { state = Ending }
     → ((swept ≡ mid) × (now ≡ told) × none) ⊎ ((sum : ℕ) × IsSweptLate saw d r mid swept sum × HasGivenBack sum told now)
     → n ≡ length swept.blocks - 0 → new ≡ record swept { state = ending_again old.state n }
@@ -108,14 +109,14 @@ turned saw none d r n old mid swept new told now quiet woken came left last =
     let whole : new ≡ record (with_list old new) { state = ending_again old.state (length new.blocks) } =
     then ∙ ap (λ (p : PlaceOf). record p { state = state }) (late.3 ∙ ap (λ (p : PlaceOf). with_list p swept) woken)
     ∙ sym (ap (λ (p : PlaceOf). record (with_list old p) { state = ending_again old.state (length p.blocks) }) then) in
-    inr (h.0, (late.0, late.1, by, whole, late.4, last_bytes saw old.blocks r late.0 (with_more d ((r, late.0) ∷ []) old) new h.0 late.1 refl by), h.2))
+    inr (h.0, (late.0, late.1, by, whole, late.4, last_bytes saw old.blocks r late.0 (with_more d ((r, late.0) ∷ []) old) new h.0 late.1 refl by, late.5), h.2))
     came
 
 -- ---- sweeps one after another, and what a worker gave back
 
 -- ---- the blocks that went
 
-ended_both : (saw : ℕ → ℕ → Type 0) (p : ℕ) (gone more ys zs : List (ℕ × Item)) (es fs : List Event) → AreEnded saw p gone ys es → AreEnded saw p more zs fs
+ended_both : (saw : ℕ → Sight → Type 0) (p : ℕ) (gone more ys zs : List (ℕ × Item)) (es fs : List Event) → AreEnded saw p gone ys es → AreEnded saw p more zs fs
     → AreEnded saw p (gone ++ more) (ys ++ zs) (es ++ fs)
 ended_both saw p [] more ys zs es fs one two =
     subst (λ (z : List (ℕ × Item) × List Event). AreEnded saw p more (z.0 ++ zs) (z.1 ++ fs)) (λ i. (sym one.0 i, sym one.1 i)) two
@@ -130,7 +131,7 @@ ended_both saw p (y ∷ gone) more ys zs es fs one two = (
 )
 
 -- one sweep after another from the same place
-pub swept_more : (saw : ℕ → ℕ → Type 0) (from u k a b : ℕ) (old mid new : PlaceOf) → from ≤ length old.blocks → mid.process ≡ old.process → IsSweptBy saw from u old mid a
+pub swept_more : (saw : ℕ → Sight → Type 0) (from u k a b : ℕ) (old mid new : PlaceOf) → from ≤ length old.blocks → mid.process ≡ old.process → IsSweptBy saw from u old mid a
     → IsSweptBy saw from k mid new b
     → IsSweptBy saw from (u + k) old new (a + b)
 swept_more saw from u k a b old mid new inside whose one two =
@@ -178,7 +179,7 @@ cut_out (suc from) r x more (y ∷ w) d e =
       among_drop (suc k) q (z ∷ w) h = inr (among_drop k q w h)
 
 -- some came to an end at `from`, and then it went
-swept_one : (saw : ℕ → ℕ → Type 0) (from r bytes d : ℕ) (x : Item) (more : List (ℕ × Item)) (old mid new : PlaceOf) (ys : List (ℕ × Item)) → from ≤ length old.blocks
+swept_one : (saw : ℕ → Sight → Type 0) (from r bytes d : ℕ) (x : Item) (more : List (ℕ × Item)) (old mid new : PlaceOf) (ys : List (ℕ × Item)) → from ≤ length old.blocks
     → drop from old.blocks ≡ (r, x) ∷ more
     → mid ≡ with_more d ys old → Distinct (keys mid.blocks) → AreEnded saw old.process ((r, x) ∷ []) ys (accepted_on old.process d (keys ys) ++ Vacate old.process r ∷ [])
     → new ≡ with_freed r mid
@@ -208,7 +209,7 @@ without_both r [] ys = refl
 without_both r (x ∷ xs) ys = grind (arith, nat_tests, without_both r xs ys)
 
 -- the block at `from` went, an endpoint after it was shut and drained
-pub swept_clear : (saw : ℕ → ℕ → Type 0) (from r bytes : ℕ) (x : Item) (more : List (ℕ × Item)) (old mid new : PlaceOf) → from ≤ length old.blocks → drop from old.blocks ≡ (r, x) ∷ more
+pub swept_clear : (saw : ℕ → Sight → Type 0) (from r bytes : ℕ) (x : Item) (more : List (ℕ × Item)) (old mid new : PlaceOf) → from ≤ length old.blocks → drop from old.blocks ≡ (r, x) ∷ more
     → value_at r old.blocks ≡ Some x
     → Clears saw r old mid → Distinct (keys mid.blocks) → new ≡ with_freed r mid → bytes + total_of new.blocks ≡ total_of mid.blocks → IsSweptBy saw from 1 old new bytes
 swept_clear saw from r bytes x more old mid new inside first at clear once is sum =

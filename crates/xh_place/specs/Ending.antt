@@ -13,10 +13,10 @@ use Rattle.xh_place.specs.Bodies.{toward}
 use Rattle.xh_place.specs.Endpoints.{EndsWith}
 use Rattle.xh_place.specs.Events.{accepted_on}
 use Rattle.xh_place.specs.Places.{Item, PlaceOf, alone, with_blocks, with_list, total_of}
-use Rattle.xh_place.specs.Seen.{IsSeen, PlaceSeen}
+use Rattle.xh_place.specs.Seen.{IsSeen, PlaceSeen, Sight}
 
--- `saw r word` says that this word was seen at the record r
-module _ (saw : ℕ → ℕ → Type 0) where
+-- `saw r s` says what was seen at the record r
+module _ (saw : ℕ → Sight → Type 0) where
   -- These went, one after another, each as it ends. What was accepted is what came with each, in their order, which the process accepted on the direction toward it; then it vacated the record.
   abbrev pub AreEnded : ℕ → List (ℕ × Item) → List (ℕ × Item) → List Event → Type 0
   AreEnded p [] accepted log = (accepted ≡ []) × (log ≡ [])

@@ -10,6 +10,7 @@ use Rattle.xh_place.specs.Bodies.{Content, bytes, endpoint, toward}
 use Rattle.xh_place.specs.declared.got.Got.{Got}
 use Rattle.xh_place.specs.declared.got.Got.TheVariants.{Here, Missing}
 use Rattle.xh_place.specs.Places.{Item}
+use Rattle.xh_place.specs.Seen.{Sight, bears, brings}
 
 -- it puts the blocks with the tag: what the channel's put says
 pub record Puts (tag : ℕ) (blocks : ArrayVec ℕ) (result : Result ℕ Unsent) (old new : Posted) : Type 0 where
@@ -50,11 +51,11 @@ blocks_of [] = []
 blocks_of (m ∷ ms) = m.blocks.items ++ blocks_of ms
 
 -- `saw r word` says that this word was seen at the record r
-module _ (saw : ℕ → ℕ → Type 0) where
+module _ (saw : ℕ → Sight → Type 0) where
   -- a block is here, and then it is what the list gained; or the word that was seen isn't "in flight on the direction"
   abbrev pub IsGot : ℕ → List (ℕ × Item) → Got → Type 0
-  IsGot d ys (Here block) = (x : Item) × (ys ≡ (block.rec, x) ∷ []) × (x.len ≡ block.len)
-  IsGot d ys (Missing r word) = (ys ≡ []) × (word ≢ 2 + 4 * d) × saw r word
+  IsGot d ys (Here block) = (x : Item) × (ys ≡ (block.rec, x) ∷ []) × (x.len ≡ block.len) × saw block.rec (brings d x)
+  IsGot d ys (Missing r word) = (ys ≡ []) × (word ≢ 2 + 4 * d) × saw r (bears word)
 
   -- of each block in turn, and the list gained them in this order
   abbrev pub AreGot : ℕ → List (ℕ × Item) → List Got → Type 0

@@ -18,7 +18,7 @@ use Rattle.xh_arena.specs.Views.{TallyOf}
 use Rattle.xh_place.specs.declared.opening.Unopened.{Unopened}
 use Rattle.xh_place.specs.Tallies.{took}
 use Rattle.xh_place.specs.Places.{IsWhole, Item, LetsGo, PlaceOf, with_blocks, with_events, with_list, with_more}
-use Rattle.xh_place.specs.Seen.{IsElsewhere, IsSeen, PlaceSeen, SawWord}
+use Rattle.xh_place.specs.Seen.{IsElsewhere, IsSeen, PlaceSeen, SawWord, Sight, brings}
 use Rattle.xh_place.specs.Ending.{HasGivenBack, IsSwept}
 
 -- the call answers the first refusal whose test is true, and then these stay as they were; where none is, it does what is said
@@ -84,14 +84,14 @@ ending_again status.Running left = status.Running
 ending_again status.Ending left = status.Ending
 
 -- An endpoint came that nobody is here for: so it was swept, and no fewer bytes than it has were given back.
-abbrev pub IsTooLate : (ℕ → ℕ → Type 0) → ℕ → ℕ → PlaceOf → PlaceOf → ℕ → Type 0
+abbrev pub IsTooLate : (ℕ → Sight → Type 0) → ℕ → ℕ → PlaceOf → PlaceOf → ℕ → Type 0
 IsTooLate saw d r old new sum = (x : Item) × (left : ℕ) × IsSwept saw (length old.blocks) MAX_BUDGET (with_more d ((r, x) ∷ []) old) new sum left
-    × (new ≡ record (with_list old new) { state = ending_again old.state (length new.blocks) }) × IsWhole x × (x.len ≤ sum)
+    × (new ≡ record (with_list old new) { state = ending_again old.state (length new.blocks) }) × IsWhole x × (x.len ≤ sum) × saw r (brings d x)
 
 -- It came on the direction to the end of the list of the process, which runs here; or the process doesn't, and then it came too late;
 -- or nothing has changed, since nobody has the place, or another word was seen than "in flight on the direction".
 pub record Accepts (process r direction : ℕ) (old new : PlaceSeen) (told tallies : List TallyOf) (result : Result Block Refused) : Type 0 where
-  pub here : IfOk result (λ b. (is_here old.place process ≡ true) × (b.rec ≡ r) × ((x : Item) × (x.len ≡ b.len) × (new.place ≡ with_more direction ((r, x) ∷ []) old.place) × IsWhole x)
+  pub here : IfOk result (λ b. (is_here old.place process ≡ true) × (b.rec ≡ r) × ((x : Item) × (x.len ≡ b.len) × (new.place ≡ with_more direction ((r, x) ∷ []) old.place) × IsWhole x × IsSeen old new r (brings direction x))
       × (tallies ≡ told))
   pub away : IfErr result (λ e. (e ≡ Ended) × (((new.place ≡ old.place) × (tallies ≡ told) × ((old.place.state ≡ status.Vacant) ⊎ IsElsewhere (SawWord old new) direction r))
       ⊎ ((is_here old.place process ≡ false) × (old.place.state ≢ status.Vacant)

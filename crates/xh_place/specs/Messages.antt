@@ -15,7 +15,7 @@ use Rattle.xh_place.specs.Ends.{EndDoes, away_in, toward_in}
 use Rattle.xh_place.specs.Events.{accepted_on, passed_on}
 use Rattle.xh_place.specs.declared.got.Taken.{Taken}
 use Rattle.xh_place.specs.Places.{Item, PlaceOf, picked, with_more}
-use Rattle.xh_place.specs.Seen.{HasLeft, IsSeen, PlaceSeen}
+use Rattle.xh_place.specs.Seen.{HasLeft, IsSeen, PlaceSeen, Sight, brings}
 
 -- ---- give
 
@@ -54,7 +54,8 @@ GoesOrReturns d given back old new = (new ≡ record old {
     × ((r : ℕ) → Among (keys back) r → Among given r)
 
 -- The endpoint put the blocks with the tag, they went or came back, and the answer is that of the put.
--- Where it was refused, each given block that didn't come back had another word than "in flight on the direction", which was seen after the block was passed there.
+-- Each block that came back is as the last pass left it. Where the put was refused, each given block that didn't come back had another word than "in flight on the direction", which was seen after
+-- the block was passed there.
 pub record IsSent (e tag : ℕ) (given : List ℕ) (old new : PlaceSeen) (result : Result ℕ Refused) : Type 0 where
   pub mid : PlaceOf
   pub blocks : ArrayVec ℕ
@@ -63,6 +64,7 @@ pub record IsSent (e tag : ℕ) (given : List ℕ) (old new : PlaceSeen) (result
   pub all : blocks.items ≡ given
   pub made : EndDoes e old.place mid (Puts tag blocks answered)
   pub moved : GoesOrReturns (away_in (value_at e old.place.blocks)) given back mid new.place
+  pub arrived : (r : ℕ) (x : Item) → Among back (r, x) → IsSeen old new r (brings (away_in (value_at e old.place.blocks)) x)
   pub lost : OnErr answered ((r : ℕ) → Among given r → (Among (keys back) r → ⊥)
       → HasLeft old.place.process old.place.shape old.front new.front (away_in (value_at e old.place.blocks)) r)
   pub answer : Answers (keys back) answered result
@@ -70,8 +72,8 @@ pub record IsSent (e tag : ℕ) (given : List ℕ) (old new : PlaceSeen) (result
 -- ---- take
 
 -- The answer has the number and the tag of the message, and tells of each of its blocks, in their order.
--- Those that were on the direction came, and are the last of the list, in their order. `saw r word` says that this word was seen at the record r.
-pub record Unpacks (saw : ℕ → ℕ → Type 0) (d : ℕ) (m : Message) (old new : PlaceOf) (taken : Taken) : Type 0 where
+-- Those that were on the direction came, each as it was passed, and are the last of the list, in their order. `saw r s` says what was seen at the record r.
+pub record Unpacks (saw : ℕ → Sight → Type 0) (d : ℕ) (m : Message) (old new : PlaceOf) (taken : Taken) : Type 0 where
   pub number : taken.no ≡ m.no
   pub tag : taken.tag ≡ m.tag
   pub records : map record_of taken.blocks.items ≡ m.blocks.items

@@ -1,21 +1,23 @@
--- What a place has seen of the one log of all record events, and the words that a call of it found at a step.
+-- What a place has seen of the one log of all records, and what a call of it saw at a record.
 use Rattle.std.specs.Prelude.{◌≡◌, ◌≢◌, ◌⊎◌, ℕ, ◌+◌, ◌*◌, ◌/◌, ◌≤◌, ◌∷◌, ◌++◌, List, [], Some, length}
-use Rattle.xh_model.specs.declared.event.Event.{Event}
-use Rattle.xh_model.specs.declared.event.Event.TheVariants.{Pass}
+use Rattle.xh_arena.specs.Views.{LotOf}
+use Rattle.xh_model.specs.declared.event.Event.TheVariants.{Accept, Pass}
 use Rattle.xh_model.specs.declared.event.Holder.TheVariants.{Process}
 use Rattle.xh_model.specs.declared.limits.TheConstants.{MAX_RECORDS}
 use Rattle.xh_model.specs.Keyed.{Among, keys}
 use Rattle.xh_model.specs.Slots.{index_of}
 use Rattle.xh_model.specs.Words.{word_of}
 use Rattle.xh_records.specs.declared.shape.Shape.{Shape}
+use Rattle.xh_records.specs.Deeds.{Deed, IsLeft, events}
 use Rattle.xh_records.specs.History.{StartsWith, TellsWord}
 use Rattle.xh_records.specs.Seats.{IsRecord}
-use Rattle.xh_place.specs.Places.{LetsGo, PlaceOf}
+use Rattle.xh_place.specs.declared.body.Body.{Body}
+use Rattle.xh_place.specs.Places.{Item, LetsGo, PlaceOf, item_of}
 
--- a place, and its seat's front: the beginning of the one log of all record events that it has seen
+-- a place, and its seat's front: the beginning of the one log of all deeds on records that it has seen, each an event beside the lot that was taken or given by it
 pub record PlaceSeen : Type 0 where
   pub place : PlaceOf
-  pub front : List Event
+  pub front : List (Deed Body)
 
 -- it is this place now, and what was seen stays seen
 abbrev pub Becomes : PlaceOf → PlaceSeen → PlaceSeen → Type 0
@@ -32,27 +34,37 @@ IsSamePlace old new = (new.place.table ≡ old.place.table) × (new.place.shape 
 -- ---- looks. Of two fronts the first is a beginning of the second
 
 -- from the one front to the other there was a step at which the word of the record r was this: that of the record's holder then
-abbrev pub SawAt : Shape → List Event → List Event → ℕ → ℕ → Type 0
-SawAt s from to r word = (front : List Event) × StartsWith front from × StartsWith to front × TellsWord s.records front (index_of s.records r) word
+abbrev pub SawAt : Shape → List (Deed Body) → List (Deed Body) → ℕ → ℕ → Type 0
+SawAt s from to r word = (front : List (Deed Body)) × StartsWith front from × StartsWith to front × TellsWord s.records (events front) (index_of s.records r) word
 
 -- the place saw this word at the record r at a step of this call
 abbrev pub SawWord : PlaceSeen → PlaceSeen → ℕ → ℕ → Type 0
 SawWord old new r word = SawAt old.place.shape old.front new.front r word
 
--- the same; or there is no such record, and the word is 0, as of a free one
-abbrev pub IsSeen : PlaceSeen → PlaceSeen → ℕ → ℕ → Type 0
-IsSeen old new r word = SawAt old.place.shape old.front new.front r word ⊎ ((IsRecord old.place.shape r → ⊥) × (word ≡ 0))
+-- from the one front to the other the process p accepted the record r on the direction, as this block; and this is what the last deed on the record before, a pass to that direction, left
+abbrev pub Arrived : ℕ → List (Deed Body) → List (Deed Body) → ℕ → ℕ → Item → Type 0
+Arrived p from to r d x = (before : List (Deed Body)) × (l : LotOf Body) × StartsWith before from × StartsWith to (before ++ (Accept p r d, l) ∷ []) × IsLeft before r d l × (x ≡ item_of l)
+
+-- what a call saw at a record: its word, or that it brought this block from a direction
+pub data Sight : Type 0 where
+  bears : ℕ → Sight
+  brings : ℕ → Item → Sight
+
+-- The place saw this at the record r in this call. Where there is no such record, its word is 0, as of a free one.
+abbrev pub IsSeen : PlaceSeen → PlaceSeen → ℕ → Sight → Type 0
+IsSeen old new r (bears word) = SawWord old new r word ⊎ ((IsRecord old.place.shape r → ⊥) × (word ≡ 0))
+IsSeen old new r (brings d x) = Arrived old.place.process old.front new.front r d x
 
 -- `saw r word` says that this word was seen at the record r. Here it was another one than "in flight on the direction".
 abbrev pub IsElsewhere : (ℕ → ℕ → Type 0) → ℕ → ℕ → Type 0
 IsElsewhere saw d r = (word : ℕ) × (word ≢ 2 + 4 * d) × saw r word
 
 -- from the one front to the other the process passed the record r on the direction, and saw after that that it was in flight there no more
-abbrev pub HasLeft : ℕ → Shape → List Event → List Event → ℕ → ℕ → Type 0
-HasLeft p s from to d r = (before : List Event) × StartsWith before from × IsElsewhere (SawAt s (before ++ Pass p r d ∷ []) to) d r
+abbrev pub HasLeft : ℕ → Shape → List (Deed Body) → List (Deed Body) → ℕ → ℕ → Type 0
+HasLeft p s from to d r = (before : List (Deed Body)) × (l : LotOf Body) × StartsWith before from × IsElsewhere (SawAt s (before ++ (Pass p r d, l) ∷ []) to) d r
 
 -- from the one front to the other each record of the arena had, at some step, a word that says that it isn't free; and where that is the process's own word, the record is one that it held
-abbrev pub SawFull : ℕ → List ℕ → Shape → List Event → List Event → ℕ → Type 0
+abbrev pub SawFull : ℕ → List ℕ → Shape → List (Deed Body) → List (Deed Body) → ℕ → Type 0
 SawFull p held s from to arena = (r : ℕ) → IsRecord s r → r / MAX_RECORDS ≡ arena
     → (word : ℕ) × (word ≢ 0) × (word ≡ word_of (Some (Process p)) → Among held r) × SawAt s from to r word
 

@@ -6,8 +6,8 @@ ghost use Rattle.xh_model.specs.declared.limits.TheConstants.{DIRECTIONS, MAX_BL
 ghost use Rattle.xh_place.specs.Bodies.{IsEndAt, away, content_of};
 ghost use Rattle.xh_place.specs.Endpoints.{Puts};
 ghost use Rattle.xh_place.specs.Messages.{Answers};
-ghost use Rattle.xh_place.specs.Places.{IsBlock, item_in, picked};
-ghost use Rattle.xh_place.specs.Seen.{HasLeft, IsElsewhere, SawAt};
+ghost use Rattle.xh_place.specs.Places.{IsBlock, item_in, item_of, picked};
+ghost use Rattle.xh_place.specs.Seen.{Arrived, HasLeft, IsElsewhere, SawAt};
 ghost use Rattle.xh_place.specs.declared.body.Body.{Body};
 ghost use Rattle.xh_place.specs.inner.Lots.{ArePassed, HasNow, LotDoes, with_done, carrying, values};
 ghost use Rattle.xh_records.specs.History.{StartsWith};
@@ -85,6 +85,7 @@ pub(crate) fn accept_back(
     requires gone { (r : ℕ) → Among given.now r → value_at r seat.old.lots ≡ None }
     requires records { (r : ℕ) → Among given.now r → IsRecord records.now.shape r }
     ensures came { HasNow (with_done (accepted_on seat.old.process direction result.0.items) (carrying (values (picked result.0.items seat.new.lots)) seat.old)) seat.new.lots seat.new }
+    ensures arrived { (r : ℕ) (l : LotOf Body) → Among result.0.items r → value_at r seat.new.lots ≡ Some l → Arrived seat.old.process seat.old.front seat.new.front r direction (item_of l) }
     ensures lost { (r : ℕ) → Among given.now r → (Among result.0.items r → ⊥) → IsElsewhere (SawAt seat.old.shape seat.old.front seat.new.front) direction r }
     ensures seen { StartsWith seat.new.front seat.old.front }
     ensures back { AreBack given.now result.0.items seat.new }
@@ -163,6 +164,8 @@ pub(crate) fn give_all<R: Wait, V, G: Gate>(
     ensures lost { result.lost ≡ lens given.now.items (λ r. value_at r seat.old.lots) }
     ensures gained { result.gained ≡ lens given.now.items (λ r. value_at r seat.new.lots) }
     ensures sent { OnOk result.put (result.back.items ≡ []) }
+    ensures arrived { (r : ℕ) (l : LotOf Body) → Among result.back.items r → value_at r seat.new.lots ≡ Some l
+        → Arrived seat.old.process seat.old.front seat.new.front r (away (item_in (value_at e seat.old.lots)).content) (item_of l) }
     ensures missed { OnErr result.put ((r : ℕ) → Among given.now.items r → (Among result.back.items r → ⊥)
         → HasLeft seat.old.process seat.old.shape seat.old.front seat.new.front (away (item_in (value_at e seat.old.lots)).content) r) }
     ensures seen { StartsWith seat.new.front seat.old.front }

@@ -7,7 +7,7 @@ ghost use Rattle.xh_model.specs.declared.limits.TheConstants.{DIRECTIONS, MAX_BY
 ghost use Rattle.xh_place.specs.Bodies.{bytes, front, content_of, fits_in, kind_of};
 ghost use Rattle.xh_place.specs.Desk.{IsSameDesk, IsSeatAt};
 ghost use Rattle.xh_place.specs.Places.{IsBlock, item_of, header_of};
-ghost use Rattle.xh_place.specs.Seen.{SawAt};
+ghost use Rattle.xh_place.specs.Seen.{Arrived, SawAt};
 ghost use Rattle.xh_place.specs.Splitting.{IsUncut};
 ghost use Rattle.xh_place.specs.Tallies.{gave, took};
 ghost use Rattle.xh_place.specs.Vaults.{IsNoBlock, IsRefusedAt};
@@ -247,7 +247,8 @@ pub(crate) fn accept_block(
 ) -> Result<Header, u64>
     requires own { IsSeatOf records.now seat.old × IsRecord records.now.shape r × (direction < DIRECTIONS) }
     ensures here { IfOk result (λ s. (l : LotOf Body) × (Among (keys seat.old.lots) r → ⊥)
-        × HasNow (did (Accept seat.old.process r direction) (carrying (l ∷ []) seat.old)) (seat.old.lots ++ (r, l) ∷ []) seat.new × IsBlock seat.old.shape r l × (s ≡ header_of (item_of l))) }
+        × HasNow (did (Accept seat.old.process r direction) (carrying (l ∷ []) seat.old)) (seat.old.lots ++ (r, l) ∷ []) seat.new × IsBlock seat.old.shape r l × (s ≡ header_of (item_of l))
+        × Arrived seat.old.process seat.old.front seat.new.front r direction (item_of l)) }
     ensures missing { IfErr result (λ word. (word ≢ 2 + 4 * direction) × HasNow seat.old seat.old.lots seat.new × SawAt seat.old.shape seat.old.front seat.new.front r word) }
     ensures seen { StartsWith seat.new.front seat.old.front }
 {

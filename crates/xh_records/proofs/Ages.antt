@@ -37,8 +37,6 @@ module _ {B : Type 0} (fits : B → ℕ → Bool) (s : Shape) where
           begins = told.begins;
           only = λ y f among few. let t = told.only y f among few in let same : t.0 ≡ p = only_one (subst (λ (k : List ℕ). Among k t.0) mine t.1) in
               (p + 32, subst (λ (k : List ℕ). Among k (p + 32)) (sym mine_now) (inl refl), t.2 ∙ ap place_of same ∙ turn, t.3);
-          own = λ y own among. let t = told.own y own among in let same : t.0 ≡ p = only_one (subst (λ (k : List ℕ). Among k t.0) mine t.1) in
-              (p + 32, subst (λ (k : List ℕ). Among k (p + 32)) (sym mine_now) (inl refl), t.2 ∙ ap place_of same ∙ turn, t.3);
         },
       )) (λ t. (shown.views_fit j u t.1, shown.history.tells j u t.1)))
     where

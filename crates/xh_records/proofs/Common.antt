@@ -25,9 +25,9 @@ pub use Rattle.xh_model.specs.declared.event.Holder.{Holder}
 pub use Rattle.xh_model.specs.declared.event.Holder.TheVariants.{Direction, Process}
 pub use Rattle.xh_model.specs.declared.limits.TheConstants.{GENERATIONS, MAX_RECORDS, PLACES}
 pub use Rattle.xh_records.specs.After.{IsAfter, LeadsOnStores, Wants}
-pub use Rattle.xh_records.specs.Deeds.{Arrives, Deed, IsLeft, carried, carry, deeds_by, events}
+pub use Rattle.xh_records.specs.Deeds.{Arrives, Deed, Grows, IsLeft, carried, carry, deeds_by, events}
 pub use Rattle.xh_records.specs.Encoding.{holder_of}
-pub use Rattle.xh_records.specs.History.{Grows, IsInside, IsOneLog, LeadsTo, StartsWith, TellsWord, all_free, by_place, process_of}
+pub use Rattle.xh_records.specs.History.{IsInside, IsOneLog, LeadsTo, StartsWith, TellsWord, all_free, process_of}
 pub use Rattle.xh_records.specs.Seats.{Advances, Ends, EndsAs, HasFound, HasGained, HasLooked, HasLost, HasSeen, Held, IsRecord, IsSeatOf, Knows, RecordsOf, SawTaken, did, indices, lot_in}
 pub use Rattle.xh_records.specs.Seats.{owned_by, view_of, with_lots}
 pub use Rattle.xh_records.specs.Showing.{HomeFits, IsEmpty, IsHistory, IsLotAt, IsLotOf, IsSmall, Owns, Shown, Shows, Sits, ViewFits, ViewTells}
@@ -37,7 +37,7 @@ pub use Rattle.xh_records.specs.inner.Events.{IsAway, IsHomeLot, giving, moving,
 pub use Rattle.xh_records.specs.inner.Gathering.{Did, IsGathered, or_else, slot_at}
 pub use Rattle.xh_records.specs.inner.Steps.{IsOthers, SeesMore, aged, compared, gave, looked, took}
 pub use Rattle.xh_records.specs.inner.Tokens.{AllBelow, AllLots, IsListed, IsSeat, IsTurned, in_slot, numbered, turns, with_lot}
-pub use Rattle.xh_records.specs.inner.Views.{IsAlone, IsDealer, adds, all_places, dealer, dealt, dealt_from, deeds_in, doing, first_of, front_in, gained, head_of, joined, knowing, lost, none_yet}
+pub use Rattle.xh_records.specs.inner.Views.{IsAlone, IsDealer, adds, all_places, dealer, dealt, dealt_from, deeds_in, doing, first_of, front_in, gained, head_of, joined, knowing, lost, none_yet, own_of}
 pub use Rattle.xh_records.specs.inner.Views.{note_of, places_from, renewed, spent, tail_of}
 pub use lib.ListN.{get_elem?}
 pub use mathlib.Core.Logic.{dite}

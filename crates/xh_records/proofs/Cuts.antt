@@ -1,9 +1,9 @@
 -- A view cut in two, and two views in one.
 use Rattle.xh_records.proofs.Common.{nat_tests, ◌≡◌, ℕ, suc, ◌<◌, ◌≢◌, Bool, List, [], ◌∷◌, ◌++◌, map, length, set, sym, refl, ◌∙◌, subst, ◌⊎◌, inl, inr, arith, length-set, Option, Some, Process}
 use Rattle.xh_records.proofs.Common.{some, get_elem?, Splits, Joins, at_set, set_else, LotOf, Among, Distinct, among_back, among_either, among_front, Shape, View, Ownership}
-use Rattle.xh_records.proofs.Common.{IsHeldBy, place_of, Event, PLACES, StartsWith, Sits, Owns, ViewFits, ViewTells, Shows, Shown, IsAlone, front_in, note_of, spent, joined, dealt, dealt_from}
+use Rattle.xh_records.proofs.Common.{IsHeldBy, place_of, PLACES, StartsWith, Sits, Owns, ViewFits, ViewTells, Shows, Shown, IsAlone, front_in, note_of, spent, joined, dealt, dealt_from}
 use Rattle.xh_records.proofs.Common.{dealer, IsDealer, places_from}
-use Rattle.xh_records.proofs.Common.{Deed, events}
+use Rattle.xh_records.proofs.Common.{Deed}
 use mathlib.Core.Option as maybe
 use Rattle.xh_records.proofs.History.{one_is, lists_back}
 use Rattle.xh_records.proofs.Common.{ap, at_last, at_longer, set_here, dite, ℕ_discrete, some-injective}
@@ -27,11 +27,10 @@ nothing : {B : Type 0} (v : View B) → Part v spent
 nothing v = grind (arith, nat_tests)
 
 a_note : {B : Type 0} (v : View B) (p : ℕ) → IsAlone v p → Part v (note_of v)
-a_note v p alone = bare v (note_of v) refl refl (λ log told. record {
-  begins = λ q f h. subst (StartsWith (events log)) (sym (one_is (note_of v).fronts q PLACES f (front_in v) refl h).1)
-      (told.begins (place_of p) (front_in v) (subst (λ (z : List (ℕ × List Event)). Among z (place_of p, front_in v)) (sym alone.1) (inl refl)));
+a_note {B} v p alone = bare v (note_of v) refl refl (λ log told. record {
+  begins = λ q f h. subst (StartsWith log) (sym (one_is (note_of v).fronts q PLACES f (front_in v) refl h).1)
+      (told.begins (place_of p) (front_in v) (subst (λ (z : List (ℕ × List (Deed B))). Among z (place_of p, front_in v)) (sym alone.1) (inl refl)));
   only = λ q f h few. absurd (let e : q ≡ PLACES = (one_is (note_of v).fronts q PLACES f (front_in v) refl h).0 in omega arith);
-  own = λ q own h. absurd h;
 })
 
 everything : {B : Type 0} (v : View B) → Part v v
@@ -178,9 +177,6 @@ module _ {B : Type 0} (fits : B → ℕ → Bool) (s : Shape) where
       both_tells = record {
         begins = λ q f there. either_way (among_either v.fronts w.fronts (q, f) there) (told_v.begins q f) (told_w.begins q f);
         only = λ q f there few. grind (arith, nat_tests, there, told_v, among_front, told_w, among_back, among_either);
-        own = λ q own there. either_way (among_either v.deeds w.deeds (q, own) there)
-            (λ a. let t = told_v.own q own a in (t.0, among_front v.processes w.processes t.0 t.1, t.2, t.3))
-            (λ b. let t = told_w.own q own b in (t.0, among_back v.processes w.processes t.0 t.1, t.2, t.3));
       }
 
       there : (j : ℕ) (u : View B) → get_elem? now j ≡ some u → ((j ≡ other) × (spent ≡ u)) ⊎ ((j ≢ other) × (((j ≡ id) × (both ≡ u)) ⊎ ((j ≢ id) × (get_elem? t.views j ≡ some u))))
@@ -220,7 +216,6 @@ later_places s p k = record {
   tells = λ log told. record {
     begins = λ q f h. told.begins q f (inr h);
     only = λ q f h few. let t = lists_back (places_from (suc p) k) q f h in (t.0, t.1, t.2, (told.only q f (inr h) few).3);
-    own = λ q own h. let t = lists_back (places_from (suc p) k) q own h in (t.0, t.1, t.2, (told.own q own (inr h)).3);
   };
   places = λ d. d.1;
 }
@@ -234,7 +229,6 @@ first_place s p k = record {
   tells = λ log told. record {
     begins = λ q f h. told.begins q f (inl (only_one h));
     only = λ q f h few. (p, inl refl, (one_is ((place_of p, []) ∷ []) q (place_of p) f [] refl h).0, (told.only q f (inl (only_one h)) few).3);
-    own = λ q own h. (p, inl refl, (one_is ((place_of p, []) ∷ []) q (place_of p) own [] refl h).0, (told.own q own (inl (only_one h))).3);
   };
   places = λ d. ((λ z. z), tt);
 }

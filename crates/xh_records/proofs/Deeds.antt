@@ -1,7 +1,7 @@
 -- The deeds of the log, as it grows.
 use Rattle.xh_records.proofs.Common.{nat_tests, ◌≡◌, ℕ, ◌≢◌, ◌⊎◌, Bool, List, [], ◌∷◌, ◌++◌, sym, refl, ap, ◌∙◌, subst, inl, inr, arith, cond, eq-eqb, ne_eqb, LotOf, Event, Accept, Pass, Among}
 use Rattle.xh_records.proofs.Common.{among_either}
-use Rattle.xh_records.proofs.Common.{append-nil, append_assoc, by_place, carried, carry, place_of, record_of, process_of, Arrives, Deed, IsLeft, deeds_by, events, tail_of}
+use Rattle.xh_records.proofs.Common.{append-nil, append_assoc, carried, carry, place_of, record_of, process_of, Arrives, Deed, Grows, IsLeft, deeds_by, events, tail_of}
 use Rattle.xh_records.proofs.Elements.{either_way, only_one}
 
 module _ {B : Type 0} where
@@ -9,20 +9,27 @@ module _ {B : Type 0} where
   events_more [] d = refl
   events_more (x ∷ xs) d = ap (λ (z : List Event). x.0 ∷ z) (events_more xs d)
 
-  cond_more : (b : Bool) (x : Deed B) (l m : List (Deed B)) → cond b (x ∷ (l ++ m)) (l ++ m) ≡ cond b (x ∷ l) l ++ m
-  cond_more b x l m = grind (arith, nat_tests)
+  cond_append : (b : Bool) (x : Deed B) (l m : List (Deed B)) → cond b (x ∷ (l ++ m)) (l ++ m) ≡ cond b (x ∷ l) l ++ m
+  cond_append b x l m = grind (arith, nat_tests)
+
+  pub deeds_append : (q : ℕ) (log more : List (Deed B)) → deeds_by q (log ++ more) ≡ deeds_by q log ++ deeds_by q more
+  deeds_append q [] more = refl
+  deeds_append q (x ∷ xs) more = grind (arith, nat_tests, cond_append, deeds_append q xs more)
 
   pub deeds_more : (q : ℕ) (log : List (Deed B)) (d : Deed B) → place_of (process_of d.0) ≡ q → deeds_by q (log ++ d ∷ []) ≡ deeds_by q log ++ d ∷ []
-  deeds_more q [] d at = ap (λ (b : Bool). cond b (d ∷ []) []) (eq-eqb (place_of (process_of d.0)) q at)
-  deeds_more q (x ∷ xs) d at = grind (arith, nat_tests, cond_more, deeds_more q xs d at)
+  deeds_more q log d at = deeds_append q log (d ∷ []) ∙ ap (λ (b : Bool). deeds_by q log ++ cond b (d ∷ []) []) (eq-eqb (place_of (process_of d.0)) q at)
 
   pub deeds_same : (q : ℕ) (log : List (Deed B)) (d : Deed B) → place_of (process_of d.0) ≢ q → deeds_by q (log ++ d ∷ []) ≡ deeds_by q log
-  deeds_same q [] d n = ap (λ (b : Bool). cond b (d ∷ []) []) (ne_eqb (place_of (process_of d.0)) q n)
-  deeds_same q (x ∷ xs) d n = grind (arith, nat_tests, deeds_same q xs d n)
+  deeds_same q log d n = deeds_append q log (d ∷ []) ∙ ap (λ (b : Bool). deeds_by q log ++ cond b (d ∷ []) []) (ne_eqb (place_of (process_of d.0)) q n) ∙ append-nil (deeds_by q log)
 
-  pub events_by : (q : ℕ) (log : List (Deed B)) → events (deeds_by q log) ≡ by_place q (events log)
-  events_by q [] = refl
-  events_by q (d ∷ ds) = grind (arith, nat_tests, events_by q ds)
+  -- what is known grows
+  pub grows_twice : (q : ℕ) (own a b c : List (Deed B)) → Grows q [] a b → Grows q own b c → Grows q own a c
+  grows_twice q own a b c x y = (
+    x.0 ++ y.0,
+    y.1 ∙ ap (λ (z : List (Deed B)). z ++ (y.0 ++ own)) (x.1 ∙ ap (λ (z : List (Deed B)). a ++ z) (append-nil x.0)) ∙ append_assoc a x.0 (y.0 ++ own)
+        ∙ ap (λ (z : List (Deed B)). a ++ z) (sym (append_assoc x.0 y.0 own)),
+    deeds_append q x.0 y.0 ∙ (λ i. x.2 i ++ y.2 i),
+  )
 
   pub carried_more : (log : List (Deed B)) (d : Deed B) → carried (log ++ d ∷ []) ≡ carry d.0 d.1 (carried log)
   carried_more [] d = append-nil (carry d.0 d.1 [])

@@ -1,11 +1,10 @@
 -- The closed table: its words, the lots at home, and those that the seats had.
-use Rattle.xh_records.proofs.Common.{nat_tests, ◌≡◌, ℕ, zero, suc, ◌*◌, ◌<◌, map, length-append, Bool, List, [], ◌∷◌, ◌++◌, length, take, get_or, sym, ap, ◌∙◌, subst, arith, rules}
+use Rattle.xh_records.proofs.Common.{nat_tests, ◌≡◌, ℕ, zero, suc, ◌*◌, ◌<◌, map, length-append, mod-lt, Bool, List, [], ◌∷◌, ◌++◌, length, take, get_or, sym, ap, ◌∙◌, subst, arith, rules}
 use Rattle.xh_records.proofs.Common.{length-map, Option, Some, None, slice_get, at_index, some, some-injective, some-ne-none, dite, ℕ_discrete, get_elem?, State, Final, Seen, LotOf, Holder}
 use Rattle.xh_records.proofs.Common.{Process, Direction, index_of, Ownership, IsHeldBy, word_of, place_of, number_of, index_back, Among, Distinct, keys, among_back, among_either, among_front}
 use Rattle.xh_records.proofs.Common.{at_key, Shape, View, IsLotAt, Sits, ViewFits, Shows, Shown, IsSmall, Held, owned_by, indices, lot_in, view_of, Ends, EndsAs, IsAway, IsHomeLot}
 use Rattle.xh_records.proofs.Common.{spent, slot_at, or_else, IsGathered}
 use Rattle.xh_records.proofs.Common.{Did, carried, deeds_by, events}
-use Rattle.xh_records.proofs.Deeds.{events_by}
 use Rattle.std.specs.Option.{option_or, IsSome}
 use Rattle.xh_records.proofs.Elements.{either_way, in_range, is_there, only_one, elem_slice, slice_elem, nth_is, among_map}
 use Rattle.xh_records.proofs.Keeps.{home_lot, one_holder, same_place, never}
@@ -18,11 +17,10 @@ among_owned_back q (x ∷ xs) r p h = grind (arith, nat_tests, among_owned_back 
 
 -- one more seat is gathered
 pub gathers : {B : Type 0} (m : ℕ) (seats : List (Held B)) (x : Held B) (v v' : View B) (held held' : List (Option (LotOf B))) → get_elem? seats m ≡ some x → IsGathered (suc m) seats v held
-    → v'.processes ≡ v.processes ++ x.process ∷ [] → v'.records ≡ v.records ++ (view_of x).records → v'.fronts ≡ v.fronts ++ (view_of x).fronts → (w : View B) → v'.deeds ≡ v.deeds ++ w.deeds
-    → Did w x
+    → v'.processes ≡ v.processes ++ x.process ∷ [] → v'.records ≡ v.records ++ (view_of x).records → v'.fronts ≡ v.fronts ++ (view_of x).fronts → Did x
     → length held' ≡ length held
     → ((r : ℕ) → Among (indices x) r → (l : LotOf B) × (lot_in r x ≡ Some l)) → ((r : ℕ) → r < length held → slot_at held' r ≡ or_else (lot_in r x) (slot_at held r)) → IsGathered m seats v' held'
-gathers {B} m seats x v v' held held' at old places records lists w deeds did long has fill = record {
+gathers {B} m seats x v v' held held' at old places records lists did long has fill = record {
   each = λ p h. grind (arith, nat_tests, only_one, among_either);
   count = let c = old.count in let l = ap length places ∙ length-append v.processes (x.process ∷ []) in omega arith;
   one = λ d i j y z at_y at_z le le' e.
@@ -154,9 +152,10 @@ module _ {B : Type 0} (fits : B → ℕ → Bool) (s : Shape) (id : ℕ) (v : Vi
   pub some_lot : (k : ℕ) → k < length xs → (l : LotOf B) × (or_else (slot_at held k) (slot_at xs k) ≡ Some l)
   some_lot k h = let there = is_there o k (let e : length o ≡ length held = count in omega arith) in let t = ended k there.0 there.1 in (t.0, t.1)
 
-  -- the deeds of a seat are its place's in the log
-  did : (j : ℕ) (x : Held B) → slice_get seats j ≡ Some x → (d : Did v x) × (d.0 ≡ deeds_by (place_of x.process) shown.log)
-  did j x at = let d = (gathered.fronts j x (slice_elem seats j x at) (omega arith)).1 in (d, ((shown.history.tells id v final.1.1).own (place_of x.process) d.0 d.1).3)
+  -- what a seat has seen of its place's deeds is all of them
+  its_own : (j : ℕ) (x : Held B) → slice_get seats j ≡ Some x → Did x × (deeds_by (place_of x.process) x.front ≡ deeds_by (place_of x.process) shown.log)
+  its_own j x at = let f = gathered.fronts j x (slice_elem seats j x at) (omega arith) in
+      (f.1, ((shown.history.tells id v final.1.1).only (place_of x.process) x.front f.0 (mod-lt x.process (omega arith))).3)
 
   pub ends : (lots : List (LotOf B)) → length lots ≡ length xs → ((k : ℕ) (l : LotOf B) → get_elem? lots k ≡ some l → or_else (slot_at held k) (slot_at xs k) ≡ Some l) → Ends fits s seats ws lots
   ends lots size are = record {
@@ -164,8 +163,8 @@ module _ {B : Type 0} (fits : B → ℕ → Bool) (s : Shape) (id : ℕ) (v : Vi
     log = shown.log;
     leads = shown.history.leads;
     theirs = shown.history.theirs;
-    parts = λ j x at. let d = did j x at in d.0.2 ∙ ap events d.1 ∙ events_by (place_of x.process) shown.log;
-    moved = λ j x at. let d = did j x at in d.0.3 ∙ ap carried d.1;
+    parts = λ j x at. let d = its_own j x at in d.0.0 ∙ ap events d.1;
+    moved = λ j x at. let d = its_own j x at in d.0.1 ∙ ap carried d.1;
     fronts = λ j x at. (shown.history.tells id v final.1.1).begins (place_of x.process) x.front (gathered.fronts j x (slice_elem seats j x at) (omega arith)).0;
     arrives = shown.history.arrives;
     left = λ k d l is at. shown.left k d l is (flies k d l is (are k l (slice_elem lots k l at)));

@@ -10,8 +10,8 @@ use mathlib.Core.Option as maybe
 use lib.Seq.{map-set}
 use Rattle.xh_records.proofs.History.{Unseen, more_history, one_log, tells_all, unseen}
 use Rattle.xh_records.proofs.Cuts.{sat, shares_out, stands, still_seated}
-use Rattle.xh_records.proofs.Common.{Accept, IsLeft, Pass, adds, events}
-use Rattle.xh_records.proofs.Deeds.{left_now, left_still}
+use Rattle.xh_records.proofs.Common.{Accept, Arrives, Deed, IsLeft, Pass, events}
+use Rattle.xh_records.proofs.Deeds.{arrives_more, left_now, left_still}
 use Rattle.xh_records.proofs.Lists.{first_is}
 use Rattle.xh_records.proofs.Elements.{either_way, in_range, is_there, nth_is, only_one}
 use prog.Atomic.{either}
@@ -35,18 +35,17 @@ pub record Change {B : Type 0} (v w : View B) (r : ℕ) (h k : Option Holder) : 
   pub left : (p : ℕ) → k ≡ Some (Process p) → Owns w r p
 
 -- the event by which it does, after the log so far
-pub record By {B : Type 0} (s : Shape) (log : List Event) (v w : View B) (r : ℕ) (h k : Option Holder) (e : Event) (l : LotOf B) : Type 0 where
+pub record By {B : Type 0} (s : Shape) (log : List (Deed B)) (v w : View B) (r : ℕ) (h k : Option Holder) (e : Event) (l : LotOf B) : Type 0 where
   pub inside : record_of e % 256 < s.records
   pub index : index_of s.records (record_of e) ≡ r
   pub from : from_of e ≡ h
   pub to : to_of e ≡ k
   pub alone : v.processes ≡ process_of e ∷ []
-  pub front : w.fronts ≡ (place_of (process_of e), log ++ e ∷ []) ∷ []
-  pub deeds : w.deeds ≡ adds ((e, l) ∷ []) v.deeds
+  pub front : w.fronts ≡ (place_of (process_of e), log ++ (e, l) ∷ []) ∷ []
 
 module _ {B : Type 0} (fits : B → ℕ → Bool) (s : Shape) (o : Ownership) (ws : List ℕ) (hs : List (maybe.Option (Option (LotOf B)))) (vs : List (View B)) (shown : Shows fits s o ws hs vs)
     (id r : ℕ) (v w : View B) (h k : Option Holder) (at : get_elem? vs id ≡ some v) (held : IsHeldBy o r h) (change : Change v w r h k) (e : Event) (lot : LotOf B)
-    (by : By s (events shown.log) v w r h k e lot)
+    (by : By s shown.log v w r h k e lot)
     (was : (p q n : ℕ) → e ≡ Accept p q n → IsLeft shown.log q n lot) where
   abbrev o' : Ownership
   o' = set o r k
@@ -125,8 +124,8 @@ module _ {B : Type 0} (fits : B → ℕ → Bool) (s : Shape) (o : Ownership) (w
     views_fit = λ j u there. either_way (at_set vs id j w u there) (λ t. subst (ViewFits s o') t.1 mine_fits) (λ t. others_fit j u t.0 t.1);
     small = shown.small;
     log = shown.log ++ (e, lot) ∷ [];
-    history = more_history s o o' vs shown.log id v w (e, lot) shown.history at done (by.inside, subst IsHolder (sym by.to) good) (length-set o r k)
-        (shown.inside id (process_of e) v at does).0 by.alone (sits (process_of e) does) by.front by.deeds was elsewhere;
+    history = more_history s o o' vs shown.log id w (e, lot) shown.history done (by.inside, subst IsHolder (sym by.to) good) (length-set o r k)
+        (shown.inside id (process_of e) v at does).0 (sits (process_of e) does) by.front was elsewhere;
     left = left y same;
   }
 
@@ -192,7 +191,7 @@ module _ {B : Type 0} (fits : B → ℕ → Bool) (s : Shape) where
       let found = nth_is t.words r 0 (word_of there.0) word in record { holder = there.0; held = there.1; found = found; word_at = word ∙ ap some (sym found) }
 
   -- a step that leaves all but what its seat has seen as it was
-  pub stays : (t : State S (View B)) (id : ℕ) (me : M) (r : ℕ) (n : ℕ) (fronts : List (ℕ × List Event)) (holds : Shown fits s t) → get_elem? t.views id ≡ some me.0 → get_elem? t.words r ≡ some n
+  pub stays : (t : State S (View B)) (id : ℕ) (me : M) (r : ℕ) (n : ℕ) (fronts : List (ℕ × List (Deed B))) (holds : Shown fits s t) → get_elem? t.views id ≡ some me.0 → get_elem? t.words r ≡ some n
       → ViewTells holds.1.log (record me.0 { fronts = fronts }) → Shown fits s (stepped t r n id me.1 (record me.0 { fronts = fronts }) keeps)
   stays t id me r n fronts holds here word tells =
       let o = holds.0 in let shown = holds.1 in let v : View B = me.0 in let w : View B = record v { fronts = fronts } in let fit = shown.views_fit id v here in (
@@ -211,15 +210,14 @@ module _ {B : Type 0} (fits : B → ℕ → Bool) (s : Shape) where
   knows_word : (o : Ownership) (v : View B) (r n : ℕ) (h : Option Holder) → ViewFits s o v → IsHeldBy o r h → IsHolder h → n ≡ word_of h → Knows v r n
   knows_word o v r n h fit held good is = grind (arith, nat_tests, sits, word_injective, one_holder)
 
-  takes_change : (o : Ownership) (v : View B) (r p : ℕ) (h : Option Holder) (l : LotOf B) (others : List Event) → ViewFits s o v → IsHeldBy o r h → ((q : ℕ) → h ≡ Some (Process q) → ⊥)
+  takes_change : (o : Ownership) (v : View B) (r p : ℕ) (h : Option Holder) (l : LotOf B) (others : List (Deed B)) → ViewFits s o v → IsHeldBy o r h → ((q : ℕ) → h ≡ Some (Process q) → ⊥)
       → v.processes ≡ p ∷ [] → Change v (gained v r p h l others) r h (Some (Process p))
   takes_change o v r p h l others fit held free mine = grind (arith, nat_tests, same_place, only_one, among_either, among_front, one_holder, among_back)
 
   -- the event of a step that takes, or gives
-  step_by : (log : List Event) (v w : View B) (r p : ℕ) (h k : Option Holder) (l : LotOf B) (e : ℕ → Event) → ((n : ℕ) → IsMove (e n) n p h k) → IsSmall s → v.shape ≡ s → v.processes ≡ p ∷ []
-      → w.fronts ≡ (place_of p, log ++ e (number_of v.shape.records r) ∷ []) ∷ [] → w.deeds ≡ adds ((e (number_of v.shape.records r), l) ∷ []) v.deeds
-      → By s log v w r h k (e (number_of s.records r)) l
-  step_by log v w r p h k l e is small same alone front deeds = grind (arith, nat_tests, number_inside, index_back)
+  step_by : (log : List (Deed B)) (v w : View B) (r p : ℕ) (h k : Option Holder) (l : LotOf B) (e : ℕ → Event) → ((n : ℕ) → IsMove (e n) n p h k) → IsSmall s → v.shape ≡ s → v.processes ≡ p ∷ []
+      → w.fronts ≡ (place_of p, log ++ (e (number_of v.shape.records r), l) ∷ []) ∷ [] → By s log v w r h k (e (number_of s.records r)) l
+  step_by log v w r p h k l e is small same alone front = grind (arith, nat_tests, number_inside, index_back)
 
   -- what is at home, where no process holds the record
   pub home_is : (r : ℕ) (h : Option Holder) (l : LotOf B) → IsLotAt s r l → IsHomeLot fits h l → HomeFits fits s r h (some (Some l))
@@ -238,13 +236,11 @@ module _ {B : Type 0} (fits : B → ℕ → Bool) (s : Shape) where
   a_look slots id me r p inside alone t holds long seen =
       let o = holds.0 in let shown = holds.1 in let a : At t o r = at t o r slots shown long inside in let n : ℕ = get_or t.words r 0 in
       let fit = shown.views_fit id me.0 seen in
-      let told = shown.history.tells id me.0 seen in
-      let new_to_it : Unseen (events shown.log) me.0 p = unseen shown.log me.0 p told alone in
+      let new_to_it : Unseen shown.log me.0 p = unseen shown.log me.0 p (shown.history.tells id me.0 seen) alone in
       let w : View B = knowing me.0 (new_to_it.others ++ []) in
-      let front : w.fronts ≡ (place_of p, events shown.log) ∷ [] = new_to_it.now [] ∙ ap (λ (z : List Event). (place_of p, z) ∷ []) (append-nil (events shown.log)) in (
+      let front : w.fronts ≡ (place_of p, shown.log) ∷ [] = new_to_it.now [] ∙ ap (λ (z : List (Deed B)). (place_of p, z) ∷ []) (append-nil shown.log) in (
         w,
-        stays t id me r n w.fronts holds seen a.word_at (tells_all shown.log w p new_to_it.sits front
-            (λ q own there. let x = told.own q own there in (x.2 ∙ ap place_of (only_one (subst (λ (l : List ℕ). Among l x.0) alone.0 x.1)), x.3))),
+        stays t id me r n w.fronts holds seen a.word_at (tells_all shown.log w p new_to_it.sits front),
         (
           new_to_it.others,
           new_to_it.by,
@@ -253,8 +249,8 @@ module _ {B : Type 0} (fits : B → ℕ → Bool) (s : Shape) where
             knows_word o me.0 r n a.holder fit a.held (shown.holders r a.holder a.held) a.found,
             (
               o,
-              subst (λ (z : Shape
-                  × List Event). LeadsTo z.0.records (all_free (length o)) z.1 o) (λ i. (sym (fit.knows p new_to_it.sits) i, sym (ap first_of front) i)) shown.history.leads,
+              subst (λ (z : Shape × List (Deed B)). LeadsTo z.0.records (all_free (length o)) (events z.1) o)
+                  (λ i. (sym (fit.knows p new_to_it.sits) i, sym (ap first_of front) i)) shown.history.leads,
               a.holder,
               a.held,
               a.found,
@@ -269,10 +265,13 @@ module _ {B : Type 0} (fits : B → ℕ → Bool) (s : Shape) where
   takes_lot slots id me r old new p h said is_old is_new free inside alone t holds long seen small =
       let mine : me.0.processes ≡ p ∷ [] = alone.0 in
       let o = holds.0 in let shown = holds.1 in let a : At t o r = at t o r slots shown long inside in let n : ℕ = get_or t.words r 0 in
-      let new_to_it : Unseen (events shown.log) me.0 p = unseen shown.log me.0 p (shown.history.tells id me.0 seen) alone in let sits : Sits me.0 p = new_to_it.sits in
+      let new_to_it : Unseen shown.log me.0 p = unseen shown.log me.0 p (shown.history.tells id me.0 seen) alone in let sits : Sits me.0 p = new_to_it.sits in
       let good : p < 4096 = (shown.inside id p me.0 seen sits).1 in dite (ℕ_discrete n old)
       (λ hit. let same : a.holder ≡ h = word_injective a.holder h (sym a.found ∙ hit ∙ is_old) in let held : IsHeldBy o r h = subst (IsHeldBy o r) same a.held in
       let fit = shown.views_fit id me.0 seen in let x = shown.homes_are r h held in let l = home_lot r h x.0 free x.2 in let w : View B = gained me.0 r p h l.0 new_to_it.others in
+      let was : (q m d : ℕ) → taking p (number_of s.records r) h ≡ Accept q m d → IsLeft shown.log m d l.0 = λ q m d e.
+      let from : h ≡ Some (Direction d) = accepts_from p (number_of s.records r) q m d h e in
+      subst (λ (z : ℕ). IsLeft shown.log z d l.0) (accepts_it p (number_of s.records r) q m d h e) (shown.left r d l.0 (subst (IsHeldBy o r) from held) (x.1 ∙ ap some l.1)) in
       let act : Act S = takes r (Some l.0) in (
         w,
         act,
@@ -281,10 +280,8 @@ module _ {B : Type 0} (fits : B → ℕ → Bool) (s : Shape) where
           set o r (Some (Process p)),
           moved fits s o t.words t.homes t.views shown id r me.0 w h (Some (Process p)) seen held (takes_change o me.0 r p h l.0 new_to_it.others fit held free mine)
               (taking p (number_of s.records r) h) l.0
-              (step_by (events shown.log) me.0 w r p h (Some (Process p)) l.0 (λ n. taking p n h) (λ n. taking_is p n h free) shown.small (fit.knows p sits) mine (new_to_it.now _) refl)
-              (λ q m d e. let from : h ≡ Some (Direction d) = accepts_from p (number_of s.records r) q m d h e in
-              subst (λ (z : ℕ). IsLeft shown.log z d l.0) (accepts_it p (number_of s.records r) q m d h e)
-              (shown.left r d l.0 (subst (IsHeldBy o r) from held) (x.1 ∙ ap some l.1))) none good refl (λ d e. absurd (never d p (sym e))),
+              (step_by shown.log me.0 w r p h (Some (Process p)) l.0 (λ n. taking p n h) (λ n. taking_is p n h free) shown.small (fit.knows p sits) mine (new_to_it.now _))
+              was none good refl (λ d e. absurd (never d p (sym e))),
         ),
         (
           (λ _. (
@@ -296,7 +293,10 @@ module _ {B : Type 0} (fits : B → ℕ → Bool) (s : Shape) where
               subst (λ (z : Option Holder). IsHomeLot fits z l.0) is l.3,
             )),
             subst (λ (z : Shape). IsLotAt z r l.0) (sym (fit.knows p sits)) l.2,
-            λ q owns. free q (one_holder o r h (Some (Process q)) held (fit.is_owner r q owns).0),
+            (λ q owns. free q (one_holder o r h (Some (Process q)) held (fit.is_owner r q owns).0)),
+            subst (λ (z : List (ℕ × List (Deed B))). Arrives (first_of z)) (sym (new_to_it.now ((taking p (number_of me.0.shape.records r) h, l.0) ∷ [])))
+                (subst (λ (z : Shape). Arrives (shown.log ++ (taking p (number_of z.records r) h, l.0) ∷ [])) (sym (fit.knows p sits))
+                (arrives_more shown.log (taking p (number_of s.records r) h, l.0) shown.history.arrives was)),
           )),
           (λ miss. absurd (miss hit)),
         ),
@@ -309,7 +309,7 @@ module _ {B : Type 0} (fits : B → ℕ → Bool) (s : Shape) where
         ((λ hit. absurd (miss hit)), (λ _. look.2)),
       ))
 
-  gives_change : (o : Ownership) (v : View B) (r p : ℕ) (k : Option Holder) (l : LotOf B) (others : List Event) → ViewFits s o v → Owns v r p → ((q : ℕ) → k ≡ Some (Process q) → ⊥)
+  gives_change : (o : Ownership) (v : View B) (r p : ℕ) (k : Option Holder) (l : LotOf B) (others : List (Deed B)) → ViewFits s o v → Owns v r p → ((q : ℕ) → k ≡ Some (Process q) → ⊥)
       → Change v (lost v r p k l others) r (Some (Process p)) k
   gives_change o v r p k l others fit owns free =
       let out = λ (i q : ℕ). among_without r v.records (i, q) in let still = λ (i q : ℕ). among_kept r v.records (i, q) in grind (arith, nat_tests, same_place, out, still)
@@ -320,7 +320,7 @@ module _ {B : Type 0} (fits : B → ℕ → Bool) (s : Shape) where
       → Allows (Shown fits s) slots id me r (λ _. new) (λ _. gave (step slots r new 0 none) me new)
   gives_lot slots id me r new p k lot rest_of is_new free good front alone owns is_lot home t holds long seen small =
       let o = holds.0 in let shown = holds.1 in let fit = shown.views_fit id me.0 seen in let was = fit.is_owner r p owns in
-      let new_to_it : Unseen (events shown.log) me.0 p = unseen shown.log me.0 p (shown.history.tells id me.0 seen) alone in let w : View B = lost me.0 r p k lot new_to_it.others in
+      let new_to_it : Unseen shown.log me.0 p = unseen shown.log me.0 p (shown.history.tells id me.0 seen) alone in let w : View B = lost me.0 r p k lot new_to_it.others in
       let y : maybe.Option S = some (Some lot) in (
         w,
         gives,
@@ -331,7 +331,7 @@ module _ {B : Type 0} (fits : B → ℕ → Bool) (s : Shape) where
               (λ i. (sym is_new i, ap (λ (c : List (ℕ × S)). put_back t.homes c) (sym front) i))
               (moved fits s o t.words t.homes t.views shown id r me.0 w (Some (Process p)) k seen was.0 (gives_change o me.0 r p k lot new_to_it.others fit owns free)
               (giving p (number_of s.records r) k) lot
-              (step_by (events shown.log) me.0 w r p (Some (Process p)) k lot (λ n. giving p n k) (λ n. giving_is p n k free) shown.small (fit.knows p was.1) alone.0 (new_to_it.now _) refl)
+              (step_by shown.log me.0 w r p (Some (Process p)) k lot (λ n. giving p n k) (λ n. giving_is p n k free) shown.small (fit.knows p was.1) alone.0 (new_to_it.now _))
               (λ q m d e. absurd (gives_none p (number_of s.records r) q m d k e)) y good (home_is r k lot (subst (λ (z : Shape). IsLotAt z r lot) (fit.knows p was.1) is_lot) home)
               (λ d e. (refl, (p, ap (giving p (number_of s.records r)) e)))),
         ),
@@ -348,22 +348,22 @@ module _ {B : Type 0} (fits : B → ℕ → Bool) (s : Shape) where
   looks slots id me r p inside alone t holds long seen small = let look = a_look slots id me r p inside alone t holds long seen in (look.0, keeps, tt, look.1, look.2)
 
   -- a load by a seat that was told what another had seen
-  pub compares : (slots id : ℕ) (me : M) (r : ℕ) (own note : ℕ × List Event) → r < slots → me.0.fronts ≡ own ∷ note ∷ []
+  pub compares : (slots id : ℕ) (me : M) (r : ℕ) (own note : ℕ × List (Deed B)) → r < slots → me.0.fronts ≡ own ∷ note ∷ []
       → Allows (Shown fits s) slots id me r (λ n. n) (compared (step slots r 0 0 none) me)
   compares slots id me r own note inside two t holds long seen small =
       let a : At t holds.0 r = at t holds.0 r slots holds.1 long inside in
       let told = holds.1.history.tells id me.0 seen in
-      let first : head_of me.0.fronts ≡ own ∷ [] = ap (λ (z : List (ℕ × List Event)). head_of z) two in
-      let kept : (q : ℕ) (f : List Event) → Among (head_of me.0.fronts) (q, f) → Among me.0.fronts (q, f) = λ q f there.
-      subst (λ (z : List (ℕ × List Event)). Among z (q, f)) (sym two) (inl (only_one (subst (λ (z : List (ℕ × List Event)). Among z (q, f)) first there))) in (
+      let first : head_of me.0.fronts ≡ own ∷ [] = ap (λ (z : List (ℕ × List (Deed B))). head_of z) two in
+      let kept : (q : ℕ) (f : List (Deed B)) → Among (head_of me.0.fronts) (q, f) → Among me.0.fronts (q, f) = λ q f there.
+      subst (λ (z : List (ℕ × List (Deed B))). Among z (q, f)) (sym two) (inl (only_one (subst (λ (z : List (ℕ × List (Deed B))). Among z (q, f)) first there))) in (
         record me.0 { fronts = head_of me.0.fronts },
         keeps,
         tt,
         stays t id me r (get_or t.words r 0) (head_of me.0.fronts) holds seen a.word_at
-            record { begins = λ q f there. told.begins q f (kept q f there); only = λ q f there few. told.only q f (kept q f there) few; own = told.own },
+            record { begins = λ q f there. told.begins q f (kept q f there); only = λ q f there few. told.only q f (kept q f there) few },
         (
           refl,
-          λ x y is. one_log (events holds.1.log) x.1 y.1 (told.begins x.0 x.1 (subst (λ (z : List (ℕ × List Event)). Among z x) (sym is) (inl refl)))
-              (told.begins y.0 y.1 (subst (λ (z : List (ℕ × List Event)). Among z y) (sym is) (inr (inl refl)))),
+          λ x y is. one_log holds.1.log x.1 y.1 (told.begins x.0 x.1 (subst (λ (z : List (ℕ × List (Deed B))). Among z x) (sym is) (inl refl)))
+              (told.begins y.0 y.1 (subst (λ (z : List (ℕ × List (Deed B))). Among z y) (sym is) (inr (inl refl)))),
         ),
       )

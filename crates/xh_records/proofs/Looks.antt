@@ -1,11 +1,12 @@
 -- A seat that looked before it did something.
-use Rattle.xh_records.proofs.Common.{ℕ, List, [], ◌∷◌, ◌++◌, ap, ◌∙◌, subst, LotOf, Event, place_of, record_of, Grows, StartsWith, IsLotOf, Held, HasFound}
+use Rattle.xh_records.proofs.Common.{ℕ, List, [], ◌∷◌, ◌++◌, ap, ◌∙◌, subst, LotOf, Deed, Event, place_of, record_of, Grows, StartsWith, IsLotOf, Held, HasFound}
 use Rattle.xh_records.proofs.Common.{HasGained, HasLooked, SawTaken, did}
 use Rattle.xh_records.proofs.Common.{moving, seen, with_lots}
-use Rattle.xh_records.proofs.History.{grows_twice, starts_twice}
+use Rattle.xh_records.proofs.Deeds.{grows_twice}
+use Rattle.xh_records.proofs.History.{starts_twice}
 
 module _ {B : Type 0} (x y : Held B) (look : HasLooked x y) where
-  same_process : (own a b : List Event) → Grows (place_of y.process) own a b → Grows (place_of x.process) own a b
+  same_process : (own a b : List (Deed B)) → Grows (place_of y.process) own a b → Grows (place_of x.process) own a b
   same_process own a b = subst (λ (p : ℕ). Grows (place_of p) own a b) (ap (λ h. h.process) look.0)
 
   pub looks_on : (z : Held B) → HasLooked y z → HasLooked x z
@@ -19,13 +20,13 @@ module _ {B : Type 0} (x y : Held B) (look : HasLooked x y) where
         next.1 ∙ ap (λ h. seen z.front (did e (with_lots (moving e next.0 h) (h.lots ++ (record_of e, next.0) ∷ [])))) look.0,
         subst (λ s. IsLotOf s (record_of e) next.0) (ap (λ h. h.shape) look.0) next.2,
         next.3,
-        grows_twice (place_of x.process) (e ∷ []) x.front y.front z.front look.1 (same_process (e ∷ []) y.front z.front next.4),
+        grows_twice (place_of x.process) ((e, next.0) ∷ []) x.front y.front z.front look.1 (same_process ((e, next.0) ∷ []) y.front z.front next.4),
       )
 
-  pub starts_on : (front : List Event) → StartsWith front y.front → StartsWith front x.front
+  pub starts_on : (front : List (Deed B)) → StartsWith front y.front → StartsWith front x.front
   starts_on front later = starts_twice x.front y.front front (look.1.0 ++ [], look.1.1) later
 
-  pub found_on : (k word : ℕ) (front : List Event) → HasFound k word y front → HasFound k word x front
+  pub found_on : (k word : ℕ) (front : List (Deed B)) → HasFound k word y front → HasFound k word x front
   found_on k word front found = subst (λ h. HasFound k word h front) look.0 found
 
   pub saw_on : (arena : ℕ) (words : List ℕ) (z : Held B) → SawTaken arena words y z → SawTaken arena words x z

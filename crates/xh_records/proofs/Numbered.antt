@@ -1,10 +1,12 @@
 -- A seat's lots by the numbers of their records.
 use Rattle.xh_records.proofs.Common.{nat_tests, arith, ◌≡◌, ℕ, suc, length, ◌%◌, ◌<◌, ◌≤◌, List, [], ◌∷◌, ◌++◌, map, sym, refl, ap, ◌∙◌, subst, Option, Some, None, Me, TableId, LotOf}
-use Rattle.xh_records.proofs.Common.{index_of, Event, number_of, place_of, number_inside, index_back, number_back, Among, keys, put, value_at, without, Shape, View, IsLotOf, IsLotAt, IsSmall}
+use Rattle.xh_records.proofs.Common.{index_of, Deed, Event, number_of, place_of, number_inside, index_back, number_back, Among, keys, put, value_at, without, Shape, View, IsLotOf, IsLotAt, IsSmall}
 use Rattle.xh_records.proofs.Common.{Holder, Process, Direction, taking, giving, Advances, HasGained, HasLost, HasSeen, Held, Knows, seen, view_of, did, with_lots, IsRecord, adds, front_in}
 use Rattle.xh_records.proofs.Common.{IsOthers, SeesMore, Grows, TellsWord, in_slot, with_lot, numbered, AllLots, IsSeat, carried, deeds_in, events, moving}
+use Rattle.xh_records.specs.inner.Steps.{process_in}
+use Rattle.xh_records.proofs.Common.{deeds_by, get_or}
 use Rattle.xh_records.proofs.Elements.{among_map, in_range, slice_elem}
-use Rattle.xh_records.proofs.History.{adds_one}
+use Rattle.xh_records.proofs.History.{adds_one, own_seen}
 
 pub index_injective : (n k j : ℕ) → 0 < n → n ≤ 256 → number_of n k ≡ number_of n j → k ≡ j
 index_injective n k j pos most e = sym (index_back n k pos most) ∙ ap (index_of n) e ∙ index_back n j pos most
@@ -58,14 +60,14 @@ module _ {B : Type 0} (s : Shape) (small : IsSmall s) where
 
 -- what a seat gained or lost, by the event of a step
 pub gained_by : {B : Type 0} (x y : Held B) (p r : ℕ) (h : Option Holder) (is : LotOf B → Type 0) (l : LotOf B) → IsLotOf x.shape r l → is l
-    → (y ≡ seen y.front (did (taking p r h) (with_lots (moving (taking p r h) l x) (x.lots ++ (r, l) ∷ [])))) × Advances (taking p r h ∷ []) x y → HasGained (taking p r h) is x y
+    → (y ≡ seen y.front (did (taking p r h) (with_lots (moving (taking p r h) l x) (x.lots ++ (r, l) ∷ [])))) × Advances ((taking p r h, l) ∷ []) x y → HasGained (taking p r h) is x y
 gained_by x y p r None is l lot good e = (l, e.0, lot, good, e.1)
 gained_by x y p r (Some (Process q)) is l lot good e = (l, e.0, lot, good, e.1)
 gained_by x y p r (Some (Direction d)) is l lot good e = (l, e.0, lot, good, e.1)
 
-pub lost_by : {B : Type 0} (x y : Held B) (p r : ℕ) (h : Option Holder)
-    → (y ≡ seen y.front (did (giving p r h) (with_lots x (without r x.lots)))) × Advances (giving p r h ∷ []) x y → HasLost (giving p r h) x y
-lost_by x y p r h e = grind (arith, nat_tests)
+pub lost_by : {B : Type 0} (x y : Held B) (p r : ℕ) (h : Option Holder) (l : LotOf B)
+    → (y ≡ seen y.front (did (giving p r h) (with_lots (moving (giving p r h) l x) (without r x.lots)))) × Advances ((giving p r h, l) ∷ []) x y → HasLost (giving p r h) l x y
+lost_by x y p r h l e = grind (arith, nat_tests)
 
 -- a seat as contracts see it
 abbrev pub held : {B : Type 0} → TableId → ℕ → ℕ → Me (Option (LotOf B)) (View B) → Held B
@@ -80,13 +82,17 @@ held t id process me = record {
   front = front_in me.0;
 }
 
+-- the process of a view that stands for one
+pub alone_is : {B : Type 0} (p : ℕ) (v : View B) → v.processes ≡ p ∷ [] → process_in v ≡ p
+alone_is p v alone = ap (λ (l : List ℕ). get_or l 0 0) alone
+
 -- the number of the record in a slot
 pub number_is : (n m slot r : ℕ) → n ≡ m → slot ≡ index_of m r → r % 256 < m → number_of n slot ≡ r
 number_is n m slot r same at inside = (λ i. number_of (same i) (at i)) ∙ number_back m r inside
 
 module _ {B : Type 0} (x : Held B) (t : TableId) (id process : ℕ) (me : Me (Option (LotOf B)) (View B)) (is : held t id process me ≡ x) where
   -- a seat's view
-  pub views_are : (order : List ℕ) (capacity slots : ℕ) → IsSeat process order capacity slots me → view_of x ≡ record me.0 { deeds = [] }
+  pub views_are : (order : List ℕ) (capacity slots : ℕ) → IsSeat process order capacity slots me → view_of x ≡ me.0
   views_are order capacity slots seat = grind (arith, nat_tests, indices_are)
 
   -- what a seat has in the slot of a record
@@ -125,7 +131,7 @@ module _ {B : Type 0} (x : Held B) (t : TableId) (id process : ℕ) (me : Me (Op
 
   -- and after a step, with other lots, events of others that it saw, and its own
   pub held_as : (order : List ℕ) (capacity slots : ℕ) → IsSeat process order capacity slots me → (t' : TableId) (id' : ℕ) (me' : Me (Option (LotOf B)) (View B)) (ls : List (ℕ × LotOf B))
-      (others own done : List Event) (moved : List (LotOf B)) → t' ≡ t → id' ≡ id → me'.0.shape ≡ me.0.shape → numbered me'.0.shape.records me'.1 ≡ ls
+      (others own : List (Deed B)) (done : List Event) (moved : List (LotOf B)) → t' ≡ t → id' ≡ id → me'.0.shape ≡ me.0.shape → numbered me'.0.shape.records me'.1 ≡ ls
       → me'.0.fronts ≡ adds (others ++ own) me.0.fronts
       → IsOthers me.0 others → events (deeds_in me'.0) ≡ done → carried (deeds_in me'.0) ≡ moved
       → (held t' id' process me' ≡ seen (front_in me'.0) (record x { lots = ls; done = done; moved = moved })) × Grows (place_of x.process) own x.front (front_in me'.0)
@@ -148,15 +154,16 @@ module _ {B : Type 0} (x : Held B) (t : TableId) (id process : ℕ) (me : Me (Op
       → id' ≡ id
       → slot ≡ index_of x.shape.records r → SeesMore slot word me me' → HasSeen r word x (held t' id' process me')
   held_seen order capacity slots seat t' id' me' slot r word et en at sees =
+      let own : deeds_in me'.0 ≡ deeds_in me.0 = ap (λ (m : Me (Option (LotOf B)) (View B)). deeds_in m.0) sees.2
+      ∙ own_seen (place_of process) sees.0 me.0.fronts seat.front (sym (ap (λ (p : ℕ). deeds_by (place_of p) sees.0) (alone_is process me.0 seat.processes)) ∙ sees.1) in
       let shape : me'.0.shape ≡ x.shape = ap (λ (m : Me (Option (LotOf B)) (View B)). m.0.shape) sees.2 ∙ ap (λ (y : Held B). y.shape) is in
       let after = held_as order capacity slots seat t' id' me' x.lots sees.0 [] x.done x.moved et en (ap (λ (m : Me (Option (LotOf B)) (View B)). m.0.shape) sees.2)
       (ap (λ (m : Me (Option (LotOf B)) (View B)). numbered m.0.shape.records m.1) sees.2 ∙ ap (λ (y : Held B). y.lots) is)
       (ap (λ (m : Me (Option (LotOf B)) (View B)). m.0.fronts) sees.2) sees.1
-      (ap (λ (m : Me (Option (LotOf B)) (View B)). events (deeds_in m.0)) sees.2 ∙ ap (λ (y : Held B). y.done) is)
-      (ap (λ (m : Me (Option (LotOf B)) (View B)). carried (deeds_in m.0)) sees.2 ∙ ap (λ (y : Held B). y.moved) is) in (
+      (ap events own ∙ ap (λ (y : Held B). y.done) is) (ap carried own ∙ ap (λ (y : Held B). y.moved) is) in (
         (
           subst (λ (z : View B × ℕ). Knows z.0 z.1 word) (λ i. (sym (views_are order capacity slots seat) i, at i)) sees.3.0,
-          subst (λ (z : Shape × ℕ). TellsWord z.0.records (front_in me'.0) z.1 word) (λ i. (shape i, at i)) sees.3.1,
+          subst (λ (z : Shape × ℕ). TellsWord z.0.records (events (front_in me'.0)) z.1 word) (λ i. (shape i, at i)) sees.3.1,
         ),
         after,
       )

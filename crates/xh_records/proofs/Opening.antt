@@ -1,6 +1,6 @@
 -- The table at the start: no record is held, and one seat stands for all places.
 use Rattle.xh_records.proofs.Common.{nat_tests, ◌≡◌, ℕ, zero, suc, ◌≤◌, Bool, List, [], ◌∷◌, ◌++◌, map, length, replicate, sym, refl, ap, ◌∙◌, subst, arith, length-map, length-replicate, Option}
-use Rattle.xh_records.proofs.Common.{Some, None, some, some-injective, some-ne-none, get_elem?, opening, at_map, LotOf, Holder, Process, IsHeldBy, IsHolder, word_of, Shape, View, Event, by_place}
+use Rattle.xh_records.proofs.Common.{Some, None, some, some-injective, some-ne-none, get_elem?, opening, at_map, LotOf, Holder, Process, IsHeldBy, IsHolder, word_of, Shape, View, Deed, deeds_by}
 use Rattle.xh_records.proofs.Common.{IsLotAt, IsEmpty, IsSmall, HomeFits, ViewFits, ViewTells, Shown, places_from, all_places}
 use Rattle.xh_records.proofs.Common.{◌+◌, ◌<◌, ◌%◌, Among, dite, ℕ_discrete, inl, inr}
 use Rattle.xh_records.proofs.Common.{Direction}
@@ -72,7 +72,6 @@ opens {B} fits s n words lots slots few zeros wrapped long empty small = (
 
     untold : ViewTells {B = B} [] (all_places s)
     untold = record {
-      begins = λ q f there. ([], sym (ap (λ (z : List Event). z ++ []) (lists_back (places_from 0 s.places) q f there).3));
-      only = λ q f there few. let t = lists_back (places_from 0 s.places) q f there in (t.0, t.1, t.2, ap (by_place q) t.3);
-      own = λ q own there. lists_back (places_from 0 s.places) q own there;
+      begins = λ q f there. ([], sym (ap (λ (z : List (Deed B)). z ++ []) (lists_back (places_from 0 s.places) q f there).3));
+      only = λ q f there few. let t = lists_back (places_from 0 s.places) q f there in (t.0, t.1, t.2, ap (deeds_by q) t.3);
     }

@@ -1,7 +1,7 @@
 -- What a seat's type keeps, at each change of its list.
 use Rattle.xh_records.proofs.Common.{nat_tests, ◌≡◌, ℕ, suc, ◌+◌, ◌<◌, ◌≤◌, List, [], ◌∷◌, ◌++◌, length, sym, refl, ap, ◌∙◌, subst, inl, ⊎_elim, arith, Option, Some, remove, some, dite}
 use Rattle.xh_records.proofs.Common.{ℕ_discrete, get_elem?, Me, LotOf, Among, Distinct, keys, put, without, among_back, distinct_push, distinct_split, here_first, keys_append, keys_push}
-use Rattle.xh_records.proofs.Common.{length-keys, not_here, put_keys, split_at_key, without_split, Shape, View, Event, Holder, number_of, place_of, Owns, IsLotAt, owned_by, giving, IsAlone}
+use Rattle.xh_records.proofs.Common.{length-keys, not_here, put_keys, split_at_key, without_split, Shape, View, Deed, Holder, number_of, place_of, Owns, IsLotAt, owned_by, giving, IsAlone}
 use Rattle.xh_records.proofs.Common.{gained, knowing, lost, renewed, AllBelow, AllLots, IsSeat, in_slot}
 use Rattle.xh_records.proofs.History.{adds_one}
 use Rattle.xh_records.proofs.Lists.{few, below_push, owned_push, among_owned, slot_split, below_split, owned_without, remove_split, below_at, stands}
@@ -53,7 +53,7 @@ module _ {B : Type 0} (process : ℕ) (order : List ℕ) (capacity slots : ℕ) 
       let most : length (i ∷ order) ≤ slots = few slots (i ∷ order) (inside, seat.below) (not_among i seat new, seat.distinct) in let room : slots ≤ capacity = seat.room in
       let size : length (i ∷ order) ≡ suc (length order) = refl in omega arith
 
-  pub gains : (i : ℕ) (l : LotOf B) (h : Option Holder) (others : List Event) → IsSeat process order capacity slots me → i < slots → IsLotAt me.0.shape i l → ((p : ℕ) → Owns me.0 i p → ⊥)
+  pub gains : (i : ℕ) (l : LotOf B) (h : Option Holder) (others : List (Deed B)) → IsSeat process order capacity slots me → i < slots → IsLotAt me.0.shape i l → ((p : ℕ) → Owns me.0 i p → ⊥)
       → IsSeat process (order ++ i ∷ []) capacity slots (gained me.0 i process h l others, me.1 ++ (i, Some l) ∷ [])
   gains i l h others seat inside lot new = grind (arith, nat_tests, keys_push, owned_push, adds_one, lots_push, distinct_push, not_among, below_push)
 
@@ -76,7 +76,7 @@ module _ {B : Type 0} (process : ℕ) (order : List ℕ) (capacity slots : ℕ) 
       }
 
   -- the seat without the slot that stands behind k others
-  pub loses : (k i : ℕ) (h : Option Holder) (l : LotOf B) (others : List Event) → IsSeat process order capacity slots me → get_elem? order k ≡ some i
+  pub loses : (k i : ℕ) (h : Option Holder) (l : LotOf B) (others : List (Deed B)) → IsSeat process order capacity slots me → get_elem? order k ≡ some i
       → IsSeat process (remove order k) capacity slots (lost me.0 i process h l others, without i me.1)
   loses k i h l others seat at =
       let t = split_at_key me.1 k i (subst (λ (o : List ℕ). get_elem? o k ≡ some i) seat.ordered at) in
@@ -88,8 +88,7 @@ module _ {B : Type 0} (process : ℕ) (order : List ℕ) (capacity slots : ℕ) 
       record {
         processes = seat.processes;
         ordered = order_is ∙ sym (keys_append a b) ∙ ap keys (sym rest_is);
-        front = (adds_one (others ++ giving process (number_of me.0.shape.records i) h ∷ []) (place_of process) me.0.fronts seat.front).1;
-        deeds = (adds_one ((giving process (number_of me.0.shape.records i) h, l) ∷ []) (place_of process) me.0.deeds seat.deeds).1;
+        front = (adds_one (others ++ (giving process (number_of me.0.shape.records i) h, l) ∷ []) (place_of process) me.0.fronts seat.front).1;
         records = ap (without i) (seat.records ∙ ap (owned_by process) same) ∙ owned_without process i (keys a) (keys b) d.0 d.1 ∙ ap (owned_by process) (sym order_is);
         lots = subst (AllLots me.0.shape) (sym rest_is) (lots_split me.0.shape a (i, t.1) b (subst (AllLots me.0.shape) t.3 seat.lots)).1;
         distinct = subst Distinct (sym order_is) d.2;
@@ -102,7 +101,7 @@ module _ {B : Type 0} (process : ℕ) (order : List ℕ) (capacity slots : ℕ) 
   replaces i y seat is = grind (arith, nat_tests, put_keys, lots_put)
 
   -- a seat that has seen more
-  pub sees : (es : List Event) → IsSeat process order capacity slots me → IsSeat process order capacity slots (knowing me.0 es, me.1)
+  pub sees : (es : List (Deed B)) → IsSeat process order capacity slots me → IsSeat process order capacity slots (knowing me.0 es, me.1)
   sees es seat = grind (arith, nat_tests, adds_one)
 
   -- a seat with no slot, of the next generation

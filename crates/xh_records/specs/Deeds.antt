@@ -35,6 +35,10 @@ module _ {B : Type 0} where
   deeds_by q [] = []
   deeds_by q (d ∷ ds) = cond (place_of (process_of d.0) == q) (d ∷ deeds_by q ds) (deeds_by q ds)
 
+  -- what is known after a step of the place q: what was known before, then deeds of other places, then those that the step did itself
+  abbrev pub Grows : ℕ → List (Deed B) → List (Deed B) → List (Deed B) → Type 0
+  Grows q own before after = (others : List (Deed B)) × (after ≡ before ++ (others ++ own)) × (deeds_by q others ≡ [])
+
   -- the last of the deeds on the record r passed it to the direction d, and left this lot
   abbrev pub IsLeft : List (Deed B) → ℕ → ℕ → LotOf B → Type 0
   IsLeft all r d l = (q : ℕ) × (before since : List (Deed B)) × (all ≡ before ++ (Pass q r d, l) ∷ since) × ((e : Event) → Among (events since) e → record_of e ≢ r)

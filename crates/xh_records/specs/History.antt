@@ -1,10 +1,10 @@
 -- The events on the records of a table, in their order.
-use Rattle.std.specs.Prelude.{◌≡◌, ◌⊎◌, ℕ, ◌%◌, ◌<◌, List, [], ◌∷◌, ◌++◌, ◌==◌, cond, length, replicate, None, Option}
+use Rattle.std.specs.Prelude.{◌≡◌, ◌⊎◌, ℕ, ◌%◌, ◌<◌, List, [], ◌∷◌, ◌++◌, length, replicate, None, Option}
 use Rattle.xh_model.specs.declared.event.Event.{Event}
 use Rattle.xh_model.specs.declared.event.Event.TheVariants.{Claim, Carve, Cut, GiveBack, Vacate, Pass, Accept}
 use Rattle.xh_model.specs.declared.event.Holder.{Holder}
 use Rattle.xh_model.specs.declared.limits.TheConstants.{MAX_RECORDS}
-use Rattle.xh_model.specs.Words.{Ownership, IsDone, IsHeldBy, IsHolder, place_of, record_of, to_of, word_of}
+use Rattle.xh_model.specs.Words.{Ownership, IsDone, IsHeldBy, IsHolder, record_of, to_of, word_of}
 
 -- no record of n is held
 abbrev pub all_free : ℕ → Ownership
@@ -29,23 +29,14 @@ process_of (Vacate p r) = p
 process_of (Pass p r d) = p
 process_of (Accept p r d) = p
 
--- those of the processes at the place q, in their order
-abbrev pub by_place : ℕ → List Event → List Event
-by_place q [] = []
-by_place q (e ∷ es) = cond (place_of (process_of e) == q) (e ∷ by_place q es) (by_place q es)
-
 -- the front is a beginning of the log
-abbrev pub StartsWith : List Event → List Event → Type 0
-StartsWith log front = (later : List Event) × (log ≡ front ++ later)
+abbrev pub StartsWith : {X : Type 0} → List X → List X → Type 0
+StartsWith {X} log front = (later : List X) × (log ≡ front ++ later)
 
 -- one of two fronts is a beginning of the other
-abbrev pub IsOneLog : List Event → List Event → Type 0
+abbrev pub IsOneLog : {X : Type 0} → List X → List X → Type 0
 IsOneLog a b = StartsWith a b ⊎ StartsWith b a
 
 -- after the events of the front, with n records in an arena, the word at the index k is that of the record's holder
 abbrev pub TellsWord : ℕ → List Event → ℕ → ℕ → Type 0
 TellsWord n front k word = (o : Ownership) × LeadsTo n (all_free (length o)) front o × (h : Option Holder) × IsHeldBy o k h × (word ≡ word_of h)
-
--- what is known after a step of the place q: what was known before, then events of other places, then those that the step did itself
-abbrev pub Grows : ℕ → List Event → List Event → List Event → Type 0
-Grows q own before after = (others : List Event) × (after ≡ before ++ (others ++ own)) × (by_place q others ≡ [])

@@ -12,8 +12,8 @@ use Rattle.xh_model.specs.Keyed.{Among, keys, value_at, without}
 use Rattle.xh_records.specs.declared.shape.Shape.{Shape}
 use Rattle.xh_records.specs.declared.view.View.{View}
 use Rattle.xh_records.specs.Showing.{IsLotOf, IsLotAt, IsEmpty, IsFull, Owns, Sits}
-use Rattle.xh_records.specs.Deeds.{Arrives, Deed, IsLeft, carried, carry, deeds_by, events}
-use Rattle.xh_records.specs.History.{Grows, LeadsTo, StartsWith, TellsWord, all_free, by_place, process_of}
+use Rattle.xh_records.specs.Deeds.{Arrives, Deed, Grows, IsLeft, carried, carry, deeds_by, events}
+use Rattle.xh_records.specs.History.{LeadsTo, StartsWith, TellsWord, all_free, process_of}
 
 -- the table of all records
 pub record RecordsOf : Type 0 where
@@ -21,7 +21,7 @@ pub record RecordsOf : Type 0 where
   pub shape : Shape
 
 -- a seat: its table, its number there, the process that it stands for, the lots of the records that the process owns, each beside its record's number, in the order gained, the events that the
--- seat did, in their order, the lots that it passed or accepted by them, as they were then, and its front: the beginning of the one log of all events that it has seen
+-- seat did, in their order, the lots that it passed or accepted by them, as they were then, and its front: the beginning of the one log of all deeds that it has seen
 pub record Held (B : Type 0) : Type 0 where
   pub table : TableId
   pub id : ℕ
@@ -30,7 +30,7 @@ pub record Held (B : Type 0) : Type 0 where
   pub lots : List (ℕ × LotOf B)
   pub done : List Event
   pub moved : List (LotOf B)
-  pub front : List Event
+  pub front : List (Deed B)
 
 -- the table gave this seat
 abbrev pub IsSeatOf : {B : Type 0} → RecordsOf → Held B → Type 0
@@ -52,18 +52,18 @@ with_lots x l = record x { lots = l }
 abbrev pub did : {B : Type 0} → Event → Held B → Held B
 did e x = record x { done = x.done ++ e ∷ [] }
 
--- the seat did these events, and what else it has seen since is of others
-abbrev pub Advances : {B : Type 0} → List Event → Held B → Held B → Type 0
+-- the seat did these deeds, and what else it has seen since is of others
+abbrev pub Advances : {B : Type 0} → List (Deed B) → Held B → Held B → Type 0
 Advances own x y = Grows (place_of x.process) own x.front y.front
 
 -- by the event e the seat gained the lot of its record, behind its others, and of that lot this holds
 abbrev pub HasGained : {B : Type 0} → Event → (LotOf B → Type 0) → Held B → Held B → Type 0
 HasGained {B} e is x y = (l : LotOf B) × (y ≡ record x { lots = x.lots ++ (record_of e, l) ∷ []; done = x.done ++ e ∷ []; moved = carry e l x.moved; front = y.front })
-    × IsLotOf x.shape (record_of e) l × is l × Advances (e ∷ []) x y
+    × IsLotOf x.shape (record_of e) l × is l × Advances ((e, l) ∷ []) x y
 
--- by the event e the seat lost the lot of its record
-abbrev pub HasLost : {B : Type 0} → Event → Held B → Held B → Type 0
-HasLost e x y = (y ≡ record x { lots = without (record_of e) x.lots; done = x.done ++ e ∷ []; front = y.front }) × Advances (e ∷ []) x y
+-- by the event e the seat lost this lot of its record
+abbrev pub HasLost : {B : Type 0} → Event → LotOf B → Held B → Held B → Type 0
+HasLost e l x y = (y ≡ record x { lots = without (record_of e) x.lots; done = x.done ++ e ∷ []; moved = carry e l x.moved; front = y.front }) × Advances ((e, l) ∷ []) x y
 
 -- the seat has seen more of the others, and else is as it was
 abbrev pub HasLooked : {B : Type 0} → Held B → Held B → Type 0
@@ -80,22 +80,22 @@ abbrev pub owned_by : ℕ → List ℕ → List (ℕ × ℕ)
 owned_by p [] = []
 owned_by p (k ∷ ks) = (k, p) ∷ owned_by p ks
 
--- the seat's view, but for its deeds
+-- the seat's view
 abbrev pub view_of : {B : Type 0} → Held B → View B
-view_of x = record { shape = x.shape; processes = x.process ∷ []; records = owned_by x.process (indices x); fronts = (place_of x.process, x.front) ∷ []; deeds = [] }
+view_of x = record { shape = x.shape; processes = x.process ∷ []; records = owned_by x.process (indices x); fronts = (place_of x.process, x.front) ∷ [] }
 
 -- what a seat knows of a word that it found at the index k: it is a word, and it names a process that the seat stands for exactly where the seat has that record
 abbrev pub Knows : {B : Type 0} → View B → ℕ → ℕ → Type 0
 Knows v k n = IsWord n × ((p : ℕ) → Sits v p → (n ≡ word_of (Some (Process p)) → Owns v k p) × (Owns v k p → n ≡ word_of (Some (Process p))))
 
 -- the seat found this word at the index k, when it had seen so much: the word of the record's holder then
-abbrev pub HasFound : {B : Type 0} → ℕ → ℕ → Held B → List Event → Type 0
-HasFound k word x front = Knows (view_of x) k word × TellsWord x.shape.records front k word
+abbrev pub HasFound : {B : Type 0} → ℕ → ℕ → Held B → List (Deed B) → Type 0
+HasFound k word x front = Knows (view_of x) k word × TellsWord x.shape.records (events front) k word
 
 -- a word for each record of an arena, none of them free, each as the seat found it at some moment of the call
 abbrev pub SawTaken : {B : Type 0} → ℕ → List ℕ → Held B → Held B → Type 0
-SawTaken arena words x y = (length words ≡ x.shape.records) × ((k : ℕ) → k < x.shape.records → (slice_index words k ≢ 0)
-    × (front : List Event) × StartsWith front x.front × StartsWith y.front front × HasFound (arena * x.shape.records + k) (slice_index words k) x front)
+SawTaken {B} arena words x y = (length words ≡ x.shape.records) × ((k : ℕ) → k < x.shape.records → (slice_index words k ≢ 0)
+    × (front : List (Deed B)) × StartsWith front x.front × StartsWith y.front front × HasFound (arena * x.shape.records + k) (slice_index words k) x front)
 
 -- the seat found this word at the record r
 abbrev pub HasSeen : {B : Type 0} → ℕ → ℕ → Held B → Held B → Type 0
@@ -119,9 +119,9 @@ module _ {B : Type 0} (fits : B → ℕ → Bool) (s : Shape) (seats : List (Hel
     pub log : List (Deed B)
     pub leads : LeadsTo s.records (all_free (length owners)) (events log) owners
     pub theirs : (e : Event) → Among (events log) e → place_of (process_of e) < s.places
-    pub parts : (j : ℕ) (x : Held B) → slice_get seats j ≡ Some x → x.done ≡ by_place (place_of x.process) (events log)
+    pub parts : (j : ℕ) (x : Held B) → slice_get seats j ≡ Some x → x.done ≡ events (deeds_by (place_of x.process) log)
     pub moved : (j : ℕ) (x : Held B) → slice_get seats j ≡ Some x → x.moved ≡ carried (deeds_by (place_of x.process) log)
-    pub fronts : (j : ℕ) (x : Held B) → slice_get seats j ≡ Some x → StartsWith (events log) x.front
+    pub fronts : (j : ℕ) (x : Held B) → slice_get seats j ≡ Some x → StartsWith log x.front
     pub arrives : Arrives log
     pub left : (k d : ℕ) (l : LotOf B) → IsHeldBy owners k (Some (Direction d)) → slice_get lots k ≡ Some l → IsLeft log (number_of s.records k) d l
     pub holders : (k : ℕ) (h : Option Holder) → IsHeldBy owners k h → IsHolder h

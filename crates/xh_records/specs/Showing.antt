@@ -12,7 +12,7 @@ use Rattle.xh_model.specs.declared.limits.TheConstants.{MAX_RECORDS, PLACES, PRO
 use Rattle.xh_model.specs.Words.{Ownership, IsHeldBy, IsHolder, word_of, place_of, number_of}
 use Rattle.xh_model.specs.Keyed.{Among, Distinct}
 use Rattle.xh_records.specs.Deeds.{Arrives, Deed, IsLeft, deeds_by, events}
-use Rattle.xh_records.specs.History.{LeadsTo, StartsWith, all_free, by_place, process_of}
+use Rattle.xh_records.specs.History.{LeadsTo, StartsWith, all_free, process_of}
 use Rattle.xh_records.specs.declared.shape.Shape.{Shape}
 use Rattle.xh_records.specs.declared.view.View.{View}
 
@@ -55,11 +55,10 @@ pub record ViewFits {B : Type 0} (s : Shape) (o : Ownership) (v : View B) : Type
   pub knows : (p : ℕ) → Sits v p → v.shape ≡ s
   pub places : Distinct (map place_of v.processes)
 
--- each of the view's fronts is a beginning of the log; that of a place, for which the view stands then, has all events of the place. It has all deeds of the places that it stands for
+-- each of the view's fronts is a beginning of the log; that of a place, for which the view stands then, has all deeds of the place
 pub record ViewTells {B : Type 0} (log : List (Deed B)) (v : View B) : Type 0 where
-  pub begins : (q : ℕ) (front : List Event) → Among v.fronts (q, front) → StartsWith (events log) front
-  pub only : (q : ℕ) (front : List Event) → Among v.fronts (q, front) → q < PLACES → (p : ℕ) × Sits v p × (q ≡ place_of p) × (by_place q front ≡ by_place q (events log))
-  pub own : (q : ℕ) (own : List (Deed B)) → Among v.deeds (q, own) → (p : ℕ) × Sits v p × (q ≡ place_of p) × (own ≡ deeds_by q log)
+  pub begins : (q : ℕ) (front : List (Deed B)) → Among v.fronts (q, front) → StartsWith log front
+  pub only : (q : ℕ) (front : List (Deed B)) → Among v.fronts (q, front) → q < PLACES → (p : ℕ) × Sits v p × (q ≡ place_of p) × (deeds_by q front ≡ deeds_by q log)
 
 -- one log of all deeds, each by a process at one of the places, leads from no record held to the ownership, and each view has beginnings of it; whatever was accepted is as it was when it was
 -- passed

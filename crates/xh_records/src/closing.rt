@@ -91,8 +91,8 @@ fn empty_out<B: Fits + Drop>(
 ) -> Token<B>
     requires own { (seat.table ≡ board.now.table_id) × (0 < board.now.table_id.words) }
     requires long { vec_len held.old ≡ board.now.table_id.slots }
-    ensures token { (result.table_id ≡ seat.table) × (result.me ≡ (record (view_of seat) { deeds = result.me.0.deeds }, [])) }
-    ensures did { Did result.me.0 seat }
+    ensures token { (result.table_id ≡ seat.table) × (result.me ≡ (view_of seat, [])) }
+    ensures did { Did seat }
     ensures long { vec_len held.new ≡ vec_len held.old }
     ensures full { (k : ℕ) → Among (indices seat) k → (l : LotOf B) × (lot_in k seat ≡ Some l) }
     ensures lots { (k : ℕ) → k < vec_len held.old → slot_at held.new.items k ≡ or_else (lot_in k seat) (slot_at held.old.items k) }

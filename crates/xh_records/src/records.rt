@@ -11,7 +11,7 @@ ghost use Rattle.xh_records.specs.Encoding.{holder_of};
 ghost use Rattle.xh_records.specs.Showing.{IsLotOf, IsEmpty, IsFull};
 ghost use Rattle.xh_records.specs.History.{IsOneLog};
 ghost use Rattle.xh_records.specs.Seats.{SawTaken};
-ghost use Rattle.xh_records.specs.inner.Events.{taking, giving, moving, IsAway, IsHomeLot};
+ghost use Rattle.xh_records.specs.inner.Events.{taking, giving, IsAway, IsHomeLot};
 
 use crate::making::{Home, seats_of, table_of};
 use crate::plays::{Looks, Notes, Renews};
@@ -56,6 +56,7 @@ fn number_at(arena: u8, index: u16) -> u16
 }
 
 impl<B: Fits + Drop> Records<B> {
+    ghost use Rattle.xh_records.specs.Deeds.{Arrives};
     ghost use Rattle.xh_records.specs.Seats.{Held, IsSeatOf, IsRecord, HasGained, HasLooked, HasLost, HasMissed, HasSeen};
 
     /// A table over the empty lots of whole vaults, one after the other, each of `records` lots (1 to
@@ -129,6 +130,7 @@ impl<B: Fits + Drop> Records<B> {
         requires own { IsSeatOf self.now seat.old }
         requires exists { IsRecord self.now.shape number }
         requires away { IsAway (holder_of from) }
+        ensures arrives { OnOk result (Arrives seat.new.front) }
         ensures taken { OnOk result (HasGained (taking seat.old.process number (holder_of from)) (IsHomeLot B.is_fit (holder_of from)) seat.old seat.new) }
         ensures fresh { OnOk result (Among (keys seat.old.lots) number → ⊥) }
         ensures missed { IfErr result (λ word. HasMissed (holder_of from) number word seat.old seat.new) }
@@ -156,7 +158,7 @@ impl<B: Fits + Drop> Records<B> {
         requires away { IsAway (holder_of to) × IsHolder (holder_of to) }
         requires held { (l : LotOf B) × (value_at number seat.old.lots ≡ Some l) × IsHomeLot B.is_fit (holder_of to) l }
         ensures { (l : LotOf B) → value_at number seat.old.lots ≡ Some l
-            → HasLost (giving seat.old.process number (holder_of to)) (moving (giving seat.old.process number (holder_of to)) l seat.old) seat.new }
+            → HasLost (giving seat.old.process number (holder_of to)) l seat.old seat.new }
     {
         let slot = self.slot_of(number);
         let board = &self.table.shared;
@@ -210,12 +212,13 @@ impl<B: Fits + Drop> Records<B> {
         Err(seen)
     }
 
-    /// Takes a record that is in flight on the direction (0 to 127). The error is the word that it
-    /// found, which says something else.
+    /// Takes a record that is in flight on the direction (0 to 127). Its lot is as the pass before left
+    /// it, in what the seat has seen. The error is the word that it found, which says something else.
     pub fn accept(&self, seat: &mut Seat<B>, number: u16, direction: u8) -> Result<(), u64>
         requires own { IsSeatOf self.now seat.old }
         requires exists { IsRecord self.now.shape number × (direction < DIRECTIONS) }
         ensures accepted { OnOk result (HasGained (Accept seat.old.process number direction) (IsFull B.is_fit) seat.old seat.new) }
+        ensures arrives { OnOk result (Arrives seat.new.front) }
         ensures fresh { OnOk result (Among (keys seat.old.lots) number → ⊥) }
         ensures missed { IfErr result (λ word. HasMissed (Some (Direction direction)) number word seat.old seat.new) }
     {
@@ -228,7 +231,7 @@ impl<B: Fits + Drop> Records<B> {
         requires own { IsSeatOf self.now seat.old }
         requires exists { IsRecord self.now.shape number × (direction < DIRECTIONS) }
         requires held { (l : LotOf B) × (value_at number seat.old.lots ≡ Some l) × IsFull B.is_fit l }
-        ensures passed { (l : LotOf B) → value_at number seat.old.lots ≡ Some l → HasLost (Pass seat.old.process number direction) (record seat.old { moved = seat.old.moved ++ l ∷ [] }) seat.new }
+        ensures passed { (l : LotOf B) → value_at number seat.old.lots ≡ Some l → HasLost (Pass seat.old.process number direction) l seat.old seat.new }
     {
         self.give(seat, number, OwnerWord::InFlight(direction));
     }
@@ -239,7 +242,7 @@ impl<B: Fits + Drop> Records<B> {
         requires own { IsSeatOf self.now seat.old }
         requires exists { IsRecord self.now.shape number }
         requires held { (l : LotOf B) × (value_at number seat.old.lots ≡ Some l) × IsEmpty B.is_fit l }
-        ensures vacated { HasLost (Vacate seat.old.process number) seat.old seat.new }
+        ensures vacated { (l : LotOf B) × (value_at number seat.old.lots ≡ Some l) × HasLost (Vacate seat.old.process number) l seat.old seat.new }
     {
         self.give(seat, number, OwnerWord::Free);
     }

@@ -5,10 +5,10 @@ ghost use prog.Atomic.{either};
 ghost use lib.ListN.{get_elem?};
 ghost use Rattle.atomic_table.specs.Table.{step, Allows};
 ghost use Rattle.xh_arena.specs.Views.{LotOf};
-ghost use Rattle.xh_model.specs.declared.event.Event.{Event};
 ghost use Rattle.xh_model.specs.Words.{word_of, IsHolder};
 ghost use Rattle.xh_model.specs.Keyed.{without};
 ghost use Rattle.xh_records.specs.declared.token.TheConstants.{NEAR};
+ghost use Rattle.xh_records.specs.Deeds.{Arrives, Deed};
 ghost use Rattle.xh_records.specs.Encoding.{holder_of};
 ghost use Rattle.xh_records.specs.Showing.{Shown, IsLotAt, Owns, Sits};
 ghost use Rattle.xh_records.specs.inner.Events.{IsAway, IsHomeLot};
@@ -135,8 +135,8 @@ pub(crate) fn take_slot<B: Fits>(
     requires process { IsAlone token.old.me.0 process }
     requires away { IsAway (holder_of from) }
     ensures same { (token.new.table_id ≡ token.old.table_id) × (token.new.id ≡ token.old.id) }
-    ensures taken { OnOk result ((l : LotOf B) × (others : List Event) × (token.new.me ≡ (gained token.old.me.0 slot process (holder_of from) l others, token.old.me.1 ++ (slot, Some l) ∷ []))
-        × IsOthers token.old.me.0 others × IsLotAt token.old.me.0.shape slot l × IsHomeLot B.is_fit (holder_of from) l × ((p : ℕ) → Owns token.old.me.0 slot p → ⊥)) }
+    ensures taken { OnOk result ((l : LotOf B) × (others : List (Deed B)) × (token.new.me ≡ (gained token.old.me.0 slot process (holder_of from) l others, token.old.me.1 ++ (slot, Some l) ∷ []))
+        × IsOthers token.old.me.0 others × IsLotAt token.old.me.0.shape slot l × IsHomeLot B.is_fit (holder_of from) l × ((p : ℕ) → Owns token.old.me.0 slot p → ⊥) × Arrives (front_in token.new.me.0)) }
     ensures missed { IfErr result (λ word. (word ≢ word_of (holder_of from)) × SeesMore slot word token.old.me token.new.me) }
 {
     let wanted = from.encode();
@@ -164,7 +164,7 @@ pub(crate) fn give_slot<B: Fits>(
     requires lot { (l : LotOf B) × (in_slot slot token.old.me.1 ≡ Some l) × IsLotAt token.old.me.0.shape slot l × IsHomeLot B.is_fit (holder_of to) l }
     requires owned { (p : ℕ) × IsAlone token.old.me.0 p × Owns token.old.me.0 slot p }
     ensures token { (token.new.table_id ≡ token.old.table_id) × (token.new.id ≡ token.old.id) }
-    ensures given { (others : List Event) × IsOthers token.old.me.0 others × ((l : LotOf B) → in_slot slot token.old.me.1 ≡ Some l → token.new.me ≡
+    ensures given { (others : List (Deed B)) × IsOthers token.old.me.0 others × ((l : LotOf B) → in_slot slot token.old.me.1 ≡ Some l → token.new.me ≡
         (lost token.old.me.0 slot (process_in token.old.me.0) (holder_of to) l others, without slot token.old.me.1)) }
     ensures place { get_elem? order.now result ≡ some slot }
 {

@@ -7,8 +7,8 @@ use Rattle.xh_model.specs.Keyed.{Among, keys, value_at}
 use Rattle.xh_records.specs.Seats.{Held, did}
 use Rattle.xh_place.specs.declared.body.Body.{Body}
 use Rattle.xh_place.specs.inner.Lots.{HasNow, carrying}
-use Rattle.xh_place.specs.Places.{IsBlock, item_in}
-use Rattle.xh_place.specs.Seen.{IsElsewhere, SawAt}
+use Rattle.xh_place.specs.Places.{IsBlock, item_in, item_of}
+use Rattle.xh_place.specs.Seen.{Arrived, IsElsewhere, SawAt}
 
 -- the list without a number
 abbrev pub less : ℕ → List ℕ → List ℕ
@@ -29,7 +29,7 @@ lens (r ∷ rs) lot = (item_in (lot r)).len + lens rs lot
 abbrev pub CameBack : ℕ → ℕ → Held Body → Held Body → List ℕ → List ℕ → ℕ → Type 0
 CameBack d r old new had back bytes = ((back ≡ had) × HasNow old old.lots new × (bytes ≡ 0) × IsElsewhere (SawAt old.shape old.front new.front) d r)
     ⊎ ((l : LotOf Body) × (back ≡ had ++ r ∷ []) × (Among (keys old.lots) r → ⊥)
-    × HasNow (did (Accept old.process r d) (carrying (l ∷ []) old)) (old.lots ++ (r, l) ∷ []) new × IsBlock old.shape r l × (bytes ≡ l.len))
+    × HasNow (did (Accept old.process r d) (carrying (l ∷ []) old)) (old.lots ++ (r, l) ∷ []) new × IsBlock old.shape r l × Arrived old.process old.front new.front r d (item_of l) × (bytes ≡ l.len))
 
 -- of the given records the seat has those that came back, all well formed
 pub record AreBack (given back : List ℕ) (seat : Held Body) : Type 0 where

@@ -5,6 +5,7 @@ use Rattle.xh_model.specs.declared.limits.TheConstants.{MAX_RECORDS}
 use Rattle.xh_model.specs.declared.event.Event.{Event}
 use Rattle.xh_model.specs.declared.event.Event.TheVariants.{Claim, Pass}
 use Rattle.xh_model.specs.Keyed.{Among, keys, put}
+use Rattle.xh_records.specs.Deeds.{Deed}
 use Rattle.xh_records.specs.History.{StartsWith}
 use Rattle.xh_records.specs.Seats.{Held, did, with_lots}
 use Rattle.xh_channel.specs.Queues.{Posted}
@@ -37,8 +38,8 @@ abbrev pub HasNow : Held Body → List (ℕ × LotOf Body) → Held Body → Typ
 HasNow old lots new = bare new ≡ with_lots (bare old) lots
 
 -- from the one front to the other this event came
-abbrev pub Came : Event → List Event → List Event → Type 0
-Came e from to = (before : List Event) × StartsWith before from × StartsWith to (before ++ e ∷ [])
+abbrev pub Came : Event → List (Deed Body) → List (Deed Body) → Type 0
+Came e from to = (before : List (Deed Body)) × (l : LotOf Body) × StartsWith before from × StartsWith to (before ++ (e, l) ∷ [])
 
 -- of these records each was passed on the direction in the call
 abbrev pub ArePassed : ℕ → List ℕ → Held Body → Held Body → Type 0

@@ -10,7 +10,7 @@ ghost use Rattle.xh_place.specs.Endpoints.{AreGot, IsGot, Takes, record_of};
 ghost use Rattle.xh_place.specs.Ends.{EndDoes, RefusedOr, toward_in};
 ghost use Rattle.xh_place.specs.Messages.{is_listed, IsSent, IsTaken, IsUntaken};
 ghost use Rattle.xh_place.specs.Places.{IsWhole, Item, IsPlaceOf, found, with_more};
-ghost use Rattle.xh_place.specs.Seen.{IsSamePlace, IsSeen, SawWord, Stays};
+ghost use Rattle.xh_place.specs.Seen.{IsSamePlace, IsSeen, SawWord, Stays, brings};
 ghost use Rattle.xh_records.specs.History.{StartsWith};
 ghost use Rattle.xh_place.specs.Starts.{start};
 ghost use Rattle.xh_records.specs.Seats.{IsRecord};
@@ -186,7 +186,8 @@ impl Place {
         requires own { IsPlaceOf records.now self.old.place × IsRecord records.now.shape r × (direction < DIRECTIONS) }
         requires alive { is_over self.old.place.state ≢ true }
         ensures place { IsSamePlace self.old self.new }
-        ensures here { IfOk result (λ b. (b.rec ≡ r) × ((x : Item) × (x.len ≡ b.len) × (self.new.place ≡ with_more direction ((r, x) ∷ []) self.old.place) × IsWhole x)) }
+        ensures here { IfOk result (λ b. (b.rec ≡ r) × ((x : Item) × (x.len ≡ b.len) × (self.new.place ≡ with_more direction ((r, x) ∷ []) self.old.place) × IsWhole x
+            × IsSeen self.old self.new r (brings direction x))) }
         ensures missing { IfErr result (λ word. (word ≢ 2 + 4 * direction) × (self.new.place ≡ self.old.place) × SawWord self.old self.new r word) }
     {
         let header = accept_block(records, &mut self.seat, r, direction)?;

@@ -5,7 +5,7 @@ use Rattle.xh_model.specs.declared.event.Holder.{Holder}
 use Rattle.xh_model.specs.declared.event.Holder.TheVariants.{Process, Direction}
 use Rattle.xh_model.specs.declared.event.Event.{Event}
 use Rattle.xh_model.specs.declared.event.Event.TheVariants.{Claim, Vacate, Pass, Accept}
-use Rattle.xh_records.specs.Deeds.{carry}
+use Rattle.xh_records.specs.Deeds.{Deed, carry}
 use Rattle.xh_records.specs.Seats.{Held}
 use Rattle.xh_records.specs.Showing.{IsEmpty, IsFull}
 
@@ -31,7 +31,7 @@ IsHomeLot fits (Some (Process p)) l = ⊥
 IsHomeLot fits (Some (Direction d)) l = IsFull fits l
 
 -- the seat that has seen so much
-abbrev pub seen : {B : Type 0} → List Event → Held B → Held B
+abbrev pub seen : {B : Type 0} → List (Deed B) → Held B → Held B
 seen front x = record x { front = front }
 
 -- the seat from which or to which the lot moved, if the event moves one

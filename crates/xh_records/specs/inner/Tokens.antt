@@ -12,7 +12,7 @@ use Rattle.xh_records.specs.declared.shape.Shape.{Shape}
 use Rattle.xh_records.specs.declared.view.View.{View}
 use Rattle.xh_records.specs.Showing.{IsLotAt, IsSmall}
 use Rattle.xh_records.specs.Seats.{owned_by}
-use Rattle.xh_records.specs.inner.Views.{deeds_in, front_in}
+use Rattle.xh_records.specs.inner.Views.{front_in}
 
 -- what a token has in the slot k
 abbrev pub in_slot : {L : Type 0} → ℕ → List (ℕ × Option L) → Option L
@@ -71,7 +71,6 @@ module _ {B : Type 0} where
     pub ordered : order ≡ keys me.1
     pub records : me.0.records ≡ owned_by process order
     pub front : me.0.fronts ≡ (place_of process, front_in me.0) ∷ []
-    pub deeds : me.0.deeds ≡ (place_of process, deeds_in me.0) ∷ []
     pub lots : AllLots me.0.shape me.1
     pub distinct : Distinct order
     pub below : AllBelow slots order

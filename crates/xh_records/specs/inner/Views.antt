@@ -6,7 +6,7 @@ use Rattle.xh_model.specs.declared.limits.TheConstants.{PLACES}
 use Rattle.xh_model.specs.Words.{place_of, number_of}
 use Rattle.xh_model.specs.Keyed.{without}
 use Rattle.xh_arena.specs.Views.{LotOf}
-use Rattle.xh_records.specs.Deeds.{Deed}
+use Rattle.xh_records.specs.Deeds.{Deed, deeds_by}
 use Rattle.xh_records.specs.inner.Events.{taking, giving}
 use Rattle.xh_records.specs.declared.shape.Shape.{Shape}
 use Rattle.xh_records.specs.declared.view.View.{View}
@@ -16,14 +16,14 @@ abbrev pub places_from : ℕ → ℕ → List ℕ
 places_from p zero = []
 places_from p (suc k) = p ∷ places_from (suc p) k
 
--- nothing seen, or done, for each of these places
+-- nothing seen for each of these places
 abbrev pub none_yet : {X : Type 0} → List ℕ → List (ℕ × List X)
 none_yet [] = []
 none_yet (p ∷ ps) = (place_of p, []) ∷ none_yet ps
 
 -- the view of a seat that stands for k places from p on, each of generation 0, and has no record
 abbrev pub dealer : {B : Type 0} → Shape → ℕ → ℕ → View B
-dealer s p k = record { shape = s; processes = places_from p k; records = []; fronts = none_yet (places_from p k); deeds = none_yet (places_from p k) }
+dealer s p k = record { shape = s; processes = places_from p k; records = []; fronts = none_yet (places_from p k) }
 
 -- the first seat stands for all places
 abbrev pub all_places : {B : Type 0} → Shape → View B
@@ -34,18 +34,22 @@ no_shape = record { records = 0; places = 0; names = [] }
 
 -- a spent view
 abbrev pub spent : {B : Type 0} → View B
-spent = record { shape = no_shape; processes = []; records = []; fronts = []; deeds = [] }
+spent = record { shape = no_shape; processes = []; records = []; fronts = [] }
 
--- the front and the deeds of a view that stands for one place, and more in them
+-- the front of a view that stands for one place, the deeds of the place in it, and more in it
 abbrev pub first_of : {X : Type 0} → List (ℕ × List X) → List X
 first_of [] = []
 first_of (x ∷ xs) = x.1
 
-abbrev pub front_in : {B : Type 0} → View B → List Event
+abbrev pub front_in : {B : Type 0} → View B → List (Deed B)
 front_in v = first_of v.fronts
 
+abbrev pub own_of : {B : Type 0} → List (ℕ × List (Deed B)) → List (Deed B)
+own_of [] = []
+own_of (x ∷ xs) = deeds_by x.0 x.1
+
 abbrev pub deeds_in : {B : Type 0} → View B → List (Deed B)
-deeds_in v = first_of v.deeds
+deeds_in v = own_of v.fronts
 
 abbrev pub adds : {X : Type 0} → List X → List (ℕ × List X) → List (ℕ × List X)
 adds es [] = []
@@ -56,18 +60,18 @@ abbrev pub IsAlone : {B : Type 0} → View B → ℕ → Type 0
 IsAlone v p = (v.processes ≡ p ∷ []) × (v.fronts ≡ (place_of p, front_in v) ∷ [])
 
 -- the view has seen these, too
-abbrev pub knowing : {B : Type 0} → View B → List Event → View B
+abbrev pub knowing : {B : Type 0} → View B → List (Deed B) → View B
 knowing v es = record v { fronts = adds es v.fronts }
 
--- the view has seen events of others, and did one with a lot
-abbrev pub doing : {B : Type 0} → View B → List Event → Event → LotOf B → View B
-doing v others e l = record (knowing v (others ++ e ∷ [])) { deeds = adds ((e, l) ∷ []) v.deeds }
+-- the view has seen deeds of others, and did one
+abbrev pub doing : {B : Type 0} → View B → List (Deed B) → Event → LotOf B → View B
+doing v others e l = knowing v (others ++ (e, l) ∷ [])
 
 -- the view of a process gains a record with its lot from where it was, or loses it to where it goes
-abbrev pub gained : {B : Type 0} → View B → ℕ → ℕ → Option Holder → LotOf B → List Event → View B
+abbrev pub gained : {B : Type 0} → View B → ℕ → ℕ → Option Holder → LotOf B → List (Deed B) → View B
 gained v k p from l others = record (doing v others (taking p (number_of v.shape.records k) from) l) { records = v.records ++ (k, p) ∷ [] }
 
-abbrev pub lost : {B : Type 0} → View B → ℕ → ℕ → Option Holder → LotOf B → List Event → View B
+abbrev pub lost : {B : Type 0} → View B → ℕ → ℕ → Option Holder → LotOf B → List (Deed B) → View B
 lost v k p to l others = record (doing v others (giving p (number_of v.shape.records k) to) l) { records = without k v.records }
 
 -- it stands so for one place at least
@@ -84,10 +88,10 @@ head_of [] = []
 head_of (p ∷ ps) = p ∷ []
 
 abbrev pub dealt_from : {B : Type 0} → View B → View B
-dealt_from v = record v { processes = tail_of v.processes; fronts = tail_of v.fronts; deeds = tail_of v.deeds }
+dealt_from v = record v { processes = tail_of v.processes; fronts = tail_of v.fronts }
 
 abbrev pub dealt : {B : Type 0} → View B → View B
-dealt v = record { shape = v.shape; processes = head_of v.processes; records = []; fronts = head_of v.fronts; deeds = head_of v.deeds }
+dealt v = record { shape = v.shape; processes = head_of v.processes; records = []; fronts = head_of v.fronts }
 
 -- what a view has seen, for another seat to compare: beside a number past the places
 abbrev pub note_of : {B : Type 0} → View B → View B
@@ -95,7 +99,7 @@ note_of v = record spent { fronts = (PLACES, front_in v) ∷ [] }
 
 -- two views in one
 abbrev pub joined : {B : Type 0} → View B → View B → View B
-joined v w = record { shape = v.shape; processes = v.processes ++ w.processes; records = v.records ++ w.records; fronts = v.fronts ++ w.fronts; deeds = v.deeds ++ w.deeds }
+joined v w = record { shape = v.shape; processes = v.processes ++ w.processes; records = v.records ++ w.records; fronts = v.fronts ++ w.fronts }
 
 -- the generation of each place rises by one
 abbrev pub renewed : {B : Type 0} → View B → View B

@@ -1,6 +1,6 @@
 use Rattle.xh_place.proofs.Common.{drop_more, take_more, arith, rules, ◌≡◌, sym, ap, ◌∙◌, ℕ, ◌<◌, ◌+◌, subst, length, drop, get_or, [], ◌∷◌, refl, take, CameBack, among_get, starts_more}
-use Rattle.xh_place.proofs.Common.{starts_same}
-use Rattle.xh_place.proofs.Givens.{AreLost, IsAccepting, accepting, accepting_none, lost_more, one_longer}
+use Rattle.xh_place.proofs.Common.{Among, inl, is_some, starts_same}
+use Rattle.xh_place.proofs.Givens.{AreLost, IsAccepting, accepting, arrived_more, none_of, accepting_none, lost_more, one_longer}
 use Rattle.xh_place.proofs.giving.accept_back.Goals as goal
 
 pub loop-k-init : goal.loop-k-init
@@ -11,6 +11,7 @@ loop-k-init c =
       omega arith,
       starts_same refl,
       (λ r a. absurd a),
+      (λ r l a. absurd (subst (λ z. Among z r) new a)),
     )
 
 pub accept_into-requires-clause-own : goal.accept_into-requires-clause-own
@@ -37,4 +38,7 @@ loop-k-preserved c =
       subst (λ l. AreLost d l c.accept_into.new.back.items c.args.seat.now c.accept_into.new.seat) (sym (take_more given k 0 inside))
           (lost_more d (take k given) r c.accept_into.result c.args.seat.now c.loop-k.seat c.accept_into.new.seat c.loop-k.back.items c.accept_into.new.back.items (ap (λ h. h.shape) is.0)
           c.loop-k.invariant.3 c.accept_into.ensures.seen c.loop-k.invariant.4 c.accept_into.ensures.came),
+      arrived_more d r c.accept_into.result c.args.seat.now c.loop-k.seat c.accept_into.new.seat c.loop-k.back.items c.accept_into.new.back.items (ap (λ h. h.process) is.0)
+          c.loop-k.invariant.3 c.accept_into.ensures.seen (none_of r c.loop-k.back.items (is.1.here r (among_get k given 0 inside) ∙ ap is_some (is.2 r (inl refl)))) c.loop-k.invariant.5
+          c.accept_into.ensures.came,
     )

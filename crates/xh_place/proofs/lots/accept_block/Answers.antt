@@ -1,4 +1,5 @@
 use Rattle.xh_place.proofs.Common.{◌∙◌, rules, ◌≡◌, ◌<◌, ◌/◌, ◌%◌, length, sym, ap, subst, Accept, Held, did, Body, bare, carrying, [], ◌∷◌, Err, looked, has}
+use Rattle.xh_place.proofs.Common.{Arrived, arrived_last, item_of}
 use Rattle.xh_place.proofs.Gained.{lot_is}
 use Rattle.xh_place.proofs.lots.accept_block.Goals as goal
 
@@ -19,6 +20,8 @@ returns-clause-here c =
       ap bare c.look.ensures.same ∙ ap bare t.1,
       record { exists = subst (λ z. (c.args.r / 256 < length z.names) × (c.args.r % 256 < z.records)) (sym own.0.1) own.1; lot = t.2; full = t.3 },
       c.look.ensures.header t.0 at,
+      subst (λ z. Arrived c.args.seat.now.process c.args.seat.now.front z c.args.r c.args.direction (item_of t.0)) (ap (λ z. z.front) (sym c.look.ensures.same))
+          (arrived_last c.args.r c.args.direction t.0 c.args.seat.now c.accept.new.seat t.4 c.in_ok-accept.ensures.arrives),
     )
 
 pub returns-in_err-accept-clause-missing : goal.returns-in_err-accept-clause-missing

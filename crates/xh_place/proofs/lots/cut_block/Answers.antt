@@ -45,7 +45,7 @@ pub returns-in_default-rest_of-clause-refused : goal.returns-in_default-rest_of-
 returns-in_default-rest_of-clause-refused g c =
     let at = goal.at.returns-in_default-rest_of-clause-refused g c in let j = read g at.After-rest_of (claimed g at.In-Ok) in (
       one_gone (c.args.r / 256) (λ cs. length cs ≤ 1) c.args.seat.now c.rest_of.new.seat c.vacate.new.seat c.in-Ok.t c.in-Ok.ensures.claimed.0 (omega arith) c.in-Ok.ensures.record.0 j.is
-          c.in-Ok.ensures.fresh (ap bare c.vacate.ensures.vacated.0),
+          c.in-Ok.ensures.fresh (ap bare c.vacate.ensures.vacated.2.0),
       refl,
     )
 
@@ -78,7 +78,7 @@ returns-in_default-rest_of-clause-seen g c =
     let seat = c.args.seat.now in let mid = c.claim.new.seat in let lent = c.rest_of.new.seat in
     let k = claimed g (goal.at.returns-in_default-rest_of-clause-seen g c).In-Ok in
     starts_more seat.front (advanced _ seat mid c.in-Ok.ensures.claimed.4)
-    (starts_more mid.front (starts_same (ap (λ h. h.front) c.rest_of.ensures.same)) (advanced _ lent c.vacate.new.seat c.vacate.ensures.vacated.1))
+    (starts_more mid.front (starts_same (ap (λ h. h.front) c.rest_of.ensures.same)) (advanced _ lent c.vacate.new.seat c.vacate.ensures.vacated.2.1))
 
 pub returns-clause-seen : goal.returns-clause-seen
 returns-clause-seen g c =

@@ -14,8 +14,8 @@ pub returns : goal.returns
 returns g c =
     let h = c.requires.held in let t = (c.empty-len.ensures.emptied h.0 h.1).0 in record {
       same = search rules;
-      seat = ap bare c.vacate.ensures.vacated.0 ∙ ap (λ z. bare (did (Vacate z.process c.args.r) (with_lots z (without c.args.r z.lots)))) t
+      seat = ap bare c.vacate.ensures.vacated.2.0 ∙ ap (λ z. bare (did (Vacate z.process c.args.r) (with_lots z (without c.args.r z.lots)))) t
           ∙ ap (with_lots (bare (did (Vacate c.args.seat.now.process c.args.r) c.args.seat.now))) (put_without c.args.r (record h.0 { len = 0; body = Nothing }) c.args.seat.now.lots);
-      seen = starts_more c.args.seat.now.front (starts_same (ap (λ z. z.front) t)) (advanced _ c.empty-len.new.seat c.vacate.new.seat c.vacate.ensures.vacated.1);
+      seen = starts_more c.args.seat.now.front (starts_same (ap (λ z. z.front) t)) (advanced _ c.empty-len.new.seat c.vacate.new.seat c.vacate.ensures.vacated.2.1);
       back = λ l at. ((c.empty-len.ensures.emptied l at).1, (c.empty-len.ensures.emptied l at).2);
     }

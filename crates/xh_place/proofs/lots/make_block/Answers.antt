@@ -11,7 +11,7 @@ vacate-requires-clause-held g c = let t = c.in-Ok.ensures.claimed in let seat : 
 pub returns-in_default-zeros-clause-refused : goal.returns-in_default-zeros-clause-refused
 returns-in_default-zeros-clause-refused g c = let t = c.in-Ok.ensures.claimed in (
   one_gone c.args.arena (λ cs. length cs ≤ 1) c.args.seat.now c.claim.new.seat c.vacate.new.seat c.in-Ok.r t.0 (omega arith) c.in-Ok.ensures.record.0 (ap bare t.1) c.in-Ok.ensures.fresh
-      (ap bare c.vacate.ensures.vacated.0),
+      (ap bare c.vacate.ensures.vacated.2.0),
   refl,
 )
 
@@ -36,7 +36,7 @@ returns-clause-refused g c =
     let t = c.in-Ok.ensures.claimed in let f = c.in-Err.ensures.refused in (
       one_gone c.args.arena (λ cs. length cs ≤ 1) c.args.seat.now c.fill-filled.new.seat c.vacate-2.new.seat c.in-Ok.r t.0 (omega arith) c.in-Ok.ensures.record.0
           (ap bare (f.0 ∙ t.1)) c.in-Ok.ensures.fresh
-          (ap bare c.vacate-2.ensures.vacated.0),
+          (ap bare c.vacate-2.ensures.vacated.2.0),
       f.1,
     )
 

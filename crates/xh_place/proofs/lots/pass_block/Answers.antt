@@ -8,6 +8,6 @@ returns c =
       passed = λ l at. ap bare (c.pass.ensures.passed l (ap (λ z. value_at c.args.r z.lots) same ∙ at)).0
           ∙ ap (λ z. bare (did (Pass z.process c.args.r c.args.direction) (carrying (l ∷ []) (with_lots z (without c.args.r z.lots))))) same;
       seen = starts_more c.args.seat.now.front (starts_same (ap (λ z. z.front) same)) (advanced _ c.look-header.new.seat c.pass.new.seat passed.1);
-      came = subst (λ (z : Held Body). Came (Pass z.process c.args.r c.args.direction) z.front c.pass.new.seat.front) same (came_last _ c.look-header.new.seat c.pass.new.seat passed.1);
+      came = subst (λ (z : Held Body). Came (Pass z.process c.args.r c.args.direction) z.front c.pass.new.seat.front) same (came_last _ h.0 c.look-header.new.seat c.pass.new.seat passed.1);
       bytes = λ l at. ap (λ z. z.len) (c.look-header.ensures.header l at);
     }

@@ -23,7 +23,7 @@ returns-in_default-claim-clause-claimed g c =
     let t = c.in-Ok.ensures.claimed in let seat = c.args.seat.now in let mid = c.claim.new.seat in
     full_after c.args.arena _ seat mid c.claim-2.new.seat c.vacate.new.seat c.in-Ok.r t.0 c.requires.exist c.in-Ok.ensures.record.0
     (exists g (goal.at.returns-in_default-claim-clause-claimed g c).In-Ok) (ap bare t.1) c.in-Ok.ensures.fresh (advanced _ seat mid t.4)
-    c.in_default-claim.ensures.seen c.in_default-claim.ensures.missed c.vacate.ensures.vacated
+    c.in_default-claim.ensures.seen c.in_default-claim.ensures.missed c.vacate.ensures.vacated.0 c.vacate.ensures.vacated.2
 
 pub returns-clause-claimed : goal.returns-clause-claimed
 returns-clause-claimed g c =

@@ -1,5 +1,5 @@
 use Rattle.xh_records.proofs.Common.{nat_tests, rules, arith, ◌≡◌, ℕ, ◌+◌, ◌<◌, List, length, get_or, refl, sym, ap, ◌∙◌, subst, [], ◌∷◌, ◌++◌, append_assoc, append-nil, length-append, Option}
-use Rattle.xh_records.proofs.Common.{None, vec_len, rest, turned, LotOf, Among, Distinct, keys, distinct_split, keys_append, lot_in, indices, AllLots, Deed, deeds_in, inl, place_of, ℕ}
+use Rattle.xh_records.proofs.Common.{None, vec_len, rest, turned, LotOf, Among, Distinct, keys, distinct_split, keys_append, lot_in, indices, AllLots, carried, deeds_by, deeds_in, events, own_of, place_of, ℕ}
 use Rattle.xh_records.proofs.Cuts.{hands_over}
 use Rattle.xh_records.proofs.Lists.{next_slot, all_front, fills, first_is, below_at}
 use Rattle.xh_records.proofs.Ended.{read_is}
@@ -100,16 +100,11 @@ pub returns-clause-token : goal.returns-clause-token
 returns-clause-token g c =
     let f = c.loop-k.invariant.3 in
     let all = c.split_seat.ensures.4 ∙ ap (λ z. (z, [])) f.view in
-    let deeds = sym (ap (λ k. k.0.deeds) all) in
     let same = sym (views_are c.args.seat _ _ _ c.seat.inside.token.me c.seat.view_is _ _ _ c.seat.invariant) in
-    (c.split_seat.ensures.3 ∙ f.table ∙ ap (λ h. h.table) c.seat.view_is, all ∙ (λ i. (record (same i) { deeds = deeds i }, [])))
+    (c.split_seat.ensures.3 ∙ f.table ∙ ap (λ h. h.table) c.seat.view_is, all ∙ (λ i. (same i, [])))
 
 pub returns-clause-did : goal.returns-clause-did
 returns-clause-did g c =
-    let f = c.loop-k.invariant.3 in let me = c.seat.inside.token.me in (
-      deeds_in me.0,
-      subst (λ (z : List (ℕ × List (Deed g.row.B.Denot)) × ℕ). Among z.0 (place_of z.1, deeds_in me.0))
-          (λ i. ((sym c.seat.invariant.deeds ∙ ap (λ v. v.deeds) (sym f.view) ∙ ap (λ k. k.0.deeds) (sym c.split_seat.ensures.4)) i, (c.seat.view_is i).process)) (inl refl),
-      sym (ap (λ x. x.done) c.seat.view_is),
-      sym (ap (λ x. x.moved) c.seat.view_is),
-    )
+    let me = c.seat.inside.token.me in
+    let own : deeds_in me.0 ≡ deeds_by (place_of c.args.seat.process) c.args.seat.front = ap own_of c.seat.invariant.front ∙ (λ i. deeds_by (place_of (c.seat.view_is i).process) (c.seat.view_is i).front) in
+    (sym (ap (λ x. x.done) c.seat.view_is) ∙ ap events own, sym (ap (λ x. x.moved) c.seat.view_is) ∙ ap carried own)

@@ -1,4 +1,4 @@
-use Rattle.xh_records.proofs.Common.{ℕ, ◌<◌, ◌++◌, [], ◌∷◌, get_or, ap, sym, subst, ◌∙◌, Some, none, turned, holder_of, IsLotAt, Owns, gained}
+use Rattle.xh_records.proofs.Common.{ℕ, ◌<◌, ◌++◌, [], ◌∷◌, get_or, ap, sym, subst, ◌∙◌, Some, none, turned, holder_of, Arrives, IsLotAt, Owns, front_in, gained}
 use Rattle.xh_records.proofs.Keeps.{takes_lot}
 use Rattle.xh_records.proofs.token.take_slot.Goals as goal
 
@@ -23,4 +23,5 @@ returns-clause-taken g c =
       subst (λ k. IsLotAt me.0.shape k t.0) c.from-at.ensures t.4,
       u.1,
       subst (λ k. (p : ℕ) → Owns me.0 k p → ⊥) c.from-at.ensures t.5,
+      subst (λ m. Arrives (front_in m.0)) (sym c.turn.ensures.2) t.6,
     )

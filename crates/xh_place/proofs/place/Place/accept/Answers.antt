@@ -1,5 +1,5 @@
 use Rattle.xh_place.proofs.Common.{rules, arith, ◌≡◌, ◌<◌, [], ◌∷◌, ◌++◌, length, refl, sym, ap, ◌∙◌, true, Err, vec_capacity, Event, Accept, is_over, item_of, with_blocks, with_events, heard}
-use Rattle.xh_place.proofs.Common.{carries, carries_shows, carrying, with_moved, heard_shows, block_small, list_room, total_bound, stays, won, placed, place_saw, block_whole}
+use Rattle.xh_place.proofs.Common.{carries, carries_shows, carrying, with_moved, heard_shows, block_small, list_room, total_bound, stays, won, placed, place_arrived, place_saw, block_whole}
 use Rattle.xh_place.proofs.place.Place.accept.Goals as goal
 
 pub push_reserved-requires : goal.push_reserved-requires
@@ -30,6 +30,7 @@ returns-clause-here c =
             ∙ ap (λ p. with_moved (with_events (with_blocks old (old.blocks ++ (c.args.r, item_of t.0) ∷ [])) (Accept p.process c.args.r c.args.direction ∷ [])) (item_of t.0 ∷ []))
             (placed c.self.view_is),
         block_whole t.3,
+        place_arrived c.self.inside.seat c.self.view_is c.accept_block.new.seat c.args.r c.args.direction (item_of t.0) t.5,
       ),
     )
 

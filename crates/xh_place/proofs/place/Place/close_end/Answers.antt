@@ -13,7 +13,7 @@ returns-clause-closed g c =
     let there : from ≡ ahead = omega (arith, c.count-from.ensures.count, long) in
     let is = c.sweep-bytes.ensures.swept in
     let wide = swept_as (IsSeen turned new) (IsSeen old new)
-    (seen_wide turned new old new (ap (λ p. p.shape) moved) (starts_more old.front same.1 c.move_last.ensures.1) (starts_same refl))
+    (seen_wide turned new old new (ap (λ p. p.shape) moved) (ap (λ p. p.process) moved) (starts_more old.front same.1 c.move_last.ensures.1) (starts_same refl))
     from MAX_BUDGET turned.place new.place bytes left is in
     let swept = subst (λ p. IsSwept (IsSeen old new) from MAX_BUDGET p new.place bytes left) moved wide in
     unrefused (start old.place.state ++ end_tests (found_at old.place e)) c.reclaimed.result ((new.place ≡ old.place) × (c.sweep-bytes.new.desk.tallies.now ≡ c.args.desk.now.tallies.now))

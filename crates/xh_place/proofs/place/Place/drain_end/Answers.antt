@@ -12,7 +12,8 @@ pub returns-clause-cleared : goal.returns-clause-cleared
 returns-clause-cleared g c =
     let old = c.args.self.now in let look = c.look.new.self in let shut = c.shut.new.self in let new = c.drain.new.self in let same = c.look.ensures.same in
     let shape : shut.place.shape ≡ old.place.shape = ap (λ p. p.shape) (c.shut.ensures.shut.3 ∙ ap (λ p. with_blocks p (put c.args.r (end_block c.shut.ensures.shut.1) p.blocks)) same.0) in
-    let wide = seen_wide shut new old new shape (starts_more old.front same.1 c.shut.ensures.seen) (starts_same refl) in
+    let process : shut.place.process ≡ old.place.process = ap (λ p. p.process) (c.shut.ensures.shut.3 ∙ ap (λ p. with_blocks p (put c.args.r (end_block c.shut.ensures.shut.1) p.blocks)) same.0) in
+    let wide = seen_wide shut new old new shape process (starts_more old.front same.1 c.shut.ensures.seen) (starts_same refl) in
     subst (λ p. Clears (IsSeen old new) c.args.r p new.place) same.0
     (cleared (IsSeen old new) c.args.r look.place shut.place new.place c.shut.ensures.shut (drains_as (IsSeen shut new) (IsSeen old new) wide c.args.r shut.place new.place c.drain.ensures.drained))
 

@@ -2,9 +2,10 @@ use Rattle.xh_place.proofs.Common.{arith, ◌≡◌, ℕ, ◌+◌, ◌-◌, ◌�
 use Rattle.xh_place.proofs.Common.{there_and_back, away_in, end_block, lens, less_all, with_done, Item, item_at, item_in, item_of, shown, with_blocks, with_events, Answers, settled, Posted}
 use Rattle.xh_place.proofs.Common.{Puts, heard, heard_shows, shown_keys, list_distinct, over_running, total_bound, IsNow, placed, place_gone, on_err_weaker, all_found, found}
 use Rattle.xh_place.specs.Bodies.{IsEndAt}
+use Rattle.xh_place.proofs.Common.{Arrived, place_arrived}
 use Rattle.xh_place.proofs.Ends.{item_now, item_was}
 use Rattle.xh_place.proofs.Common.{Body, LotOf, carries, carries_shows, carrying, map, map-append, picked, picked_items, put_other, values, with_moved, ◌++◌}
-use Rattle.xh_place.proofs.Givens.{back_items, given_place, passed_below, settled_same, shown_look}
+use Rattle.xh_place.proofs.Givens.{back_items, given_place, passed_below, settled_same, shown_arrived, shown_look}
 use Rattle.xh_place.proofs.place.Place.send.Goals.{After-settle}
 use Rattle.xh_place.proofs.place.Place.send.Goals as goal
 
@@ -82,6 +83,8 @@ returns-clause-sent g c =
             ∙ (λ i. with_moved (with_events (with_blocks old (blocks i)) (log i)) (items i)),
         (λ r h. a.back.only r (subst (λ ks. Among ks r) (shown_keys last.lots back) h)),
       );
+      arrived = λ r x among. subst (λ n. Arrived c.args.self.now.place.process c.args.self.now.front last.front r n x) way
+          (place_arrived seat c.self.view_is last r d x (shown_arrived d given back seat last a.back a.arrived r x among));
       lost = on_err_weaker c.give_all-put.result.put (λ h r among missed.
           let there = h r among (subst (λ ks. Among ks r → ⊥) (shown_keys last.lots back) missed) in
           place_gone seat c.self.view_is last d (away_in (value_at c.args.e old.blocks)) r way there) a.missed;

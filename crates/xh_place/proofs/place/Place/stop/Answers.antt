@@ -7,7 +7,8 @@ returns-clause-stopped g c =
     let old = c.args.self.now in let mid = c.set_state.new.self in let swept = c.sweep-bytes.new.self in let new = c.set_state-2.new.self in let bytes : ℕ = c.sweep-bytes.result.0 in
     let passed : first_refusal (stop old.place.state) ≡ None = search rules in
     let shape : mid.place.shape ≡ old.place.shape = ap (λ p. p.shape) c.set_state.ensures.state.0 in
-    let is = swept_as (IsSeen mid swept) (IsSeen old new) (seen_wide mid swept old new shape c.set_state.ensures.state.1 c.set_state-2.ensures.state.1) 0 c.args.budget mid.place swept.place bytes
+    let process : mid.place.process ≡ old.place.process = ap (λ p. p.process) c.set_state.ensures.state.0 in
+    let is = swept_as (IsSeen mid swept) (IsSeen old new) (seen_wide mid swept old new shape process c.set_state.ensures.state.1 c.set_state-2.ensures.state.1) 0 c.args.budget mid.place swept.place bytes
     c.sweep-bytes.result.1 c.sweep-bytes.ensures.swept in
     unrefused (stop old.place.state) c.reclaimed.result _ _ passed (
       bytes,

@@ -5,7 +5,7 @@ pub returns-clause-taken : goal.returns-clause-taken
 returns-clause-taken g c =
     let t = c.pop-taken.ensures.took in let got = c.take_all-blocks.ensures.got in let way = c.pop-taken.ensures.direction.0 in let mid = c.pop-taken.new.self.place in
     let old = c.args.self.now in let new = c.take_all-blocks.new.self in
-    let wide = seen_wide c.pop-taken.new.self new old new (ap (λ p. p.shape) t.3) c.pop-taken.ensures.seen (starts_same refl) in (
+    let wide = seen_wide c.pop-taken.new.self new old new (ap (λ p. p.shape) t.3) (ap (λ p. p.process) t.3) c.pop-taken.ensures.seen (starts_same refl) in (
       mid,
       c.in_ok-message.message,
       (t.0, t.1, t.2, t.3, subst (λ r. Takes r t.0 t.1) c.in_ok-message.was t.4),

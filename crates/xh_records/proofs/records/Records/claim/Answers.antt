@@ -1,12 +1,12 @@
-use Rattle.xh_records.proofs.Common.{arith, ◌≡◌, ◌≢◌, ℕ, List, ◌+◌, ◌*◌, ◌<◌, ◌≤◌, ◌∙◌, length, get_or, subst, sym, ap, length-append, Event, Claim, StartsWith, IsEmpty, Held, HasFound}
+use Rattle.xh_records.proofs.Common.{arith, ◌≡◌, ◌≢◌, ℕ, List, ◌+◌, ◌*◌, ◌<◌, ◌≤◌, ◌∙◌, length, get_or, subst, sym, ap, length-append, Deed, Claim, StartsWith, IsEmpty, Held, HasFound}
 use Rattle.xh_records.proofs.History.{starts_itself, starts_twice}
 use Rattle.xh_records.proofs.Lists.{seen_more}
 use Rattle.xh_records.proofs.Looks.{looks_on, gains_on, starts_on, found_on}
 use Rattle.xh_records.proofs.records.Records.claim.Goals as goal
 
 -- what is kept of a word that was seen at the index k
-abbrev Saw : {B : Type 0} → Held B → List Event → ℕ → ℕ → Type 0
-Saw x now k word = (word ≢ 0) × (front : List Event) × StartsWith front x.front × StartsWith now front × HasFound k word x front
+abbrev Saw : {B : Type 0} → Held B → List (Deed B) → ℕ → ℕ → Type 0
+Saw {B} x now k word = (word ≢ 0) × (front : List (Deed B)) × StartsWith front x.front × StartsWith now front × HasFound k word x front
 
 pub returns-in-Ok-clause-claimed : goal.returns-in-Ok-clause-claimed
 returns-in-Ok-clause-claimed g c = gains_on c.args.seat.now c.loop-index.seat c.loop-index.invariant.looked (λ p. Claim p c.number_at-number.result)
