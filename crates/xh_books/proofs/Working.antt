@@ -1,5 +1,5 @@
 -- Each call is work of the worker.
-use Rattle.xh_books.proofs.Common.{AccountOf, Block, Call, Calls, Connects, Err, HandsOver, Leading, List, Makes, MatchResult, None, Ok, OpensBoth, Option, PLACES, PartsOf, PlaceSeen, Reaches}
+use Rattle.xh_books.proofs.Common.{AccountOf, Block, Call, Connects, Err, HandsOver, Leading, List, Makes, MatchResult, None, Ok, OpensBoth, Option, PLACES, PartsOf, PlaceSeen, Reaches}
 use Rattle.xh_books.proofs.Common.{Refused, Result, Row, Some, Wired, Wires, Works, arith, inl, mod-lt, place_of, refl, subst, suc, sym, zero, ℕ, ⊎_elim, ◌<◌, ◌≡◌, ◌≢◌, ◌≤◌, ◌⊎◌}
 use Rattle.xh_core.specs.declared.refused.Refused.TheVariants.{Empty}
 use Rattle.xh_kernel.specs.Waits.{AskedAll, AtLast, Repeats, SpawnsAt}
