@@ -234,7 +234,11 @@ impl Channels {
         ensures kept { OnErr result (KeepsItsMessages end.old end.new) }
         ensures same { IsSameEnd end.old end.new }
     {
-        end.inner.take(rt)
+        let taken = end.inner.take(rt);
+        if taken.is_ok() {
+            end.inner.signal().tell_room(1 - end.inner.spot().side);
+        }
+        taken
     }
 
     /// Shuts this end: no later put toward it succeeds. Once drained an end stays so.
@@ -242,13 +246,13 @@ impl Channels {
         ensures { ShutsAs end.old end.new }
     {
         end.inner.shut(rt);
-        end.inner.signal().raise();
+        end.inner.signal().rouse();
     }
 
-    /// The channel's turn rises by one, and all that wait there look again. For whoever ends a process
+    /// The channel's turn rises by one, and all that wait there look again, for room too. For whoever ends a process
     /// without shutting its endpoint: the process may wait at the endpoint's spot, and no put comes.
     pub fn rouse<R: Wait>(&self, _rt: &R, spot: Spot) {
-        self.signals[spot.channel as usize].raise();
+        self.signals[spot.channel as usize].rouse();
     }
 
     /// How many puts that succeeded, shuts and calls of `rouse` there were at this channel. At 2^64 - 1 it stays.
@@ -276,6 +280,15 @@ impl Channels {
         requires { place < PLACES }
     {
         self.signals[spot.channel as usize].listen(spot.side, place);
+    }
+
+    /// The next take of what the spot's end put rings this place's bell once, as does the next shut of either end, or `rouse`, where that comes
+    /// first; unless another place waits for room at the spot by then. To wait for room, read the bell, call this, then put,
+    /// and where that is Full call `wait_at` with the bell that was read: a take after the put isn't slept through.
+    pub fn await_room<R: Wait>(&self, _rt: &R, spot: Spot, place: u8)
+        requires { place < PLACES }
+    {
+        self.signals[spot.channel as usize].await_room(spot.side, place);
     }
 
     /// The place's bell rings, and all that wait at it look again.

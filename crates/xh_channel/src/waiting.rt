@@ -160,16 +160,22 @@ impl Bells {
 /// Where no place listens.
 const NOBODY: u64 = PLACES as u64;
 
-/// A channel's turn, and at each side the place that listens there.
+/// A channel's turn, at each side the place that listens there, and at each the place that waits there for room.
 ///
 /// Whoever waits at several channels listens at each, then reads its place's bell, then looks at all, and
 /// sleeps only while the bell is what it read. A put raises the turn, and then rings the bells of who
 /// listens: it saw the waiter listen, and the bell moves on after it was read or the look comes after the
 /// put; or it didn't, and the look comes after the put too.
+///
+/// Whoever waits for room reads its place's bell, then is noted at its side, then gives, and sleeps only while the bell is what
+/// it read. A take pops, and then looks who is noted at the other side: so one that makes room after a give found none looks after
+/// the place was noted. It finds the place, or another take did since, and the one that finds it rings: the bell moves on after it was read.
 #[derive(Drop)]
 pub struct Signal {
     pub turn: Turn,
     listeners: [AtomicU64; 2],
+    // each on cache lines of its own: a take looks at one, and else only who waits writes there
+    senders: [CachePadded<AtomicU64>; 2],
     bells: OwnBells,
 }
 
@@ -181,6 +187,10 @@ impl Signal {
         Signal {
             turn: Turn::new(),
             listeners: [AtomicU64::new(NOBODY), AtomicU64::new(NOBODY)],
+            senders: [
+                CachePadded::new(AtomicU64::new(NOBODY)),
+                CachePadded::new(AtomicU64::new(NOBODY)),
+            ],
             bells,
         }
     }
@@ -205,5 +215,32 @@ impl Signal {
         if listener.load(SeqCst) != place {
             listener.store(place, SeqCst);
         }
+    }
+
+    /// The place waits at the side for room, and no other.
+    pub fn await_room(&self, side: u8, place: u8)
+        requires { (side < 2) × (place < PLACES) }
+    {
+        self.senders[side as usize].store(u64::from(place), SeqCst);
+    }
+
+    /// Who waits at the side for room looks again, and waits no more. Where nobody does, that is one load.
+    pub fn tell_room(&self, side: u8)
+        requires { side < 2 }
+    {
+        let sender = &self.senders[side as usize];
+        if sender.load(SeqCst) < NOBODY {
+            let place = sender.swap(NOBODY, SeqCst);
+            if place < NOBODY {
+                self.bells.of(place as u8).raise();
+            }
+        }
+    }
+
+    /// The turn rises by one, and all look again that wait at it, listen, or wait for room.
+    pub fn rouse(&self) {
+        self.raise();
+        self.tell_room(0);
+        self.tell_room(1);
     }
 }
