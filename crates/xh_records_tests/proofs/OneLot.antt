@@ -5,10 +5,11 @@ use Rattle.xh_arena.specs.Views.{LotOf}
 use Rattle.xh_model.specs.declared.event.Event.{Event}
 use Rattle.xh_model.specs.Keyed.{put, value_at, without}
 use Rattle.xh_model.proofs.Keyed.{here_first}
+use Rattle.xh_records.specs.Deeds.{Deed}
 use Rattle.xh_records.specs.Seats.{Held, RecordsOf, IsSeatOf, did, with_lots}
 
 -- the seat that has seen so much
-abbrev pub seen : {B : Type 0} → List Event → Held B → Held B
+abbrev pub seen : {B : Type 0} → List (Deed B) → Held B → Held B
 seen front x = record x { front = front }
 
 module _ {B : Type 0} (x y z : Held B) (r : ℕ) (l l' : LotOf B) where

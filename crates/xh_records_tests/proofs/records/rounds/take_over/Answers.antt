@@ -43,9 +43,9 @@ vacate-requires-clause-held g c =
 pub assert_word-requires-2-clause-own : goal.assert_word-requires-2-clause-own
 assert_word-requires-2-clause-own g c =
     let s = (goal.at.assert_word-requires-2-clause-own g c).After-give_back_at in
-    still_of _ (seen c.vacate.new.seat.front (did (Vacate _ 0) (accepted g s))) _ _ (own g s) (vacated g s _ _ c.vacate.ensures.vacated.0)
+    still_of _ (seen c.vacate.new.seat.front (did (Vacate _ 0) (accepted g s))) _ _ (own g s) (vacated g s _ _ c.vacate.ensures.vacated.2.0)
 
 pub returns : goal.returns
 returns g c =
-    let all = c.assert_word-2.ensures.0 ∙ ap (seen c.assert_word-2.new.seat.front) (vacated g (goal.at.returns g c).After-give_back_at _ _ c.vacate.ensures.vacated.0) in let miss = c.miss.ensures.0 in
+    let all = c.assert_word-2.ensures.0 ∙ ap (seen c.assert_word-2.new.seat.front) (vacated g (goal.at.returns g c).After-give_back_at _ _ c.vacate.ensures.vacated.2.0) in let miss = c.miss.ensures.0 in
     record { seat = (ap (λ h. h.table) all ∙ ap (λ h. h.table) miss, ap (λ h. h.shape) all ∙ ap (λ h. h.shape) miss, ap (λ h. h.process) all ∙ ap (λ h. h.process) miss, ap (λ h. h.lots) all) }
