@@ -10,5 +10,6 @@ pub mod Givens
 pub mod Swept
 pub mod Found
 pub mod Parted
+pub mod Lent
 pub mod Ends
 pub mod Drained

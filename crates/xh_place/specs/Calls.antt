@@ -1,4 +1,6 @@
 -- What the calls on data blocks do to a place and to the tallies of its worker.
+use Rattle.std.specs.Borrow.{Bor, MutBor}
+use Rattle.std.specs.Fn.{CalledAt, CalledAtMut, Mut}
 use Rattle.std.specs.Prelude.{◌≡◌, ℕ, ◌/◌, ◌≤◌, List, [], ◌∷◌, ◌++◌, length, replicate, Some, Result, IfOk, OnErr, OnOk}
 use Rattle.xh_arena.specs.Views.{TallyOf}
 use Rattle.xh_core.specs.declared.block.Block.{Block}
@@ -9,7 +11,7 @@ use Rattle.xh_core.specs.Space.{rounded}
 use Rattle.xh_model.specs.declared.limits.TheConstants.{MAX_RECORDS}
 use Rattle.xh_model.specs.declared.event.Event.TheVariants.{Claim}
 use Rattle.xh_model.specs.Keyed.{put, value_at}
-use Rattle.xh_place.specs.Bodies.{bytes, part, patched}
+use Rattle.xh_place.specs.Bodies.{Content, bytes, endpoint, part, patched}
 use Rattle.xh_place.specs.Places.{Item, LetsGo, PlaceOf, found, with_blocks, with_events, with_freed}
 use Rattle.xh_place.specs.Seen.{IsSamePlace, PlaceSeen, Stays}
 use Rattle.xh_place.specs.Splitting.{IsSplit}
@@ -49,3 +51,32 @@ pub record Writes (r at : ℕ) (xs : List ℕ) (old new : PlaceSeen) (result : R
   pub written : Tested (start old.place.state ++ range_tests (found old.place r) at (length xs)) result
       (λ _. (x : Item) × (value_at r old.place.blocks ≡ Some x) × (new.place ≡ with_blocks old.place (put r (record x { content = patched at xs x.content }) old.place.blocks)))
   pub refused : OnErr result (new.place ≡ old.place)
+
+-- ---- a block in place
+
+-- a data block of these bytes and no others
+abbrev pub made_of : List ℕ → Item
+made_of xs = record { len = length xs; content = bytes xs }
+
+-- the bytes of a block: none of an endpoint
+abbrev pub bytes_in : Content → List ℕ
+bytes_in (bytes xs) = xs
+bytes_in (endpoint e) = []
+
+-- the block of the record has these bytes and no others
+abbrev pub HasBytes : ℕ → PlaceOf → List ℕ → Type 0
+HasBytes r p xs = value_at r p.blocks ≡ Some (made_of xs)
+
+-- one call of the function had the bytes of the block, all of them, and the place is as it was; or it is refused as a read of no bytes is
+pub record Lends {F A : Type 0} (g : Mut F (Bor (List ℕ) × Unit {0}) A) (r : ℕ) (f f' : F) (old new : PlaceSeen) (result : Result A Refused) : Type 0 where
+  pub same : Stays old new
+  pub lent : Tested (start old.place.state ++ range_tests (found old.place r) 0 0) result (λ a. (shown : List ℕ) × HasBytes r old.place shown × CalledAt g f shown a f')
+  pub uncalled : OnErr result (f' ≡ f)
+
+-- the same of a function that may change them: as many as it left stand in the block in their place
+pub record LendsMut {F A : Type 0} (g : Mut F (MutBor (List ℕ) × Unit {0}) (A × (MutBor (List ℕ) × Unit {0}))) (r : ℕ) (f f' : F) (old new : PlaceSeen) (result : Result A Refused) : Type 0 where
+  pub place : IsSamePlace old new
+  pub lent : Tested (start old.place.state ++ range_tests (found old.place r) 0 0) result (λ a. (shown : List ℕ) × (left : List ℕ) × HasBytes r old.place shown
+      × CalledAtMut g f shown a f' left × (length left ≡ length shown) × (new.place ≡ with_blocks old.place (put r (made_of left) old.place.blocks)))
+  pub refused : OnErr result (new.place ≡ old.place)
+  pub uncalled : OnErr result (f' ≡ f)

@@ -1,4 +1,5 @@
 // What a place does to the bytes of a data block, in its lot.
+ghost use Rattle.std.specs.Fn.{CalledAt, CalledAtMut};
 ghost use Rattle.std.specs.Prelude.{◌≡◌, ◌+◌, ◌≤◌, Some, IfSome, OnErr, length};
 ghost use Rattle.xh_arena.specs.Views.{LotOf};
 ghost use Rattle.xh_core.specs.Calls.{range_tests};
@@ -6,6 +7,7 @@ ghost use Rattle.xh_core.specs.declared.header.Kind.TheVariants as kind;
 ghost use Rattle.xh_core.specs.Refusing.{Tested};
 ghost use Rattle.xh_model.specs.Keyed.{value_at, put};
 ghost use Rattle.xh_place.specs.Bodies.{bytes, content_of, fits_in, kind_of, part, patched, rest};
+ghost use Rattle.xh_place.specs.Calls.{bytes_in, made_of};
 ghost use Rattle.xh_place.specs.Places.{header_of, item_of};
 ghost use Rattle.xh_place.specs.declared.body.Body.{Body};
 ghost use Rattle.xh_place.specs.inner.Lots.{IsData};
@@ -104,6 +106,77 @@ pub(crate) fn write_lot(
             let at = at as usize;
             buffer.as_mut_slice()[at..at + bytes.len()].copy_from_slice(bytes);
             Ok(())
+        },
+    )
+}
+
+// One call of `f` at all its bytes, where it is a data block.
+#[tactic(auto, using(xh_model::proofs::Keyed::put_same))]
+pub(crate) fn show_lot<A, F: FnMut(&[u8]) -> A>(
+    records: &Records<Body>,
+    seat: &mut Seat<Body>,
+    r: u16,
+    f: &mut F,
+) -> Result<A, Refused>
+    requires own { IsSeatOf records.now seat.old × IsRecord records.now.shape r }
+    requires held { (l : LotOf Body) × (value_at r seat.old.lots ≡ Some l) × IsLotOf seat.old.shape r l × IsFull fits_in l }
+    requires callable { F.IsAlwaysCallable f.old }
+    ensures same { seat.new ≡ seat.old }
+    ensures shown { (l : LotOf Body) → value_at r seat.old.lots ≡ Some l → Tested (range_tests (Some (header_of (item_of l))) 0 0) result
+        (λ a. (item_of l ≡ made_of (bytes_in (content_of l.body))) × CalledAt F.FnMut f.old (bytes_in (content_of l.body)) a f.new) }
+    ensures refused { OnErr result (f.new ≡ f.old) }
+{
+    records.with_lot(
+        seat,
+        r,
+        &mut |lot: &mut Lot<Body>| -> Result<A, Refused>
+            requires { IsFull fits_in lot.old × F.IsAlwaysCallable f.now }
+            ensures lot { lot.new ≡ lot.old }
+            ensures shown { Tested (range_tests (Some (header_of (item_of lot.old))) 0 0) result
+                (λ a. (item_of lot.old ≡ made_of (bytes_in (content_of lot.old.body))) × CalledAt F.FnMut f.entry.now (bytes_in (content_of lot.old.body)) a f.exit.now) }
+            ensures refused { OnErr result (f.exit.now ≡ f.entry.now) }
+        {
+            check_range(header_of(lot), 0, 0)?;
+            let Body::Data(buffer) = lot.body() else {
+                unreachable!()
+            };
+            Ok(f(buffer.as_slice()))
+        },
+    )
+}
+
+// One call of `f` at all its bytes, where it is a data block, and as many as `f` leaves stand in their place.
+#[tactic(auto, using(xh_model::proofs::Keyed::put_same))]
+pub(crate) fn lend_lot<A, F: FnMut(&mut [u8]) -> A>(
+    records: &Records<Body>,
+    seat: &mut Seat<Body>,
+    r: u16,
+    f: &mut F,
+) -> Result<A, Refused>
+    requires own { IsSeatOf records.now seat.old × IsRecord records.now.shape r }
+    requires held { (l : LotOf Body) × (value_at r seat.old.lots ≡ Some l) × IsLotOf seat.old.shape r l × IsFull fits_in l }
+    requires callable { F.IsAlwaysCallable f.old }
+    ensures lent { (l : LotOf Body) → value_at r seat.old.lots ≡ Some l → Tested (range_tests (Some (header_of (item_of l))) 0 0) result
+        (λ a. (item_of l ≡ made_of (bytes_in (content_of l.body))) × ((m : LotOf Body) × CalledAtMut F.FnMut f.old (bytes_in (content_of l.body)) a f.new (bytes_in (content_of m.body))
+        × (m ≡ record l { body = m.body }) × (item_of m ≡ made_of (bytes_in (content_of m.body))) × (seat.new ≡ with_lots seat.old (put r m seat.old.lots)))) }
+    ensures refused { OnErr result ((seat.new ≡ seat.old) × (f.new ≡ f.old)) }
+{
+    records.with_lot(
+        seat,
+        r,
+        &mut |lot: &mut Lot<Body>| -> Result<A, Refused>
+            requires { IsFull fits_in lot.old × F.IsAlwaysCallable f.now }
+            ensures lent { Tested (range_tests (Some (header_of (item_of lot.old))) 0 0) result
+                (λ a. (item_of lot.old ≡ made_of (bytes_in (content_of lot.old.body)))
+                × CalledAtMut F.FnMut f.entry.now (bytes_in (content_of lot.old.body)) a f.exit.now (bytes_in (content_of lot.new.body))
+                × (lot.new ≡ record lot.old { body = lot.new.body }) × (item_of lot.new ≡ made_of (bytes_in (content_of lot.new.body)))) }
+            ensures refused { OnErr result ((lot.new ≡ lot.old) × (f.exit.now ≡ f.entry.now)) }
+        {
+            check_range(header_of(lot), 0, 0)?;
+            let Body::Data(buffer) = lot.body_mut() else {
+                unreachable!()
+            };
+            Ok(f(buffer.as_mut_slice()))
         },
     )
 }

@@ -17,11 +17,11 @@ ghost use Rattle.xh_place.specs.Tallies.{gave};
 ghost use Rattle.xh_place.specs.Vaults.{IsNoBlock};
 ghost use Rattle.xh_core.specs.Headers.{len_in};
 ghost use Rattle.xh_core.specs.Space.{rounded};
-ghost use Rattle.xh_place.specs.Calls.{Allocates, Frees, Reads, Splits, Writes};
+ghost use Rattle.xh_place.specs.Calls.{Allocates, Frees, Lends, LendsMut, Reads, Splits, Writes};
 ghost use Rattle.xh_core.specs.declared.header.Kind.TheVariants as kind;
 
 use crate::body::Body;
-use crate::bytes::{read_lot, write_lot};
+use crate::bytes::{lend_lot, read_lot, show_lot, write_lot};
 use crate::desk::Desk;
 use crate::gate::Gate;
 use crate::list::remove;
@@ -213,5 +213,36 @@ impl Place {
     {
         self.test_block(records, r)?;
         write_lot(records, &mut self.seat, r, at, bytes)
+    }
+
+    /// One call of `f` at the bytes of a data block, all of them. It gives what `f` answers. Ended, NotOwned
+    /// and NotData, in this order; `f` isn't called then.
+    pub fn with_bytes<A, F: FnMut(&[u8]) -> A>(
+        &mut self,
+        records: &Records<Body>,
+        r: u16,
+        f: &mut F,
+    ) -> Result<A, Refused>
+        requires own { IsPlaceOf records.now self.old.place }
+        requires callable { F.IsAlwaysCallable f.old }
+        ensures { Lends F.FnMut r f.old f.new self.old self.new result }
+    {
+        self.test_block(records, r)?;
+        show_lot(records, &mut self.seat, r, f)
+    }
+
+    /// As `with_bytes`; `f` may change the bytes where they stand.
+    pub fn with_bytes_mut<A, F: FnMut(&mut [u8]) -> A>(
+        &mut self,
+        records: &Records<Body>,
+        r: u16,
+        f: &mut F,
+    ) -> Result<A, Refused>
+        requires own { IsPlaceOf records.now self.old.place }
+        requires callable { F.IsAlwaysCallable f.old }
+        ensures { LendsMut F.FnMut r f.old f.new self.old self.new result }
+    {
+        self.test_block(records, r)?;
+        lend_lot(records, &mut self.seat, r, f)
     }
 }
