@@ -1,4 +1,6 @@
 -- What each call of a process does to its place, and why it is refused.
+use Rattle.std.specs.Borrow.{Bor, MutBor}
+use Rattle.std.specs.Fn.{CalledAt, CalledAtMut, Mut}
 use Rattle.std.specs.Prelude.{◌≡◌, ℕ, ◌/◌, ◌≤◌, Bool, true, false, List, [], ◌∷◌, ◌++◌, length, replicate, Option, Some, Result, Err, IfErr, IfOk, MatchOption, OnErr, OnOk}
 use Rattle.xh_arena.specs.Views.{VaultOf}
 use Rattle.xh_core.specs.declared.block.Block.{Block}
@@ -12,6 +14,7 @@ use Rattle.xh_model.specs.declared.event.Event.TheVariants.{Claim}
 use Rattle.xh_model.specs.Keyed.{put, value_at}
 use Rattle.xh_model.specs.Words.{generation_of}
 use Rattle.xh_place.specs.Bodies.{bytes, part, patched}
+use Rattle.xh_place.specs.Calls.{HasBytes, made_of}
 use Rattle.xh_place.specs.Places.{found, Item, LetsGo, PlaceOf, started, with_blocks, with_events, with_freed}
 use Rattle.xh_core.specs.Calls.{alloc_tests, data_tests, range_tests, split_tests}
 use Rattle.xh_core.specs.Headers.{len_in}
@@ -82,6 +85,20 @@ pub record Writes (p r at : ℕ) (xs : List ℕ) (old new : PlaceOf) (result : R
   pub written : Tested (start p old ++ range_tests (found old r) at (length xs)) result
       (λ _. (x : Item) × (value_at r old.blocks ≡ Some x) × (new ≡ with_blocks old (put r (record x { content = patched at xs x.content }) old.blocks)))
   pub refused : OnErr result (new ≡ old)
+
+-- ---- a block in place
+
+-- one call of the function had the bytes of the block, all of them; or it is refused as a read of no bytes is
+pub record Lends {F A : Type 0} (g : Mut F (Bor (List ℕ) × Unit {0}) A) (p r : ℕ) (f f' : F) (place : PlaceOf) (result : Result A Refused) : Type 0 where
+  pub lent : Tested (start p place ++ range_tests (found place r) 0 0) result (λ a. (shown : List ℕ) × HasBytes r place shown × CalledAt g f shown a f')
+  pub uncalled : OnErr result (f' ≡ f)
+
+-- the same of a function that may change them: as many as it left stand in the block in their place
+pub record LendsMut {F A : Type 0} (g : Mut F (MutBor (List ℕ) × Unit {0}) (A × (MutBor (List ℕ) × Unit {0}))) (p r : ℕ) (f f' : F) (old new : PlaceOf) (result : Result A Refused) : Type 0 where
+  pub lent : Tested (start p old ++ range_tests (found old r) 0 0) result (λ a. (shown : List ℕ) × (left : List ℕ) × HasBytes r old shown × CalledAtMut g f shown a f' left
+      × (length left ≡ length shown) × (new ≡ with_blocks old (put r (made_of left) old.blocks)))
+  pub refused : OnErr result (new ≡ old)
+  pub uncalled : OnErr result (f' ≡ f)
 
 -- ---- free
 

@@ -5,7 +5,7 @@ ghost use Rattle.xh_model.specs.declared.limits.TheConstants.{MAX_RECORDS};
 ghost use Rattle.xh_place.specs.Places.{IsPlaceOf};
 ghost use Rattle.xh_place.specs.Seen.{IsSamePlace, Stays};
 ghost use Rattle.xh_place.specs.Tallies.{gave, took};
-ghost use Rattle.xh_calls.specs.Calls.{Allocates, Frees, Reads, Splits, Writes};
+ghost use Rattle.xh_calls.specs.Calls.{Allocates, Frees, Lends, LendsMut, Reads, Splits, Writes};
 ghost use Rattle.xh_calls.specs.Places.{IsServed, IsTillOf};
 ghost use Rattle.xh_calls.specs.Vaults.{AsksVault};
 
@@ -96,6 +96,40 @@ impl<N: Names> Heap<N> {
     {
         check_start(place, p)?;
         place.write(&self.records, r, at, bytes)
+    }
+
+    /// As `Kernel::with_bytes`, by whoever has the place's lock.
+    pub fn with_bytes<A, F: FnMut(&[u8]) -> A>(
+        &self,
+        place: &mut Place,
+        p: u16,
+        r: u16,
+        f: &mut F,
+    ) -> Result<A, Refused>
+        requires place { IsPlaceOf N.parts.records place.old.place }
+        requires callable { F.IsAlwaysCallable f.old }
+        ensures same { Stays place.old place.new }
+        ensures lent { Lends F.FnMut p r f.old f.new place.old.place result }
+    {
+        check_start(place, p)?;
+        place.with_bytes(&self.records, r, f)
+    }
+
+    /// As `Kernel::with_bytes_mut`, by whoever has the place's lock.
+    pub fn with_bytes_mut<A, F: FnMut(&mut [u8]) -> A>(
+        &self,
+        place: &mut Place,
+        p: u16,
+        r: u16,
+        f: &mut F,
+    ) -> Result<A, Refused>
+        requires place { IsPlaceOf N.parts.records place.old.place }
+        requires callable { F.IsAlwaysCallable f.old }
+        ensures same { IsSamePlace place.old place.new }
+        ensures lent { LendsMut F.FnMut p r f.old f.new place.old.place place.new.place result }
+    {
+        check_start(place, p)?;
+        place.with_bytes_mut(&self.records, r, f)
     }
 
     /// As `Kernel::free`, by whoever has the place's lock.

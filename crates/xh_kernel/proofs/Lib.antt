@@ -3,4 +3,5 @@ pub mod Again
 pub mod Back
 pub mod Last
 pub mod Recorded
+pub mod Lent
 pub mod Compared

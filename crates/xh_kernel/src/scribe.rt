@@ -1,5 +1,5 @@
 //! What is written down of a place: its history, and by the history's word what looks see without its lock.
-ghost use Rattle.std.specs.Prelude.{◌≡◌, ◌↔◌, ◌<◌, ◌^◌, length, true};
+ghost use Rattle.std.specs.Prelude.{◌≡◌, ◌↔◌, ◌<◌, ◌^◌, [], ◌∷◌, ◌++◌, length, true};
 ghost use Rattle.xh_calls.specs.declared.call.Call.{Call};
 ghost use Rattle.xh_core.specs.Statuses.{is_over};
 ghost use Rattle.xh_history.specs.Histories.{at};
@@ -95,6 +95,8 @@ impl Scribe {
         ensures told { IsTold place.now.place self.new.pen }
         ensures lawful { IsLawful place.now.place }
         ensures history { IsHistoryOf N.parts self.new.pen.number self.new.pen.history place.now }
+        ensures one_more { self.new.pen.history ≡ self.old.pen.history ++ (front.old.number, record { call = call; glance = glance_of place.now.place }) ∷ [] }
+        ensures whole { at front.new.fronts self.old.pen.number ≡ self.new.pen.history }
         ensures front { (front.new.table ≡ front.old.table) × (front.new.number ≡ front.old.number) }
         ensures noted { Noted self.old.pen.number call front.old.number front.old.fronts front.new.fronts }
         ensures step { Steps N.leads self.old.pen.number (at front.new.fronts self.old.pen.number) (Does N.parts call) }

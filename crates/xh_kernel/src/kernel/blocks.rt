@@ -5,6 +5,7 @@ ghost use Rattle.xh_core.specs.Space.{rounded};
 ghost use Rattle.xh_calls.specs.declared.call.Call.TheVariants as call;
 ghost use Rattle.xh_kernel.specs.Accounts.{VaultRefuses};
 ghost use Rattle.xh_kernel.specs.Calls.{Calls};
+ghost use Rattle.xh_kernel.specs.Lends.{Lends, LendsMut};
 ghost use Rattle.xh_model.specs.Words.{place_of};
 
 use crate::account::Account;
@@ -128,6 +129,64 @@ impl<N: Names> Kernel<N> {
         held.scribe
             .note(&self.shared, &held.place, &mut account.front, &about);
         answer
+    }
+
+    /// One call of `f` at the bytes of a data block, all of them: what `f` answers. It is called under the place's lock,
+    /// so it must not call the kernel.
+    ///
+    /// NoProcess, Ended, NotOwned, NotData; `f` isn't called then.
+    pub fn with_bytes<R: Wait, G: Gate, A, F: FnMut(&[u8]) -> A>(
+        &self,
+        rt: &R,
+        p: u16,
+        r: u16,
+        f: &mut F,
+        account: &mut Account<N>,
+        _gate: &G,
+    ) -> Result<A, Refused>
+        requires { F.IsAlwaysCallable f.old }
+        ensures { Lends N.parts N.leads F.FnMut p r f.old f.new account.old account.new result }
+    {
+        let mut guard = self.held(rt, p);
+        let held: &mut Held<N> = &mut guard;
+        let answer = self.shared.heap.with_bytes(&mut held.place, p, r, f);
+        let about = (p, r, &answer);
+        held.scribe
+            .note(&self.shared, &held.place, &mut account.front, &about);
+        answer
+    }
+
+    /// As `with_bytes`; `f` may change the bytes where they stand. To the histories it is a read of them all and then a
+    /// write of what `f` left.
+    pub fn with_bytes_mut<R: Wait, G: Gate, A, F: FnMut(&mut [u8]) -> A>(
+        &self,
+        rt: &R,
+        p: u16,
+        r: u16,
+        f: &mut F,
+        account: &mut Account<N>,
+        _gate: &G,
+    ) -> Result<A, Refused>
+        requires { F.IsAlwaysCallable f.old }
+        ensures { LendsMut N.parts N.leads F.FnMut p r f.old f.new account.old account.new result }
+    {
+        let mut guard = self.held(rt, p);
+        let held: &mut Held<N> = &mut guard;
+        let heap = &self.shared.heap;
+        let read = heap.with_bytes(&mut held.place, p, r, &mut |_: &[u8]| ());
+        let about = (p, r, &read);
+        held.scribe
+            .note(&self.shared, &held.place, &mut account.front, &about);
+        match read {
+            Ok(()) => {
+                let answer = heap.with_bytes_mut(&mut held.place, p, r, f);
+                let about = (p, r, &answer);
+                held.scribe
+                    .note(&self.shared, &held.place, &mut account.front, &about);
+                answer
+            }
+            Err(refused) => Err(refused),
+        }
     }
 
     /// A data block's bytes go back, and its record is free. It answers the bytes.

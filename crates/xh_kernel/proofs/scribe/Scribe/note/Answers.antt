@@ -1,4 +1,5 @@
-use Rattle.xh_kernel.proofs.Common.{last_glance, subst, sym, ◌≡◌}
+use Rattle.xh_history.specs.Histories.{at}
+use Rattle.xh_kernel.proofs.Common.{[], ap, last_glance, subst, sym, ◌++◌, ◌∙◌, ◌∷◌, ◌≡◌}
 use Rattle.xh_kernel.proofs.Last.{glance_push}
 use Rattle.xh_kernel.proofs.Recorded.{noted}
 use Rattle.xh_kernel.proofs.scribe.Scribe.note.Goals as goal
@@ -20,3 +21,11 @@ returns-clause-step g c =
     let d = c.requires.1.1.1.1.1 in let e = c.add.ensures in let s = c.shown-glance.ensures in
     (noted g.N.Names.parts g.N.Names.leads c.args.shared.now.law g.call c.shown-glance.result d.0 d.1 c.args.place.now c.args.self.now.pen c.add.new.pen c.args.front.now c.add.new.front d.2 d.3
     (record { worker = c.requires.1.1.1.0.1; does = d.4; found = (c.requires.1.1.1.1.0.0, s.lawful); seen = d.5; glance = s.shown }) e.pen e.front e.seen e.whole).2
+
+pub returns-clause-one_more : goal.returns-clause-one_more
+returns-clause-one_more g c =
+    let pen = c.args.self.now.pen in
+    ap (λ p. p.history) c.add.ensures.pen ∙ ap (λ glance. pen.history ++ (c.args.front.now.number, record { call = g.call; glance = glance }) ∷ []) c.shown-glance.ensures.shown
+
+pub returns-clause-whole : goal.returns-clause-whole
+returns-clause-whole g c = ap (at c.add.new.front.fronts) (sym (ap (λ p. p.number) c.add.ensures.pen)) ∙ c.add.ensures.whole

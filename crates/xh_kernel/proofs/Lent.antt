@@ -1,0 +1,181 @@
+-- A block's bytes in the hands of a function: the entries that tell of it.
+use Rattle.xh_kernel.proofs.Common.{AccountOf, Call, Calls, Does, Entry, Err, IsHistoryOf, IsLaw, IsUnmoved, Leading, List, Noted, Ok, PartsOf, PlaceSeen, Result, Some, Steps, [], ap}
+use Rattle.xh_kernel.proofs.Common.{append-nil, arith, length, refl, subst, sym, ℕ, ◌++◌, ◌+◌, ◌∙◌, ◌∷◌, ◌≡◌, ◌≤◌}
+use Rattle.std.proofs.Math.Logic.{∥∥₁_elim, ∥∥₁_map}
+use Rattle.std.proofs.Common.{nat_lt}
+use Rattle.std.proofs.lemmas.Bool.Decides.{nat_tests}
+use Rattle.std.proofs.lemmas.List.{drop_all, take_all}
+use Rattle.std.specs.Borrow.{Bor, MutBor}
+use Rattle.std.specs.Fn.{CalledAt, CalledAtMut, Mut}
+use Rattle.std.specs.Prelude.{Bool, None, Option, cond, drop, false, option_map, unwrap_or}
+use Rattle.xh_calls.specs.Calls.{Lends as LendsAt, LendsMut as LendsMutAt, Reads, Writes}
+use Rattle.xh_calls.specs.Places.{start}
+use Rattle.xh_calls.specs.declared.call.Call.TheVariants.{Read, Write}
+use Rattle.xh_core.proofs.Firsts.{first_append, first_later}
+use Rattle.xh_core.specs.Calls.{range_tests}
+use Rattle.xh_core.specs.Refusing.{Tests, first_refusal}
+use Rattle.xh_core.specs.declared.glance.Glance.{Glance}
+use Rattle.xh_core.specs.declared.header.Header.{Header}
+use Rattle.xh_core.specs.declared.refused.Refused.{Refused}
+use Rattle.xh_core.specs.declared.refused.Refused.TheVariants.{BadRange}
+use Rattle.xh_history.specs.Histories.{History, at}
+use Rattle.xh_kernel.specs.Calls.{Moves}
+use Rattle.xh_kernel.specs.Lends.{Lends, LendsMut}
+use Rattle.xh_model.proofs.Keyed.{put_at}
+use Rattle.xh_model.specs.Keyed.{put, value_at}
+use Rattle.xh_model.specs.Words.{place_of}
+use Rattle.xh_place.specs.Bodies.{bytes, patched}
+use Rattle.xh_place.specs.Calls.{HasBytes, bytes_in, made_of}
+use Rattle.xh_place.specs.Places.{Item, PlaceOf, found, header_of, with_blocks}
+
+-- the bytes of the block of a record; none of an endpoint, and none where there is no block
+abbrev pub bytes_at : ℕ → PlaceOf → List ℕ
+bytes_at r p = unwrap_or (option_map (λ x. bytes_in x.content) (value_at r p.blocks)) []
+
+-- what is noted of the bytes, on the place as it is then: a read, or a write of what a function left; or the refusal
+abbrev pub read_of : {A : Type 0} → ℕ → ℕ → PlaceOf → Result A Refused → Call
+read_of p r place (Ok a) = Read p r 0 (bytes_at r place) (Ok tt)
+read_of p r place (Err why) = Read p r 0 [] (Err why)
+
+abbrev pub write_of : {A : Type 0} → ℕ → ℕ → PlaceOf → Result A Refused → Call
+write_of p r place (Ok a) = Write p r 0 (bytes_at r place) (Ok tt)
+write_of p r place (Err why) = Read p r 0 [] (Err why)
+
+-- ---- the tests of a read of the whole block
+
+bytes_are : (r : ℕ) (p : PlaceOf) (xs : List ℕ) → HasBytes r p xs → bytes_at r p ≡ xs
+bytes_are r p xs has = ap (λ (o : Option Item). unwrap_or (option_map (λ x. bytes_in x.content) o) []) has
+
+none_first : (a b : Tests) → first_refusal (a ++ b) ≡ None → first_refusal a ≡ None
+none_first a b fine = go (first_refusal a) refl where
+  go : (o : Option Refused) → first_refusal a ≡ o → first_refusal a ≡ None
+  go None is = is
+  go (Some e) is = let more : first_refusal (a ++ b) ≡ Some e = first_append a b e is in absurd (cc)
+
+in_range : (n k : ℕ) → k ≤ n → nat_lt n (0 + k) ≡ false
+in_range n k le = grind (arith, nat_tests)
+
+passes : (tests : Tests) (xs : List ℕ) (n : ℕ) (o : Option Header) → o ≡ Some (header_of (made_of xs)) → n ≤ length xs → first_refusal (tests ++ range_tests o 0 0) ≡ None
+    → first_refusal (tests ++ range_tests o 0 n) ≡ None
+passes tests xs n o is le fine =
+    first_later tests (range_tests o 0 n) (none_first tests (range_tests o 0 0) fine) ∙ ap (λ (z : Option Header). first_refusal (range_tests z 0 n)) is
+    ∙ ap (λ (b : Bool). cond b (Some BadRange) None) (in_range (length xs) n le)
+
+is_read : (p r : ℕ) (place : PlaceOf) (xs : List ℕ) → HasBytes r place xs → first_refusal (start p place ++ range_tests (found place r) 0 0) ≡ None → Reads p r 0 place xs (Ok tt)
+is_read p r place xs has fine = let le : length xs ≤ length xs = omega arith in
+    (passes (start p place) xs (length xs) (found place r) (ap (option_map header_of) has) le fine, (made_of xs, has, sym (take_all (length xs) xs le)))
+
+all_over : (xs ys : List ℕ) → length ys ≡ length xs → made_of ys ≡ record { len = length xs; content = patched 0 ys (bytes xs) }
+all_over xs ys long =
+    let none : drop (0 + length ys) xs ≡ [] = drop_all (0 + length ys) xs (omega arith) in
+    let same : ys ≡ ys ++ drop (0 + length ys) xs = sym (ap (λ (z : List ℕ). ys ++ z) none ∙ append-nil ys) in (λ i. record { len = long i; content = bytes (same i) })
+
+is_write : (p r : ℕ) (old new : PlaceOf) (xs ys : List ℕ) → HasBytes r old xs → length ys ≡ length xs → first_refusal (start p old ++ range_tests (found old r) 0 0) ≡ None
+    → new ≡ with_blocks old (put r (made_of ys) old.blocks) → Writes p r 0 ys old new (Ok tt)
+is_write p r old new xs ys has long fine is = let le : length ys ≤ length xs = omega arith in record {
+  written = (
+    passes (start p old) xs (length ys) (found old r) (ap (option_map header_of) has) le fine,
+    (made_of xs, has, is ∙ ap (λ (x : Item). with_blocks old (put r x old.blocks)) (all_over xs ys long)),
+  );
+  refused = tt;
+}
+
+has_left : (r : ℕ) (old new : PlaceOf) (xs ys : List ℕ) → HasBytes r old xs → new ≡ with_blocks old (put r (made_of ys) old.blocks) → HasBytes r new ys
+has_left r old new xs ys has is = ap (λ (q : PlaceOf). value_at r q.blocks) is ∙ put_at r (made_of ys) (made_of xs) old.blocks has
+
+-- ---- what the notes say is what was done
+
+module _ {F A : Type 0} (g : Mut F (Bor (List ℕ) × Unit {0}) A) (parts : PartsOf) (p r : ℕ) (f f' : F) (old new : PlaceSeen) (same : new.place ≡ old.place) where
+  pub has_shown : (a : A) → LendsAt g p r f f' old.place (Ok a) → HasBytes r new.place (bytes_at r new.place) × CalledAt g f (bytes_at r new.place) a f'
+  has_shown a h =
+      let has : HasBytes r new.place h.lent.1.0 = ap (λ (q : PlaceOf). value_at r q.blocks) same ∙ h.lent.1.1 in let is = sym (bytes_are r new.place h.lent.1.0 has) in
+      (subst (HasBytes r new.place) is has, subst (λ (xs : List ℕ). CalledAt g f xs a f') is h.lent.1.2)
+
+  pub did_read : (result : Result A Refused) → LendsAt g p r f f' old.place result → Does parts (read_of p r new.place result) old new
+  did_read (Ok a) h = let has : HasBytes r old.place (bytes_at r new.place) = ap (λ (q : PlaceOf). value_at r q.blocks) (sym same) ∙ (has_shown a h).0 in
+      (same, is_read p r old.place (bytes_at r new.place) has h.lent.0)
+  did_read (Err why) h = (same, h.lent)
+
+module _ {F A : Type 0} (g : Mut F (MutBor (List ℕ) × Unit {0}) (A × (MutBor (List ℕ) × Unit {0}))) (parts : PartsOf) (p r : ℕ) (f f' : F) (old new : PlaceSeen) where
+  pub has_changed : (a : A) (shown : List ℕ) → HasBytes r old.place shown → LendsMutAt g p r f f' old.place new.place (Ok a)
+      → HasBytes r new.place (bytes_at r new.place) × CalledAtMut g f shown a f' (bytes_at r new.place)
+  has_changed a shown had h =
+      let d = h.lent.1 in let now : HasBytes r new.place d.1 = has_left r old.place new.place d.0 d.1 d.2 d.5 in
+      let left : d.1 ≡ bytes_at r new.place = sym (bytes_are r new.place d.1 now) in
+      let first : d.0 ≡ shown = sym (bytes_are r old.place d.0 d.2) ∙ bytes_are r old.place shown had in
+      let called : CalledAtMut g f shown a f' d.1 = subst (λ (zs : List ℕ). CalledAtMut g f zs a f' d.1) first d.3 in
+      (subst (HasBytes r new.place) left now, subst (λ (zs : List ℕ). CalledAtMut g f shown a f' zs) left called)
+
+  pub did_write : (result : Result A Refused) → LendsMutAt g p r f f' old.place new.place result → Does parts (write_of p r new.place result) old new
+  did_write (Ok a) h =
+      let d = h.lent.1 in let left : d.1 ≡ bytes_at r new.place = sym (bytes_are r new.place d.1 (has_left r old.place new.place d.0 d.1 d.2 d.5)) in
+      subst (λ (zs : List ℕ). Writes p r 0 zs old.place new.place (Ok tt)) left (is_write p r old.place new.place d.0 d.1 d.2 d.4 h.lent.0 d.5)
+  did_write (Err why) h = (h.refused, h.lent)
+
+-- ---- one note, and what is so of the place before and after it
+
+pub as_noted : {k l m n : ℕ} {e : Call} {old fronts new : List (History Entry)} → k ≡ l → m ≡ n → old ≡ fronts → Noted k e m old new → Noted l e n fronts new
+as_noted {k} {l} {m} {n} {e} {old} {fronts} {new} place number seen noted =
+    let first : Noted k e m fronts new = subst (λ (fs : List (History Entry)). Noted k e m fs new) seen noted in
+    subst (λ (j : ℕ). Noted j e n fronts new) place (subst (λ (j : ℕ). Noted k e j fronts new) number first)
+
+pub as_more : (before : History Entry) {after : History Entry} (x : Entry) {m n : ℕ} → m ≡ n → after ≡ before ++ (m, x) ∷ [] → after ≡ before ++ (n, x) ∷ []
+as_more before x number more = more ∙ ap (λ (j : ℕ). before ++ (j, x) ∷ []) number
+
+module _ (parts : PartsOf) (leads : Leading) (law : IsLaw parts leads) where
+  pub did : (k place : ℕ) → k ≡ place → (e : Call) (glance : Glance) (before after : History Entry) (old new : PlaceSeen) (from to : AccountOf) (R : PlaceSeen → PlaceSeen → Type 0)
+      → Noted k e from.number from.fronts to.fronts → Moves e from to → IsHistoryOf parts k before old → IsHistoryOf parts k after new
+      → after ≡ before ++ (from.number, record { call = e; glance = glance }) ∷ [] → at to.fronts k ≡ after → R old new → Calls leads place e R from to
+  did k place is e glance before after old new from to R noted moves was now more whole so =
+      let entry : ℕ × Entry = (from.number, record { call = e; glance = glance }) in
+      let steps : Steps leads k (at to.fronts k) R
+      = ∥∥₁_elim ((law k before old).0 was) squash₁ (λ a. ∥∥₁_map ((law k after new).0 now)
+      (λ b. (before, entry, old, new, whole ∙ more, a, subst (λ (h : History Entry). leads k h new) (sym whole) b, so))) in
+      subst (λ (j : ℕ). Calls leads j e R from to) is ((noted, moves), steps)
+
+  -- a note of the bytes that a function had
+  pub lends : {F A : Type 0} (g : Mut F (Bor (List ℕ) × Unit {0}) A) (p r k : ℕ) (f f' : F) (glance : Glance) (before after : History Entry) (old new : PlaceSeen) (from to : AccountOf)
+      (result : Result A Refused) → k ≡ place_of p → new.place ≡ old.place → LendsAt g p r f f' old.place result → Noted k (read_of p r new.place result) from.number from.fronts to.fronts
+      → IsUnmoved from to → IsHistoryOf parts k before old → IsHistoryOf parts k after new
+      → after ≡ before ++ (from.number, record { call = read_of p r new.place result; glance = glance }) ∷ [] → at to.fronts k ≡ after → Lends parts leads g p r f f' from to result
+  lends g p r k f f' glance before after old new from to (Ok a) is same h noted unmoved was now more whole =
+      let xs : List ℕ = bytes_at r new.place in let e : Call = Read p r 0 xs (Ok tt) in let s = has_shown g parts p r f f' old new same a h in (
+        xs,
+        did k (place_of p) is e glance before after old new from to (λ x y. Does parts e x y × HasBytes r y.place xs) noted unmoved was now more whole
+            (did_read g parts p r f f' old new same (Ok a) h, s.0),
+        s.1,
+      )
+  lends g p r k f f' glance before after old new from to (Err why) is same h noted unmoved was now more whole = (
+    did k (place_of p) is (Read p r 0 [] (Err why)) glance before after old new from to (Does parts (Read p r 0 [] (Err why))) noted unmoved was now more whole
+        (did_read g parts p r f f' old new same (Err why) h),
+    h.uncalled,
+  )
+
+  -- the same, and then a note of what one left
+  pub lends_mut : {F G A : Type 0} (read : Mut G (Bor (List ℕ) × Unit {0}) (Unit {0})) (write : Mut F (MutBor (List ℕ) × Unit {0}) (A × (MutBor (List ℕ) × Unit {0}))) (p r k : ℕ)
+      (l l' : G) (f f' : F) (first second : Glance) (h0 h1 h2 : History Entry) (old was new : PlaceSeen) (from mid to : AccountOf) (answer : Result (Unit {0}) Refused)
+      (result : Result A Refused) → answer ≡ Ok tt → k ≡ place_of p → was.place ≡ old.place
+      → LendsAt read p r l l' old.place answer → LendsMutAt write p r f f' was.place new.place result
+      → Noted k (read_of p r was.place answer) from.number from.fronts mid.fronts → Noted k (write_of p r new.place result) mid.number mid.fronts to.fronts
+      → IsUnmoved from mid → IsUnmoved mid to → IsHistoryOf parts k h0 old → IsHistoryOf parts k h1 was → IsHistoryOf parts k h2 new
+      → h1 ≡ h0 ++ (from.number, record { call = read_of p r was.place answer; glance = first }) ∷ []
+      → h2 ≡ h1 ++ (mid.number, record { call = write_of p r new.place result; glance = second }) ∷ [] → at mid.fronts k ≡ h1 → at to.fronts k ≡ h2
+      → LendsMut parts leads write p r f f' from to result
+  lends_mut read write p r k l l' f f' first second h0 h1 h2 old was new from mid to (Ok x) (Ok a) so is same had h noted also unmoved still led then there more most whole all =
+      let xs : List ℕ = bytes_at r was.place in let ys : List ℕ = bytes_at r new.place in
+      let one : Call = Read p r 0 xs (Ok tt) in let two : Call = Write p r 0 ys (Ok tt) in
+      let s = has_shown read parts p r l l' old was same x had in let w = has_changed write parts p r f f' was new a xs s.0 h in
+      let entry : ℕ × Entry = (mid.number, record { call = two; glance = second }) in (
+        mid,
+        xs,
+        ys,
+        did k (place_of p) is one first h0 h1 old was from mid (λ x y. Does parts one x y × HasBytes r y.place xs) noted unmoved led then more whole
+            (did_read read parts p r l l' old was same (Ok x) had, s.0),
+        w.1,
+        did k (place_of p) is two second h1 h2 was new mid to (λ x y. Does parts two x y × HasBytes r y.place ys) also still then there most all
+            (did_write write parts p r f f' was new (Ok a) h, w.0),
+        (second, subst (λ (j : ℕ). at to.fronts j ≡ at mid.fronts j ++ entry ∷ []) is (all ∙ most ∙ ap (λ (x : History Entry). x ++ entry ∷ []) (sym whole))),
+      )
+  lends_mut read write p r k l l' f f' first second h0 h1 h2 old was new from mid to (Ok x) (Err why) so is same had h noted also unmoved still led then there more most whole all =
+      let fails : Some why ≡ None = sym h.lent ∙ ap (λ (q : PlaceOf). first_refusal (start p q ++ range_tests (found q r) 0 0)) same ∙ had.lent.0 in absurd (cc)
+  lends_mut read write p r k l l' f f' first second h0 h1 h2 old was new from mid to (Err why) result so is same had h noted also unmoved still led then there more most whole all = absurd (cc)
