@@ -116,6 +116,22 @@ impl<'a, 'k, N: Names, R: Wait + Clock> Process for Handle<'a, 'k, N, R> {
             .write(rt, p, block, at, bytes, self.account, &OpenGate)
     }
 
+    fn with_bytes<A, F: FnMut(&[u8]) -> A>(&mut self, block: u16, f: F) -> Result<A, Refused> {
+        let (rt, p, mut f) = (self.rt, self.number, f);
+        self.kernel
+            .with_bytes(rt, p, block, &mut f, self.account, &OpenGate)
+    }
+
+    fn with_bytes_mut<A, F: FnMut(&mut [u8]) -> A>(
+        &mut self,
+        block: u16,
+        f: F,
+    ) -> Result<A, Refused> {
+        let (rt, p, mut f) = (self.rt, self.number, f);
+        self.kernel
+            .with_bytes_mut(rt, p, block, &mut f, self.account, &OpenGate)
+    }
+
     fn free(&mut self, block: u16) -> Result<u32, Refused> {
         let (rt, p) = (self.rt, self.number);
         self.kernel.free(rt, p, block, self.account, &OpenGate)

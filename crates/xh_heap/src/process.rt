@@ -10,6 +10,7 @@ ghost use Rattle.xh_heap.specs.Handles.{Acts, HandleOf};
 ghost use Rattle.xh_kernel.specs.Accounts.{AccountOf};
 ghost use Rattle.xh_kernel.specs.Endings.{Exits, Kills};
 ghost use Rattle.xh_kernel.specs.Histories.{Did};
+ghost use Rattle.xh_kernel.specs.Lends.{Lends, LendsMut};
 ghost use Rattle.xh_kernel.specs.Waits.{AtLast, SpawnsAt};
 ghost use Rattle.xh_kernel.specs.Wires.{OpensBoth, Wires};
 ghost use Rattle.xh_model.specs.declared.limits.TheConstants.{MAX_BUDGET};
@@ -83,6 +84,23 @@ pub trait Process: Drop {
     /// NotOwned; NotData; BadRange where they reach past its end.
     fn write(&mut self, block: u16, at: u32, bytes: &[u8]) -> Result<(), Refused>
         ensures { Acts (λ p. Did parts leads p (call.Write p block at bytes.now result)) (handle self.old) (handle self.new) };
+
+    /// One call of `f` at a block's bytes, all of them, where they lie: what `f` answers. It is called under the lock of the
+    /// process's place, so it must not call the heap.
+    ///
+    /// NotOwned; NotData. `f` isn't called then.
+    fn with_bytes<A, F: FnMut(&[u8]) -> A>(&mut self, block: u16, f: F) -> Result<A, Refused>
+        requires { F.IsAlwaysCallable f }
+        ensures { Acts (λ p old new. (after : F) × Lends parts leads F.FnMut p block f after old new result) (handle self.old) (handle self.new) };
+
+    /// As `with_bytes`; `f` may change the bytes.
+    fn with_bytes_mut<A, F: FnMut(&mut [u8]) -> A>(
+        &mut self,
+        block: u16,
+        f: F,
+    ) -> Result<A, Refused>
+        requires { F.IsAlwaysCallable f }
+        ensures { Acts (λ p old new. (after : F) × LendsMut parts leads F.FnMut p block f after old new result) (handle self.old) (handle self.new) };
 
     /// A block's bytes go back, and its record is free. It answers how many bytes. NotOwned; NotData.
     fn free(&mut self, block: u16) -> Result<u32, Refused>

@@ -118,14 +118,38 @@ fn endings<P: Process>(own: &mut P, other: &mut P, alloc: Global) -> Result<[u64
     ])
 }
 
-/// All of these, by a process and one that it starts.
+/// A block is filled and looked at where it lies; not an end, nor a block that is gone, nor by a process that has ended.
+fn in_place<P: Process>(own: &mut P, ended: &mut P) -> Result<[u64; 8], Refused> {
+    let block = own.alloc(32)?.rec;
+    let (end, _) = own.open()?;
+    let count = own.with_bytes_mut(block, |bytes: &mut [u8]| {
+        bytes.fill(7);
+        bytes.len() as u64
+    })?;
+    let mut last = [0];
+    own.read(block, 31, &mut last)?;
+    let first = own.with_bytes(block, |bytes: &[u8]| bytes.first().copied())?;
+    own.free(block)?;
+    Ok([
+        count,
+        u64::from(last[0]),
+        first.map_or(0, u64::from),
+        code(own.with_bytes(block, |_: &[u8]| 0)),
+        code(own.with_bytes_mut(block, |_: &mut [u8]| 0)),
+        code(own.with_bytes(end.rec, |_: &[u8]| 0)),
+        code(own.with_bytes_mut(end.rec, |_: &mut [u8]| 0)),
+        code(ended.with_bytes_mut(block, |_: &mut [u8]| 0)),
+    ])
+}
+
+/// All of these, by a process and one that it starts, which has ended before the last.
 #[derive(Drop)]
 struct Calls(Global);
 
 impl Job for Calls {
     type Plan = ();
 
-    type Answer = Result<[[u64; 8]; 4], Refused>;
+    type Answer = Result<[[u64; 8]; 5], Refused>;
 
     fn plan<P: Process>(&self, _team: &mut Team<P>) -> Result<(), Refused> {
         Ok(())
@@ -138,17 +162,19 @@ impl Job for Calls {
             messages(own, &mut other)?,
             channels(own, &mut other)?,
             endings(own, &mut other, self.0)?,
+            in_place(own, &mut other)?,
         ])
     }
 }
 
 #[test]
 fn each_call(rt: HostRuntime) {
-    const EXPECTED: [[u64; 8]; 4] = [
+    const EXPECTED: [[u64; 8]; 5] = [
         [48, 256, 16, 32, 98, 32, 1006, 1003],
         [1, 2, 7, 1006, 8, 1016, 1016, 1016],
         [3, 1022, 1, 1022, 1, 5, 32, 1015],
         [2, 16, 1012, 0, 1011, 0, 1021, 97],
+        [32, 7, 7, 1006, 1006, 1007, 1007, 1012],
     ];
     let config = Config {
         arenas: 2,

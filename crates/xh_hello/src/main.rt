@@ -25,9 +25,9 @@ impl Job for Count {
             return Ok(0);
         }
         let message = own.take_wait(ends.1)?;
-        let mut text = [0; 18];
-        own.read(block_of(&message, 0)?, 0, &mut text)?;
-        Ok(text.split(|byte| *byte == b' ').count())
+        own.with_bytes(block_of(&message, 0)?, |text: &[u8]| {
+            text.split(|byte| *byte == b' ').count()
+        })
     }
 }
 
