@@ -15,9 +15,8 @@ TOP = pathlib.Path(__file__).resolve().parent.parent
 ROOM = tempfile.TemporaryDirectory(prefix="judging.")
 REFUSER = f"{ROOM.name}/refuse_growth.so"
 
-# What a run ended with, whether a growth of memory was asked for and refused, and whether the thread began whose
-# growths are refused.
-Answer = collections.namedtuple("Answer", "status out err is_refused is_begun")
+# What a run ended with, and whether a growth of memory was refused.
+Answer = collections.namedtuple("Answer", "status out err is_refused")
 
 
 class Wrong(Exception):
@@ -48,8 +47,7 @@ def run(words, text=b"", limit=60, **refused):
             ran = subprocess.run(words, input=text, capture_output=True, env={**os.environ, **env}, timeout=limit)
         except subprocess.TimeoutExpired:
             raise Wrong(f"it did not end within {limit} seconds") from None
-        said = told.read()
-    return Answer(ran.returncode, ran.stdout, ran.stderr, b"refused" in said, b"begun" in said)
+        return Answer(ran.returncode, ran.stdout, ran.stderr, told.read() != b"")
 
 
 def claim_same(answer, wanted):
@@ -91,9 +89,9 @@ def is_answer(answer, status, printed, reported):
     claim(answer.status == int(status), str(answer))
 
 
-def answers(program, lines, words, *wanted):
+def answers(program, status, printed, reported, words, lines):
     """Run on a script of these lines, of which the last has no line feed."""
-    is_answer(run([program, *words], "\n".join(lines).encode()), *wanted)
+    is_answer(run([program, *words], "\n".join(lines).encode()), status, printed, reported)
 
 
 def ends(program, source, to, status, printed, reported, *words):
@@ -134,16 +132,14 @@ def refused_line(words, text, answer):
 
 
 def program_stands_each_growth(program, script, *words):
-    """With each growth of each thread refused in turn. A run to which one was refused ends with status 3, or gets by
-    without it and is whole, as where a list asks for less; but most end. So it is of a script with a fault: memory
-    ends the run until the fault is found. Beside the script stands .growths: the lines of the commands that take
-    memory of their own, one growth each. On threads each of these says once that it was refused memory, and no other
-    does. On one thread each ends the run, and so does what is read."""
+    """With each growth of each thread refused in turn; there is none but the first, and one a process. A run to which
+    one was refused ends with status 3, or gets by without it and is whole, as where a list asks for less; but most
+    end. So it is of a script with a fault: memory ends the run until the fault is found. Beside the script stands
+    .growths: the lines of the commands that take memory of their own, one growth each. On threads each of these says
+    once that it was refused memory, and no other does. On one thread each ends the run, and so does what is read."""
     words, text, wanted, ended, whole, lines = [program, *words], script.read_bytes(), written(script), 0, 0, []
-    for thread in itertools.count():
+    for thread in range(1 + len(re.findall(rb"^process ", text, re.M))):
         *refused, last = each_growth(words, text, thread=thread)
-        if not last.is_begun:
-            break
         claim_same(last, wanted)
         for answer in refused:
             if answer.status == 3:
@@ -160,9 +156,9 @@ def program_stands_each_growth(program, script, *words):
 
 
 def growth_tests(file, *programs):
-    """The tests on refused growths of these programs, by their names, stand in the list, a line each, the program and
-    the test; and no others."""
-    listed = sorted(lines_of(file))
+    """The tests on refused growths of these programs, by their names, stand in the list, behind the program, and no
+    others do."""
+    listed = sorted(f"{program} {test}" for program, *tests in map(str.split, lines_of(file)) for test in tests)
     name = re.compile(r"^(.*(?:growth|without_memory).*): test$", re.M)
     there = sorted(f"{it.name} {test}" for it in programs for test in name.findall(run([it, "--list"]).out.decode()))
     claim(listed and listed == there, f"in one of both: {sorted({*listed} ^ {*there})}")

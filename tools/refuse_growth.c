@@ -1,7 +1,7 @@
 // Preloaded into a program: refuses its N-th growth of memory, N from REFUSE_GROWTH, and where REFUSE_REST is set each
 // growth after it too; every other growth is granted. Where REFUSE_THREAD is set, the growths are those of one thread:
-// of the first, 0, or of the one that was made so many threads after it. The file that REFUSE_TOLD names is told
-// 'refused' of each growth that is refused, and 'begun' where that thread began.
+// of the first, 0, or of the one that was made so many threads after it. The file that REFUSE_TOLD names gets a byte
+// for each growth that is refused.
 #define _GNU_SOURCE
 #include <dlfcn.h>
 #include <errno.h>
@@ -10,24 +10,19 @@
 #include <pthread.h>
 #include <stdatomic.h>
 #include <stdlib.h>
-#include <string.h>
 #include <unistd.h>
-
-#define EARLY __attribute__((tls_model("initial-exec")))
 
 // The C library's own.
 void *__libc_malloc(size_t);
 void *__libc_realloc(void *, size_t);
 
+// The growths so far, of the thread where there is one, and the numbers of those that are refused.
 static atomic_long count;
-// The numbers of the growths that are refused, from the first to the last.
-static long first = LONG_MAX;
-static long last;
-// The thread whose growths they are, or -1 for all threads; how many were made; this one, and its growths so far.
+static long first = LONG_MAX, last;
+// The thread whose growths they are, or -1 for all threads; how many were made; and this one.
 static long thread = -1;
 static atomic_long made;
-static _Thread_local EARLY long own;
-static _Thread_local EARLY long own_count;
+static _Thread_local __attribute__((tls_model("initial-exec"))) long own;
 
 // What a thread begins with.
 struct begun {
@@ -36,30 +31,22 @@ struct begun {
     long number;
 };
 
-static void tell(const char *word) {
-    int file = open(getenv("REFUSE_TOLD"), O_WRONLY | O_APPEND);
-    if (write(file, word, strlen(word)) < 0)
-        abort();
-    close(file);
-}
-
 __attribute__((constructor)) static void start(void) {
     const char *of = getenv("REFUSE_THREAD");
-    count = own_count = 0;
+    count = 0;
     first = atol(getenv("REFUSE_GROWTH"));
     last = getenv("REFUSE_REST") ? LONG_MAX : first;
     thread = of ? atol(of) : -1;
-    if (thread == 0)
-        tell("begun\n");
 }
 
 static int is_refused(void) {
-    if (thread >= 0 && own != thread)
-        return 0;
-    long number = thread >= 0 ? ++own_count : ++count;
+    long number = thread < 0 || own == thread ? ++count : 0;
     if (number < first || number > last)
         return 0;
-    tell("refused\n");
+    int file = open(getenv("REFUSE_TOLD"), O_WRONLY | O_APPEND);
+    if (write(file, ".", 1) != 1)
+        abort();
+    close(file);
     errno = ENOMEM;
     return 1;
 }
@@ -76,8 +63,6 @@ static void *begin(void *given) {
     struct begun it = *(struct begun *)given;
     free(given);
     own = it.number;
-    if (own == thread)
-        tell("begun\n");
     return it.start(it.argument);
 }
 

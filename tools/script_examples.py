@@ -1,7 +1,7 @@
-"""The examples of docs/SCRIPT.md as they stand there: of each its name, its script and options, and the status, the
-output and the errors that the document says it has, in which a * is any text (judging.answers). An example is an
-indented block, or a cell of the last column of the tables of limits, refusals and faults; one that is of no known form
-is refused."""
+"""The examples of docs/SCRIPT.md as they stand there: of each the status, the output and the errors that the document
+says it has, in which a * is any text, and its options and its script (judging.answers). An example is an indented
+block, or a cell of the last column of the tables of limits, refusals and faults; one that is of no known form is
+refused."""
 import re
 
 from judging import TOP, claim
@@ -28,10 +28,10 @@ def lines_of_part(text):
 
 
 def script_of(text):
-    """The lines and the options of a cell's example."""
+    """The options and the lines of a cell's example."""
     text, _, options = text.partition(" with ")
-    lines = [line for part in text.split(", then ") for line in lines_of_part(part)]
-    return lines, ["--serial", *options.strip("`").split()]
+    options = ["--serial", *options.strip("`").split()]
+    return options, [line for part in text.split(", then ") for line in lines_of_part(part)]
 
 
 def rows_of(head):
@@ -48,24 +48,23 @@ def one_by_one(blocks):
             command, reply = re.fullmatch(r"(.+?) +(\d+ (?:ok|no)\b.*)", line).groups()
             lines.append(command)
             replies.append(reply)
-        yield f"commands: {lines_of(block)[0]}", lines[:], ["--serial"], 0, "\n".join([*replies, "*"]), ""
+        yield 0, "\n".join([*replies, "*"]), "", ["--serial"], lines[:]
 
 
 def of_cells(head):
-    for limit, _, cell in rows_of("Limit"):
+    for _, _, cell in rows_of("Limit"):
         text, kind, line = re.fullmatch(r"(.*): (\w+) at line (\d+)", cell).groups()
-        yield f"limit: {limit}", *script_of(text), 1, "", f"xheap: line {line}: {kind}"
+        yield 1, "", f"xheap: line {line}: {kind}", *script_of(text)
     for number, name, _, cell in rows_of("No."):
         if cell or name != "OutOfMemory":
             text, reply = re.fullmatch(r"(.*): `(no [^`]*)`", cell).groups()
             claim(reply.split()[1:3] == [number, name.split()[0]], f"{reply} is not the refusal of its row")
-            lines, options = script_of(text)
-            yield f"refusal: {name}", head + lines, options, 0, f"*\n{len(head + lines)} {reply}\n*", ""
+            options, lines = script_of(text)
+            yield 0, f"*\n{len(head + lines)} {reply}\n*", "", options, head + lines
     for kind, _, cell in rows_of("Kind"):
-        for text in cell.split("; "):
-            lines, options = script_of(text)
+        for options, lines in map(script_of, cell.split("; ")):
             line = 0 if kind.endswith(" (line 0)") else len(lines)
-            yield f"fault: {kind} of {text}", lines, options, 1, "", f"xheap: line {line}: {kind.split()[0]}"
+            yield 1, "", f"xheap: line {line}: {kind.split()[0]}", options, lines
 
 
 def examples():
@@ -74,11 +73,11 @@ def examples():
     script, command, printed = map(lines_of, blocks.pop("A script and its output"))
     options, file = re.fullmatch(r"\./xheap (.*) < (\S+)", *command).groups()
     claim((TOP / file).read_text().splitlines() == script, f"the script is not {file}")
-    yield f"script: {file}", script, options.split(), 0, "\n".join(printed), ""
+    yield 0, "\n".join(printed), "", options.split(), script
     yield from one_by_one([it for title in ("Heads", "Blocks", "Messages", "Ending") for it in blocks.pop(title)])
     ledgers = re.findall(rf"with `(--[^`]*)`, the script\n\n{BLOCK}\nprints\n\n{BLOCK}", sections["The ledger"], re.M)
     for options, script, printed in ledgers:
-        yield f"ledger: {options}", lines_of(script), options.split(), 0, "\n".join(["*", *lines_of(printed)]), ""
+        yield 0, "\n".join(["*", *lines_of(printed)]), "", options.split(), lines_of(script)
     head, = map(lines_of, blocks.pop("Refusals"))
     yield from of_cells(head)
     claim(sum(map(len, blocks.values())) == 2 * len(ledgers), "an indented block that is no example")

@@ -58,21 +58,20 @@ def make(seed):
     return "\n".join(lines).encode(), {**options, "--wear": 1_000_000}
 
 
-def is_answer(heap, command, line):
+def is_answer(heap, command, reply):
     """Does the command. A give that found its peer closed in its midst may have been sent: then the peer's end
     reclaimed it."""
-    said, wanted = heap.step(*command[1:]), line.partition(" ")[2]
-    return said == wanted or wanted == "no 15 PeerClosed 0" and said.startswith("ok")
+    said = heap.step(*command)
+    return said == reply or reply == "no 15 PeerClosed 0" and said.startswith("ok")
 
 
 def read_on(heap, waiting, at):
     """The places in the processes' commands behind all reads that answer so now; these change nothing, whenever they
     come."""
-    at = list(at)
     for number, own in enumerate(waiting):
-        while at[number] < len(own) and own[at[number]][0][2] == b"read" and is_answer(heap, *own[at[number]]):
-            at[number] += 1
-    return tuple(at)
+        while at[number] < len(own) and own[at[number]][0][1] == b"read" and is_answer(heap, *own[at[number]]):
+            at = (*at[:number], at[number] + 1, *at[number + 1 :])
+    return at
 
 
 def judge(text, options, is_serial, answer):
@@ -86,30 +85,26 @@ def judge(text, options, is_serial, answer):
 def has_order(commands, options, is_exact, lines):
     """Whether there is one, each process's commands in their own order; None where the search is cut off."""
     heap, waiting = soak_machine.Heap(options), {}
-    for command, line in zip(commands, lines):
-        if not command[1] and not is_answer(heap, command, line):
-            return False
-        own = waiting.setdefault(command[1], [])
-        reply = command[2:], line.split(" ")[1:]
-        if command[2] != b"read" or not own or (own[-1][0][2:], own[-1][1].split(" ")[1:]) != reply:
-            own.append((command, line))
-    waiting = [own for by, own in waiting.items() if by]
-    ledger = without_holes(lines[len(commands) :], is_exact)
-    begun = [(pickle.dumps(heap), (0,) * len(waiting))]
-    seen, steps = set(begun), 0
+    for (_, by, *command), line in zip(commands, lines):
+        own, it = waiting.setdefault(by, []), ((by, *command), line.partition(" ")[2])
+        own += [] if command[0] == b"read" and own[-1:] == [it] else [it]
+    if not all(is_answer(heap, *head) for head in waiting.pop(None)):
+        return False
+    waiting, ledger = list(waiting.values()), without_holes(lines[len(commands) :], is_exact)
+    begun, steps = [(pickle.dumps(heap), (0,) * len(waiting))], 0
+    seen = set(begun)
     while begun and steps <= STEPS:
         state, at = begun.pop()
         heap = pickle.loads(state)
         at = read_on(heap, waiting, at)
         if at == tuple(map(len, waiting)) and without_holes(heap.ledger(), is_exact) == ledger:
             return True
-        state = pickle.dumps(heap)
         for number, own in enumerate(waiting):
             if at[number] < len(own):
                 heap, steps = pickle.loads(state), steps + 1
                 if is_answer(heap, *own[at[number]]):
                     found = pickle.dumps(heap), (*at[:number], at[number] + 1, *at[number + 1 :])
-                    begun += [] if found in seen else [found]
+                    begun += {found} - seen
                     seen.add(found)
     return None if steps > STEPS else False
 

@@ -2,8 +2,9 @@
 first fault."""
 import re
 
-WORDS = {"name": rb"[a-z][a-z0-9]{0,15}", "hex": rb"(?:[0-9a-f]{2}){1,32}", "number": rb"0|[1-9][0-9]{0,9}"}
+NAME, HEX, NUMBER = rb"[a-z][a-z0-9]{0,15}", rb"(?:[0-9a-f]{2}){1,32}", rb"0|[1-9][0-9]{0,9}"
 RANGES = {"number": (0, 4_294_967_295), "length": (1, 32), "tag": (0, 65_535), "budget": (1, 4096)}
+ROW = {"state": (0, 15), "tag": (0, 65_535), "side": (0, 1), "next": (0, 15)}
 # For each verb the sorts of its words; the last may be repeated, so often at least and at most.
 VERBS = """process process|wire process name process name number known*0,1|contract contract row*1,16
 alloc name number number|split name number name|read name number length|write name number hex|free name|close name
@@ -13,91 +14,81 @@ VERBS = {verb.encode(): sorts for verb, *sorts in map(str.split, re.split(r"[|\n
 HEADS = b"process", b"wire", b"contract"
 
 
-class Fault(Exception):
-    pass
+class Refused(Exception):
+    """Of a line: the kind of its fault. Of a command: the words of its reply, a name, and what is counted."""
 
 
-def need(is_so, kind):
+def need(is_so, *words):
     if not is_so:
-        raise Fault(kind)
+        raise Refused(*words)
 
 
-def number_of(word, low, high):
-    need(re.fullmatch(WORDS["number"], word) and low <= int(word) <= high, "BadNumber")
-    return int(word)
-
-
-def value_of(sort, word):
-    if sort in RANGES:
-        return number_of(word, *RANGES[sort])
+def value_of(sort, word, ranges=RANGES):
+    if sort in ranges:
+        low, high = ranges[sort]
+        need(re.fullmatch(NUMBER, word) and low <= int(word) <= high, "BadNumber")
+        return int(word)
     if sort == "row":
         parts = word.split(b":")
         need(len(parts) == 4, "BadNumber")
-        return tuple(number_of(part, 0, most) for part, most in zip(parts, (15, 65_535, 1, 15)))
+        return tuple(value_of(*it, ROW) for it in zip(ROW, parts))
     if sort == "hex":
-        need(re.fullmatch(WORDS["hex"], word), "BadHex")
+        need(re.fullmatch(HEX, word), "BadHex")
     else:
-        need(re.fullmatch(WORDS["name"], word) and word not in HEADS, "BadWord")
+        need(re.fullmatch(NAME, word) and word not in HEADS, "BadWord")
     return word
 
 
-def split_line(line):
-    """The verb, the process that it is by, and the words behind it with their sorts."""
+def command_of(line):
+    """The process that it is by, its verb, its words, and their sorts."""
     need(all(0x20 <= byte <= 0x7E for byte in line), "BadByte")
-    words = line.split(b" ")
+    words, by = line.split(b" "), None
     need(b"" not in words, "BadWord")
-    by = None
     if words[0] not in HEADS:
         by = value_of("name", words.pop(0))
         need(words, "BadCount")
         need(words[0] in VERBS and words[0] not in HEADS, "BadWord")
-    *sorts, last = VERBS[words[0]]
+    verb, *words = words
+    *sorts, last = VERBS[verb]
     last, _, bounds = last.partition("*")
     low, high = map(int, (bounds or "1,1").split(","))
-    count = len(words) - 1 - len(sorts)
-    need(low <= count <= high, "BadCount")
-    return words[0], by, words[1:], sorts + [last] * count
+    need(low <= len(words) - len(sorts) <= high, "BadCount")
+    sorts += [last] * (len(words) - len(sorts))
+    return by, verb, list(map(value_of, sorts, words)), sorts
 
 
-class Script:
-    """What was read: a command is its line's number, its process, its verb and its words."""
-
-    def __init__(self):
-        self.commands, self.processes, self.names, self.contracts = [], set(), {}, set()
-
-    def add(self, number, line):
-        verb, by, words, sorts = split_line(line)
-        values = [value_of(sort, word) for sort, word in zip(sorts, words)]
-        need(not (verb in HEADS and any(it[1] for it in self.commands[-1:])), "LateHead")
-        if verb == b"contract":
-            sides = {state: side for state, _, side, _ in values[1:]}
-            need(values[0] not in self.contracts and all(sides[row[0]] == row[2] for row in values[1:]), "BadContract")
-            need(len({row[:2] for row in values[1:]}) == len(values[1:]), "BadContract")
-            self.contracts.add(values[0])
-        holder = by
-        self.processes |= {by} - {None}
-        for sort, value in zip(sorts, values):
-            need(sort != "known" or value in self.contracts, "BadContract")
-            if sort == "process":
-                self.processes.add(value)
-                holder = value if verb == b"wire" else by
-            elif sort == "name":
-                self.names.setdefault(holder, set()).add(value)
-        self.commands.append((number, by, verb, values))
-        need(len(self.commands) <= 4096 and len(self.processes) <= 64 and len(self.contracts) <= 16, "TooLong")
-        need(all(len(names) <= 256 for names in self.names.values()), "TooLong")
+def declare(verb, by, values, sorts, names, contracts):
+    """Takes the line's names into the names of blocks of each process, and into the names of contracts."""
+    if verb == b"contract":
+        name, *rows = values
+        need(name not in contracts and len({row[:2] for row in rows}) == len(rows), "BadContract")
+        need(len({row[0] for row in rows}) == len({(row[0], row[2]) for row in rows}), "BadContract")
+        contracts.add(name)
+    holder = names.setdefault(by, set())
+    for sort, value in zip(sorts, values):
+        need(sort != "known" or value in contracts, "BadContract")
+        if sort == "process":
+            holder = names.setdefault(value, set())
+        elif sort == "name":
+            holder.add(value)
 
 
 def read(text):
-    """The commands, and None; or None, and the line and the kind of its fault."""
-    script = Script()
+    """The commands, and None; or None, and the line and the kind of its fault. A command is its line's number, its
+    process, its verb and its words."""
+    commands, names, contracts = [], {None: set()}, set()
     if len(text) > 1_048_576:
         return None, (0, "TooLong")
     for number, line in enumerate(text.split(b"\n"), 1):
         try:
             need(len(line) <= 256, "LongLine")
             if line and not line.startswith(b"#"):
-                script.add(number, line)
-        except Fault as fault:
+                by, verb, values, sorts = command_of(line)
+                need(by or not commands or not commands[-1][1], "LateHead")
+                declare(verb, by, values, sorts, names, contracts)
+                commands.append((number, by, verb, values))
+                need(len(commands) <= 4096 and len(names) <= 65 and len(contracts) <= 16, "TooLong")
+                need(all(len(own) <= 256 for own in names.values()), "TooLong")
+        except Refused as fault:
             return None, (number, str(fault))
-    return script.commands, None
+    return commands, None

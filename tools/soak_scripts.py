@@ -9,9 +9,14 @@ import soak_reader
 LINES = """14 alloc {x} {size} {arena}|6 split {data} {cut} {x}|8 read {data} {at} {count}|8 write {data} {at} {bytes}
 6 free {data}|4 open {e} {e} {arena}{under}|14 give {end} {tag}{names}|12 take {end}{news}|4 await {end}{news}
 2 close {end}|1 exit{budget}|1 kill {process}{budget}|2 again|3 glance {process}"""
-OFTEN, LINES = zip(*(line.split(" ", 1) for line in re.split(r"[|\n]", LINES)))
-LINES = [line for often, line in zip(map(int, OFTEN), LINES) for _ in range(often)]
-TOP = 4_294_967_295
+LINES = [line for often, line in re.findall(r"(\d+) ([^|\n]+)", LINES) for _ in range(int(often))]
+# What each field may be; one that is not here depends on the script so far.
+FIELDS = {
+    "x": "x0|x1|x2|x3|x4|x5|x6|x7", "e": "e0|e1|e2|e3|e4|e5|e6|e7", "cut": "0|16|16|32|48|20", "count": "1|4|16|32",
+    "at": "0|0|0|3|12|16|4294967295", "tag": "0|1|2|3|0|1|2|3|0|1|2|3|65535", "budget": "|| 1| 2| 4096",
+    "new": " {e}| {x}| {x}", "news": "||{new}|{new}|{new}{new}|{new}{new}{new}|" + 8 * "{new}", "any": "{x}|{e}",
+    "names": "|".join([" {end}"] * 3 + [count * " {data}" for count in (0, 1, 1, 1, 2, 3, 4, 8, 9, 16)]),
+}
 
 
 class Maker:
@@ -26,7 +31,7 @@ class Maker:
         is_few = self.count < 7
         self.waits, self.ends = self.count > 1 and below(1), below(3)
         self.processes = [f"p{at}" for at in range(self.count)]
-        contracts = [f"k{at}" for at in range(pick([0, 0, 1, 3]))]
+        self.contracts = [f"k{at}" for at in range(pick([0, 0, 1, 3]))]
         self.options = {
             "--flight": None,
             "--arenas": pick([1, 1, 2, 8]),
@@ -36,37 +41,27 @@ class Maker:
             "--wear": pick([9_223_372_036_854_775_807] * 6 + [0, 64, 1000]),
         }
         self.by, self.heap, self.lines = "p0", soak_machine.Heap(self.options), []
-        new = lambda is_end: f"{'e' if is_end else 'x'}{below(7)}"
-        sizes = [0, 1, 15, 16, 17, 40, 64, 100, self.options["--bytes"], TOP]
         self.fields = {
-            "x": lambda: new(False),
-            "e": lambda: new(True),
-            "data": lambda: self.bound(False) or new(below(1)),
-            "end": lambda: self.bound(True) or new(below(1)),
+            "data": lambda: self.bound(False) or "{any}",
+            "end": lambda: self.bound(True) or "{any}",
             "process": self.process,
-            "arena": lambda: below(self.options["--arenas"] - 1) if below(20) else pick([8, TOP]),
-            "size": lambda: pick(sizes) if below(2) else 16,
-            "cut": lambda: pick([0, 16, 16, 32, 48, 20]),
-            "at": lambda: pick([0, 0, 0, 3, 12, 16, TOP]),
-            "count": lambda: pick([1, 4, 16, 32]),
+            "arena": lambda: below(self.options["--arenas"] - 1) if below(20) else pick([8, 4_294_967_295]),
+            "size": lambda: pick([16] * 6 + [0, 1, 15, 17, 40, 64, 100, self.options["--bytes"], 4_294_967_295]),
             "bytes": lambda: chance.randbytes(pick([1, 4, 32])).hex(),
-            "under": lambda: f" {pick(contracts)}" if contracts and below(1) else "",
-            "tag": lambda: below(3) if below(9) else 65_535,
-            "names": lambda: " {end}" if not below(3) else " {data}" * pick([0, 1, 1, 1, 2, 3, 4, 8, 9, 16]),
-            "news": lambda: "".join(pick([" {e}", " {x}", " {x}"]) for _ in range(pick([0, 1, 1, 2, 3, 8]))),
-            "budget": lambda: pick(["", "", " 1", " 2", " 4096"]),
-            "rows": lambda: "".join(self.rows(state, below(1)) for state in range(below(3) + 1)),
+            "under": lambda: f" {pick(self.contracts)}" if self.contracts and below(1) else "",
+            "rows": lambda: "".join(map(self.rows, range(below(3) + 1))),
         }
-        self.heads = [f"contract {name}{{rows}}" for name in contracts]
 
-    def rows(self, state, side):
+    def rows(self, state):
+        side = self.below(1)
         tags = (tag for tag in range(4) if tag == state or not self.below(2))
         return "".join(f" {state}:{tag}:{side}:{self.below(3)}" for tag in tags)
 
     def fill(self, line):
         """Fields within a field are filled in turn."""
-        while "{" in line:
-            line = re.sub(r"{(\w+)}", lambda it: str(self.fields[it[1]]()), line)
+        while at := re.search(r"{(\w+)}", line):
+            found = self.fields[at[1]]() if at[1] in self.fields else self.pick(FIELDS[at[1]].split("|"))
+            line = f"{line[: at.start()]}{found}{line[at.end() :]}"
         return line
 
     def process(self):
@@ -92,15 +87,14 @@ class Maker:
 
     def add(self, line, is_any=True):
         """A line is added that the heap does, or any; most others are passed over."""
-        verb, by, words, sorts = soak_reader.split_line(line.encode())
-        said = self.heap.step(by, verb, [soak_reader.value_of(sort, word) for sort, word in zip(sorts, words)])
+        said = self.heap.step(*soak_reader.command_of(line.encode())[:3])
         if is_any or said.startswith("ok") or not self.below(5):
             self.lines.append(line)
 
-    def add_all(self):
+    def script(self):
         named = self.processes + ["p0"] * self.below(1) + [f"q{at}" for at in range(self.pick([0] * 18 + [1, 40]))]
-        for line in [self.fill(it) for it in self.heads] + [f"process {name}" for name in named]:
-            self.add(line)
+        for line in [f"contract {name}{{rows}}" for name in self.contracts] + [f"process {name}" for name in named]:
+            self.add(self.fill(line))
         for _ in range(self.below(3 * self.count)):
             self.add(self.fill("wire {process} {e} {process} {e} {arena}{under}"), False)
         for _ in range(self.pick([20, 60, 200, 600, 2000] if self.count < 7 else [2000, 8000])):
@@ -111,11 +105,10 @@ class Maker:
         endings = [f"p0 kill {name}" for name in self.processes[1:] if self.waits]
         for line in endings + [f"{name} exit" for name in named if self.ends]:
             self.add(line)
+        return "\n".join(["# A comment, and an empty line.", "", *self.lines]) + "\n" * self.below(1)
 
 
 def make(seed):
     """The script and its options."""
     maker = Maker(seed)
-    maker.add_all()
-    text = "\n".join(["# A comment, and an empty line.", "", *maker.lines]) + "\n" * maker.below(1)
-    return text.encode(), maker.options
+    return maker.script().encode(), maker.options
