@@ -1,9 +1,8 @@
-"""How a program is run and how its answer is judged: by the gate, by ./soak and by tools/test_answers. A judge
-returns where all is right, and raises Wrong where it is not; tools/test_gate tries them on wrong programs."""
+"""How a program is run and how its answer is judged, by the gate and by ./soak. A judge returns where all is right, and
+raises Wrong where it is not; tools/test_gate tries them on wrong programs."""
 import collections
 import difflib
 import fnmatch
-import itertools
 import os
 import pathlib
 import re
@@ -38,15 +37,12 @@ def build_refuser():
     subprocess.run(["cc", "-O2", "-shared", "-fPIC", "-o", REFUSER, source, "-ldl"], check=True)
 
 
-def run(words, text=b"", limit=60, **refused):
-    """Runs a program, for so many seconds at most, and with what tools/refuse_growth.c is told to refuse."""
+def run(words, text=b"", **refused):
+    """Runs a program, with what tools/refuse_growth.c is told to refuse; for so long that one that still runs hangs."""
     with tempfile.NamedTemporaryFile(dir=ROOM.name) as told:
         env = {f"REFUSE_{name.upper()}": str(value) for name, value in refused.items() if value is not None}
         env |= {"LD_PRELOAD": REFUSER, "REFUSE_TOLD": told.name} if env else {}
-        try:
-            ran = subprocess.run(words, input=text, capture_output=True, env={**os.environ, **env}, timeout=limit)
-        except subprocess.TimeoutExpired:
-            raise Wrong(f"it did not end within {limit} seconds") from None
+        ran = subprocess.run(words, input=text, capture_output=True, env={**os.environ, **env}, timeout=600)
         return Answer(ran.returncode, ran.stdout, ran.stderr, told.read() != b"")
 
 
@@ -54,7 +50,7 @@ def claim_same(answer, wanted):
     """The answer is this status, output and text of errors."""
     texts = [f"{it[0]}\n{it[1].decode(errors='replace')}{it[2].decode(errors='replace')}" for it in (wanted, answer)]
     lines = difflib.unified_diff(*map(str.splitlines, texts), "wanted", "answered", n=0, lineterm="")
-    claim(answer[:3] == wanted, "\n".join(itertools.islice(lines, 20)))
+    claim(answer[:3] == wanted, "\n".join([*lines][:20]))
 
 
 def written(script):
@@ -82,22 +78,12 @@ def is_drawn(program, script, *words):
     xml.dom.minidom.parseString(answer.out)
 
 
-def is_answer(answer, status, printed, reported):
-    """It ended so, and has printed and reported these lines, in which a * is any text."""
+def ends(program, source, to, status, printed, reported, *words):
+    """Run on these two files it ends so, and has printed and reported these lines, in which a * is any text."""
+    answer = run(["bash", "-c", 'exec "${@:3}" <"$1" >"$2"', "-", source, to, program, *words])
     for found, wanted in ((answer.out, printed), (answer.err, reported)):
         claim(fnmatch.fnmatchcase(found.decode(), wanted and wanted + "\n"), str(answer))
     claim(answer.status == int(status), str(answer))
-
-
-def answers(program, status, printed, reported, words, lines):
-    """Run on a script of these lines, of which the last has no line feed."""
-    is_answer(run([program, *words], "\n".join(lines).encode()), status, printed, reported)
-
-
-def ends(program, source, to, status, printed, reported, *words):
-    """Run on these two files."""
-    answer = run(["bash", "-c", 'exec "${@:3}" <"$1" >"$2"', "-", source, to, program, *words])
-    is_answer(answer, status, printed, reported)
 
 
 def each_growth(words, text=b"", **refused):
@@ -134,9 +120,8 @@ def refused_line(words, text, answer):
 def program_stands_each_growth(program, script, *words):
     """With each growth of each thread refused in turn; there is none but the first, and one a process. A run to which
     one was refused ends with status 3, or gets by without it and is whole, as where a list asks for less; but most
-    end. So it is of a script with a fault: memory ends the run until the fault is found. Beside the script stands
-    .growths: the lines of the commands that take memory of their own, one growth each. On threads each of these says
-    once that it was refused memory, and no other does. On one thread each ends the run, and so does what is read."""
+    end. Beside the script stands .growths: the lines of the commands that take memory of their own, one growth each.
+    On threads each of these says once that it was refused memory, and no other does; on one each ends the run."""
     words, text, wanted, ended, whole, lines = [program, *words], script.read_bytes(), written(script), 0, 0, []
     for thread in range(1 + len(re.findall(rb"^process ", text, re.M))):
         *refused, last = each_growth(words, text, thread=thread)
@@ -156,8 +141,7 @@ def program_stands_each_growth(program, script, *words):
 
 
 def growth_tests(file, *programs):
-    """The tests on refused growths of these programs, by their names, stand in the list, behind the program, and no
-    others do."""
+    """The list has the tests of these programs that have such a name, each behind its program, and no others."""
     listed = sorted(f"{program} {test}" for program, *tests in map(str.split, lines_of(file)) for test in tests)
     name = re.compile(r"^(.*(?:growth|without_memory).*): test$", re.M)
     there = sorted(f"{it.name} {test}" for it in programs for test in name.findall(run([it, "--list"]).out.decode()))

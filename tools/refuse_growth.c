@@ -16,12 +16,10 @@
 void *__libc_malloc(size_t);
 void *__libc_realloc(void *, size_t);
 
-// The growths so far, of the thread where there is one, and the numbers of those that are refused.
-static atomic_long count;
-static long first = LONG_MAX, last;
-// The thread whose growths they are, or -1 for all threads; how many were made; and this one.
-static long thread = -1;
-static atomic_long made;
+// The growths so far, and the threads that were made; the numbers of the growths that are refused; the thread whose
+// growths they are, or -1 for all; and this one.
+static atomic_long count, made;
+static long first = LONG_MAX, last, thread = -1;
 static _Thread_local __attribute__((tls_model("initial-exec"))) long own;
 
 // What a thread begins with.

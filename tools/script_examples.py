@@ -1,7 +1,6 @@
 """The examples of docs/SCRIPT.md as they stand there: of each the status, the output and the errors that the document
-says it has, in which a * is any text, and its options and its script (judging.answers). An example is an indented
-block, or a cell of the last column of the tables of limits, refusals and faults; one that is of no known form is
-refused."""
+says it has (judging.ends), its options, and its lines. An example is an indented block, or a cell of the last column of
+the tables of limits, refusals and faults; one that is of no known form is refused."""
 import re
 
 from judging import TOP, claim
@@ -20,8 +19,6 @@ def lines_of_part(text):
         return [many[2]] * int(many[1].replace(",", ""))
     if each := re.fullmatch(r"`([^`]*?)(\d+)( [^`]*|)` to `\1(\d+)\3`", text):
         return [f"{each[1]}{at}{each[3]}" for at in range(int(each[2]), int(each[4]) + 1)]
-    if tab := re.fullmatch(r"`([^`]*)` and a tab", text):
-        return [f"{tab[1]}\t"]
     pieces = [re.fullmatch(r"`([^`]*)`(?: × ([\d,]+))?", part) for part in text.split(" + ")]
     claim(all(pieces), f"an example of no known form: {text}")
     return ["".join(it[1] * int((it[2] or "1").replace(",", "")) for it in pieces)]

@@ -44,10 +44,6 @@ def size_of(blocks):
     return sum(len(it.data) for it in blocks)
 
 
-def blocks_to(channel, side):
-    return [it for _, blocks in channel.waiting[side] for it in blocks]
-
-
 class Heap:
     """`said`: in a run on threads the words that a command was answered with; they decide what others have a part in.
     Then `mortal` are the names of processes that ended at some time, and `victims` of those that were killed;
@@ -236,8 +232,8 @@ class Heap:
             budget -= 1
             if block.channel:
                 block.channel.is_open[block.side] = False
-                blocks += blocks_to(block.channel, block.side)
-                block.channel.waiting[block.side].clear()
+                while waiting := block.channel.waiting[block.side]:
+                    blocks += waiting.pop(0)[1]
             count += self.give_back(block)
         need(self.said or not blocks, "Unfinished", len(blocks))
         claim(count >= least and count % 16 == 0, f"so many bytes come back: {count}")
@@ -291,7 +287,8 @@ class Heap:
 
     def ways(self):
         """The blocks in flight in each direction."""
-        return {(channel, side): blocks_to(channel, side) for channel in self.channels for side in (0, 1)}
+        ways = ((channel, side, loads) for channel in self.channels for side, loads in enumerate(channel.waiting))
+        return {(channel, side): [it for _, blocks in loads for it in blocks] for channel, side, loads in ways}
 
     def ledger(self):
         for at, it in enumerate(self.arenas):

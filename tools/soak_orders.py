@@ -14,8 +14,7 @@ STEPS = 4000
 WORKING = """alloc {x} {size} 0|alloc {x} {size} 0|alloc {x} {size} 0|split {x} 16 {x}|read {x} 0 4
 write {x} 1 0{digit}|give {e} {digit} {x}|give {e} {digit} {x}|give {e} 9 {x} {x}|give {e} 10 {e}|take {e} {x}
 take {e} {x}|take {e} {x} {x}|free {x}|free {x}|glance {me}"""
-# Where processes and channels end a give carries at most one block, and only the first process kills, which doesn't
-# end.
+# Where something ends a give carries at most one block, and only the first process kills, which doesn't end.
 ENDING = """alloc {x} {size} 0|alloc {x} {size} 0|alloc {x} {size} 0|give {e} {digit} {x}|give {e} {digit} {x}
 give {e} {digit} {x}|give {e} 10|take {e} {x}|take {e} {x}|free {x}|glance {me}|close {e}|close {e}|{end}|{end} 1
 {again}"""
@@ -23,16 +22,9 @@ CARRYING = """alloc {x} 16 7|give {e} 65535 u v w x y|give {e} 40000 y x w v u z
 give {e} {digit} {x}|take {e} u v w x y z s t|take {e} s t u v w x y z|free {x}"""
 EIGHT = "alloc u 16 7|alloc v 512 6|alloc w 16 7|alloc x 48 5|alloc y 16 7|alloc z 16 0|alloc s 32 7|alloc t 16 1"
 PAIR, RING, STAR = ["a e b f"], ["a e b f", "b g c h", "c i a j"], ["a e b f", "a g c h"]
-# Arenas, their bytes and the depth; the wires; the commands that each process begins with, and those that it has at
-# random.
-SETTINGS = [
-    ((1, 144, 1), PAIR, "", WORKING),
-    ((1, 256, 1), RING, "", WORKING),
-    ((8, 1024, 16), PAIR, EIGHT, CARRYING),
-    ((1, 4096, 2), PAIR, "", ENDING),
-    ((1, 4096, 2), STAR, "", ENDING),
-    ((8, 1024, 16), STAR, "", ENDING),
-]
+# Arenas, their bytes and the depth; the wires; what each process begins with, and the commands that it has at random.
+SETTINGS = [((1, 144, 1), PAIR, "", WORKING), ((1, 256, 1), RING, "", WORKING), ((8, 1024, 16), PAIR, EIGHT, CARRYING),
+            ((1, 4096, 2), PAIR, "", ENDING), ((1, 4096, 2), STAR, "", ENDING), ((8, 1024, 16), STAR, "", ENDING)]
 
 
 def make(seed):

@@ -74,8 +74,7 @@ def declare(verb, by, values, sorts, names, contracts):
 
 
 def read(text):
-    """The commands, and None; or None, and the line and the kind of its fault. A command is its line's number, its
-    process, its verb and its words."""
+    """The commands, each a line, process, verb and words, and None; or None, and the line and the kind of its fault."""
     commands, names, contracts = [], {None: set()}, set()
     if len(text) > 1_048_576:
         return None, (0, "TooLong")

@@ -33,11 +33,9 @@ class Maker:
         self.processes = [f"p{at}" for at in range(self.count)]
         self.contracts = [f"k{at}" for at in range(pick([0, 0, 1, 3]))]
         self.options = {
-            "--flight": None,
-            "--arenas": pick([1, 1, 2, 8]),
+            "--flight": None, "--arenas": pick([1, 1, 2, 8]), "--depth": pick([1, 2, 4, 16]),
             "--bytes": 16 * pick([1, 4, 9, 16, 40, 256, 4096, 65_536] if is_few else [40, 256, 4096, 65_536]),
             "--records": pick([1, 3, 8, 32, 256, 256] if is_few else [32, 256]),
-            "--depth": pick([1, 2, 4, 16]),
             "--wear": pick([9_223_372_036_854_775_807] * 6 + [0, 64, 1000]),
         }
         self.by, self.heap, self.lines = "p0", soak_machine.Heap(self.options), []
