@@ -330,14 +330,15 @@ def follow(commands, options, lines, may_starve):
 
 def follow_one(heap, by, own):
     """Follows a process until a message isn't given yet; how far it came on."""
-    for done, (verb, values, said) in enumerate([*own]):
+    count = len(own)
+    for verb, values, said in [*own]:
         try:
             wanted = heap.step(by, verb, values, said)
         except Later:
-            return done
+            break
         claim(wanted == " ".join(said), f"wanted {wanted} of {by} {verb} {values}: {said}")
         del own[0]
-    return 0
+    return count - len(own)
 
 
 def judge_ledger(heap, rows):
