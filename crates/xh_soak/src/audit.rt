@@ -1,6 +1,6 @@
 //! What is left at the end of a round, by calls and by the ledger.
 use crate::board::{Board, PROCESSES};
-use crate::caller::{Caller, Told};
+use crate::caller::{Call, Caller, Told};
 use crate::plan::Plan;
 use xh_core::{Ledger, State};
 use xh_model::limits::PLACES;
@@ -9,7 +9,7 @@ use xh_model::limits::PLACES;
 fn count<C: Caller>(caller: &mut C, board: &Board, plan: Plan, p: u16) -> Told<u64> {
     let mut held = 0u64;
     for r in 0..u16::from(plan.config.arenas) * 256 {
-        if !matches!(caller.read(p, r, 0), Err("NotOwned" | "Ended")) {
+        if !matches!(caller.call(Call::Read(p, r, 0)), Err("NotOwned" | "Ended")) {
             held = held.saturating_add(1);
             if board.owned.set(r, 1) != 0 {
                 return Err("a block is owned twice");
@@ -26,7 +26,7 @@ pub(crate) fn count_all<C: Caller>(caller: &mut C, board: &Board, plan: Plan) ->
             let counted = count(caller, board, plan, p)?;
             board.held.set(p % u16::from(PLACES), counted);
             if plan.ends {
-                let _done = caller.exit(p, 4096);
+                let _done = caller.call(Call::Exit(p, 4096));
                 board.held.set(p % u16::from(PLACES), 0);
             }
         }

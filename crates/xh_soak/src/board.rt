@@ -10,8 +10,8 @@ pub(crate) const HINTS: u16 = 64;
 /// So many numbers of processes there are.
 pub(crate) const PROCESSES: u16 = 4096;
 
-// No round gives so many messages.
-const TAGS: u16 = 65_535;
+/// No worker does so many commands, each of which has a tag.
+pub(crate) const COMMANDS: u16 = 1024;
 
 /// Words that all workers read and write, 0 at first.
 #[derive(Drop)]
@@ -62,7 +62,6 @@ pub(crate) struct Board {
     pub(crate) messages: Words,
     pub(crate) owned: Words,
     pub(crate) held: Words,
-    tags: AtomicU64,
 }
 
 impl Board {
@@ -74,15 +73,9 @@ impl Board {
             aimed_at: Words::new(alloc, PROCESSES)?,
             blocks: Words::new(alloc, HINTS)?,
             ends: Words::new(alloc, HINTS)?,
-            messages: Words::new(alloc, TAGS)?,
+            messages: Words::new(alloc, 16 * COMMANDS)?,
             owned: Words::new(alloc, 2048)?,
             held: Words::new(alloc, u16::from(PLACES))?,
-            tags: AtomicU64::new(0),
         })
-    }
-
-    /// A tag that no other message has.
-    pub(crate) fn new_tag(&self) -> u16 {
-        (self.tags.fetch_add(1, SeqCst) % u64::from(TAGS)) as u16
     }
 }

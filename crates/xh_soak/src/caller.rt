@@ -1,151 +1,112 @@
 //! The calls of a worker. Only `Hired` names the kernel: so the proofs of all that the workers do see none.
-use std::alloc::{AllocError, Global};
+use crate::caller::Answer::{Blocks, Message, Number};
+use std::alloc::Global;
 use std::sync::Wait;
 use std::time::{Clock, Instant};
 use xh_core::{Block, Refused};
-use xh_kernel::{Account, Answered, Kernel, Names, OpenGate, Taken};
+use xh_kernel::{Account, Kernel, Names, OpenGate, Taken};
 
-/// What a call answered, or the name of its refusal.
-pub(crate) type Told<T> = Result<T, &'static str>;
+/// The name of a refusal, or what was wrong.
+pub(crate) type Name = &'static str;
+
+/// What was answered.
+pub(crate) type Told<T> = Result<T, Name>;
+
+/// A call; but for a spawn its process stands first. A read and a write are of eight bytes; a take is at once, or until a
+/// time.
+#[derive(Clone, Copy)]
+pub(crate) enum Call<'a> {
+    Spawn,
+    Wire(u16, u16, u32),
+    Alloc(u16, u32, u32),
+    Split(u16, u16, u32),
+    Read(u16, u16, u32),
+    Write(u16, u16, u32, u64),
+    Free(u16, u16),
+    Give(u16, u16, u16, &'a [u16]),
+    Take(u16, u16, Option<Instant>),
+    TakeAny(u16, &'a [u16], Option<Instant>),
+    Close(u16, u16),
+    Exit(u16, u16),
+    Kill(u16, u16, u16),
+}
+
+/// A process, how many bytes, or the eight bytes that stand there now; the blocks, of an alloc twice the same; a message.
+#[derive(Drop)]
+pub(crate) enum Answer {
+    Number(u64),
+    Blocks(Block, Block),
+    Message(Taken),
+}
 
 /// A worker, by its calls, which answer what the kernel does.
 pub(crate) trait Caller: Drop {
-    fn spawn(&mut self) -> Told<u16>;
-
-    fn wire(&mut self, p: u16, q: u16, arena: u32) -> Told<(Block, Block)>;
-
-    fn alloc(&mut self, p: u16, bytes: u32, arena: u32) -> Told<Block>;
-
-    fn split(&mut self, p: u16, r: u16, at: u32) -> Told<(Block, Block)>;
-    /// Eight bytes.
-    fn read(&mut self, p: u16, r: u16, at: u32) -> Told<u64>;
-
-    fn write(&mut self, p: u16, r: u16, at: u32, bytes: &[u8]) -> Told<()>;
-
-    fn free(&mut self, p: u16, r: u16) -> Told<u32>;
-
-    fn give(&mut self, p: u16, e: u16, tag: u16, blocks: &[u16]) -> Told<u64>;
-    /// At once, or until a time.
-    fn take(&mut self, p: u16, e: u16, until: Option<Instant>) -> Told<Taken>;
-
-    fn take_any(&mut self, p: u16, ends: &[u16], until: Option<Instant>) -> Told<Taken>;
-
-    fn close(&mut self, p: u16, e: u16) -> Told<u64>;
-
-    fn exit(&mut self, p: u16, budget: u16) -> Told<u64>;
-
-    fn kill(&mut self, p: u16, victim: u16, budget: u16) -> Told<u64>;
+    fn call(&mut self, call: Call) -> Told<Answer>;
 }
 
 /// A worker of a kernel, whose account is lent to it.
 #[derive(Drop)]
 pub(crate) struct Hired<'a, N: Names, R> {
-    rt: &'a R,
-    alloc: Global,
-    kernel: &'a Kernel<N>,
-    account: &'a mut Account<N>,
+    pub(crate) rt: &'a R,
+    pub(crate) alloc: Global,
+    pub(crate) kernel: &'a Kernel<N>,
+    pub(crate) account: &'a mut Account<N>,
 }
 
-fn told<T>(answer: Result<T, Refused>) -> Told<T> {
-    match answer {
-        Ok(it) => Ok(it),
-        Err(refused) => Err(refused.name()),
+impl<'a, N: Names, R: Wait + Clock> Hired<'a, N, R> {
+    fn ask(&mut self, call: Call) -> Result<Answer, Refused> {
+        let (kernel, rt, to, gate) = (self.kernel, self.rt, &mut *self.account, &OpenGate);
+        Ok(match call {
+            Call::Spawn => Number(u64::from(kernel.spawn(rt, to, gate)?)),
+            Call::Wire(p, q, arena) => {
+                let (low, high) = kernel.wire(rt, p, q, arena, to, gate)?;
+                Blocks(low, high)
+            }
+            Call::Alloc(p, bytes, arena) => {
+                let block = kernel.alloc(rt, self.alloc, p, bytes, arena, to, gate)?;
+                Blocks(block, block)
+            }
+            Call::Split(p, r, at) => {
+                let (head, tail) = kernel.split(rt, self.alloc, p, r, at, to, gate)?;
+                Blocks(head, tail)
+            }
+            Call::Read(p, r, at) => {
+                let mut word = [0u8; 8];
+                kernel.read(rt, p, r, at, &mut word, to, gate)?;
+                Number(u64::from_le_bytes(word))
+            }
+            Call::Write(p, r, at, word) => {
+                kernel.write(rt, p, r, at, &word.to_le_bytes(), to, gate)?;
+                Number(word)
+            }
+            Call::Free(p, r) => Number(u64::from(kernel.free(rt, p, r, to, gate)?)),
+            Call::Give(p, e, tag, load) => Number(kernel.give(rt, p, e, tag, load, to, gate)?),
+            Call::Take(p, e, None) => Message(kernel.take(rt, p, e, to, gate)?),
+            Call::Take(p, e, Some(time)) => {
+                Message(kernel.take_wait_until(rt, p, e, time, to, gate)?)
+            }
+            Call::TakeAny(p, ends, None) => {
+                Message(kernel.take_any(rt, p, ends, to, gate)?.answer?)
+            }
+            Call::TakeAny(p, ends, Some(time)) => {
+                Message(
+                    kernel
+                        .take_any_wait_until(rt, p, ends, time, to, gate)?
+                        .answer?,
+                )
+            }
+            Call::Close(p, e) => Number(kernel.close(rt, p, e, to, gate)?),
+            Call::Exit(p, budget) => Number(kernel.exit(rt, p, budget, to, gate)?),
+            Call::Kill(p, q, budget) => Number(kernel.kill(rt, p, q, budget, to, gate)?),
+        })
     }
 }
 
 impl<'a, N: Names, R: Wait + Clock> Caller for Hired<'a, N, R> {
-    fn spawn(&mut self) -> Told<u16> {
-        let (kernel, rt) = (self.kernel, self.rt);
-        told(kernel.spawn(rt, self.account, &OpenGate))
-    }
-
-    fn wire(&mut self, p: u16, q: u16, arena: u32) -> Told<(Block, Block)> {
-        let (kernel, rt) = (self.kernel, self.rt);
-        told(kernel.wire(rt, p, q, arena, self.account, &OpenGate))
-    }
-
-    fn alloc(&mut self, p: u16, bytes: u32, arena: u32) -> Told<Block> {
-        let (kernel, rt) = (self.kernel, self.rt);
-        told(kernel.alloc(rt, self.alloc, p, bytes, arena, self.account, &OpenGate))
-    }
-
-    fn split(&mut self, p: u16, r: u16, at: u32) -> Told<(Block, Block)> {
-        let (kernel, rt) = (self.kernel, self.rt);
-        told(kernel.split(rt, self.alloc, p, r, at, self.account, &OpenGate))
-    }
-
-    fn read(&mut self, p: u16, r: u16, at: u32) -> Told<u64> {
-        let (kernel, rt, mut word) = (self.kernel, self.rt, [0u8; 8]);
-        told(kernel.read(rt, p, r, at, &mut word, self.account, &OpenGate))?;
-        Ok(u64::from_le_bytes(word))
-    }
-
-    fn write(&mut self, p: u16, r: u16, at: u32, bytes: &[u8]) -> Told<()> {
-        let (kernel, rt) = (self.kernel, self.rt);
-        told(kernel.write(rt, p, r, at, bytes, self.account, &OpenGate))
-    }
-
-    fn free(&mut self, p: u16, r: u16) -> Told<u32> {
-        let (kernel, rt) = (self.kernel, self.rt);
-        told(kernel.free(rt, p, r, self.account, &OpenGate))
-    }
-
-    fn give(&mut self, p: u16, e: u16, tag: u16, blocks: &[u16]) -> Told<u64> {
-        let (kernel, rt) = (self.kernel, self.rt);
-        told(kernel.give(rt, p, e, tag, blocks, self.account, &OpenGate))
-    }
-
-    fn take(&mut self, p: u16, e: u16, until: Option<Instant>) -> Told<Taken> {
-        let (kernel, rt) = (self.kernel, self.rt);
-        told(match until {
-            None => kernel.take(rt, p, e, self.account, &OpenGate),
-            Some(time) => kernel.take_wait_until(rt, p, e, time, self.account, &OpenGate),
-        })
-    }
-
-    fn take_any(&mut self, p: u16, ends: &[u16], until: Option<Instant>) -> Told<Taken> {
-        let (kernel, rt) = (self.kernel, self.rt);
-        let found = match until {
-            None => kernel.take_any(rt, p, ends, self.account, &OpenGate),
-            Some(time) => kernel.take_any_wait_until(rt, p, ends, time, self.account, &OpenGate),
-        };
-        match found {
-            Ok(Answered { at: _, answer }) => told(answer),
+    fn call(&mut self, call: Call) -> Told<Answer> {
+        match self.ask(call) {
+            Ok(answer) => Ok(answer),
             Err(refused) => Err(refused.name()),
         }
     }
-
-    fn close(&mut self, p: u16, e: u16) -> Told<u64> {
-        let (kernel, rt) = (self.kernel, self.rt);
-        told(kernel.close(rt, p, e, self.account, &OpenGate))
-    }
-
-    fn exit(&mut self, p: u16, budget: u16) -> Told<u64> {
-        let (kernel, rt) = (self.kernel, self.rt);
-        told(kernel.exit(rt, p, budget, self.account, &OpenGate))
-    }
-
-    fn kill(&mut self, p: u16, victim: u16, budget: u16) -> Told<u64> {
-        let (kernel, rt) = (self.kernel, self.rt);
-        told(kernel.kill(rt, p, victim, budget, self.account, &OpenGate))
-    }
-}
-
-/// A caller for each account.
-pub(crate) fn hire<'a, N: Names, R>(
-    rt: &'a R,
-    alloc: Global,
-    kernel: &'a Kernel<N>,
-    accounts: &'a mut [Account<N>],
-) -> Result<Vec<Hired<'a, N, R>>, AllocError> {
-    let mut callers = Vec::with_capacity(alloc, accounts.len())?;
-    for account in accounts {
-        callers.push(Hired {
-            rt,
-            alloc,
-            kernel,
-            account,
-        })?;
-    }
-    Ok(callers)
 }

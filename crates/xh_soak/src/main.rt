@@ -31,11 +31,7 @@ use std::{env, io};
 fn read_words(words: &[String]) -> Option<(u64, u64, bool)> {
     let seed = words.get(1)?.parse::<u64>().ok()?;
     let rounds = words.get(2)?.parse::<u64>().ok()?;
-    match words.get(3) {
-        None => Some((seed, rounds, false)),
-        Some(word) if word.as_str() == "scarce" => Some((seed, rounds, true)),
-        Some(_) => None,
-    }
+    Some((seed, rounds, words.get(3).is_some()))
 }
 
 // Plays the round of a plan, and tells it: how many messages were taken.
@@ -55,10 +51,9 @@ fn play<R: Threads + Wait + Clock + Print + Sync>(rt: &R, alloc: Global, plan: P
         ),
         Err(refused) => return Err(refused.name()),
     };
-    if told.is_ok() {
-        Ok(taken)
-    } else {
-        Err("it can't be written")
+    match told {
+        Ok(()) => Ok(taken),
+        Err(_error) => Err("it can't be written"),
     }
 }
 

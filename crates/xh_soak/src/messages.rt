@@ -1,6 +1,7 @@
 //! What a worker does with endpoints, and how processes end.
 use crate::board::{HINTS, Words};
-use crate::caller::Caller;
+use crate::caller::Answer::{Blocks, Message, Number};
+use crate::caller::{Call, Caller};
 use crate::worker::Worker;
 use arrayvec::ArrayVec;
 use std::time::{Clock, Duration, Instant};
@@ -43,14 +44,14 @@ impl<'a, C: Caller, R: Clock> Worker<'a, C, R> {
     /// A channel between two processes of one group, or of one alone.
     pub(crate) fn wire(&mut self) {
         let (p, other) = (self.process(), self.process());
-        let is_near = self.group(p) == self.group(other);
+        let is_near = self.mark(p) == self.mark(other);
         let q = if is_near { other } else { p };
         let arena = if self.plan.ends { 0 } else { self.arena() };
-        let answer = self.caller.wire(p, q, arena);
+        let told = self.caller.call(Call::Wire(p, q, arena));
         let is_safe = self.board.aimed_at.get(p) == 0;
         let by = if is_safe { q } else { p };
         let may = ["NoChannel", "NoRecord", "NoSpace", "Worn"];
-        if let Some((low, high)) = self.judge(by, answer, &may) {
+        if let Some(Blocks(low, high)) = self.judge(by, told, &may) {
             self.meet(p, low.rec);
             self.meet(q, high.rec);
         }
@@ -68,11 +69,10 @@ impl<'a, C: Caller, R: Clock> Worker<'a, C, R> {
         if is_more && r != e && !load.contains(&r) {
             let _room = load.try_push(r);
         }
-        let tag = board.new_tag();
-        board.messages.set(tag, load.iter().fold(1, joined));
-        let answer = self.caller.give(p, e, tag, &load);
+        board.messages.set(self.tag, load.iter().fold(1, joined));
         let may = ["NotOwned", "NotEndpoint", "Full", "PeerClosed"];
-        if self.judge(p, answer, &may).is_none() {
+        let sent = self.ask(p, Call::Give(p, e, self.tag, &load), &may);
+        if sent.is_none() {
             for r in &load {
                 self.meet(p, *r);
             }
@@ -85,19 +85,19 @@ impl<'a, C: Caller, R: Clock> Worker<'a, C, R> {
         let (p, e) = self.seen(&board.ends, false);
         let millis = self.chance.below(24);
         let until = after(self.rt, millis).filter(|_| millis < 3);
-        let answer = if self.chance.one_in(2) {
-            self.caller.take(p, e, until)
+        let mut ends = gather(&board.ends, p, e, 7, false);
+        let _room = ends.try_push(e);
+        let told = self.caller.call(if self.chance.one_in(2) {
+            Call::Take(p, e, until)
         } else {
-            let mut ends = gather(&board.ends, p, e, 7, false);
-            let _room = ends.try_push(e);
-            self.caller.take_any(p, &ends, until)
-        };
-        if let Err("Empty") = answer {
+            Call::TakeAny(p, &ends, until)
+        });
+        if let Err("Empty") = told {
             let is_past = until.is_none_or(|time| is_past(self.rt, time));
             self.claim(is_past, "Empty before its time");
         }
         let may = ["NotOwned", "NotEndpoint", "PeerClosed", "Empty"];
-        if let Some(message) = self.judge(p, answer, &may) {
+        if let Some(Message(message)) = self.judge(p, told, &may) {
             let mut sum = 1;
             for got in &message.blocks {
                 if let Got::Here(block) = got {
@@ -113,8 +113,7 @@ impl<'a, C: Caller, R: Clock> Worker<'a, C, R> {
 
     pub(crate) fn close(&mut self) {
         let (p, e) = self.seen(&self.board.ends, true);
-        let answer = self.caller.close(p, e);
-        if let Some(bytes) = self.judge(p, answer, &["NotOwned", "NotEndpoint"]) {
+        if let Some(Number(bytes)) = self.ask(p, Call::Close(p, e), &["NotOwned", "NotEndpoint"]) {
             self.claim(bytes >= 32, "less than its own bytes");
         }
     }
@@ -125,11 +124,11 @@ impl<'a, C: Caller, R: Clock> Worker<'a, C, R> {
         self.board.aimed_at.set(p, 1);
         let budget = if self.chance.one_in(2) { 2 } else { 4096 };
         let may = if budget == 2 { "Unfinished" } else { "" };
-        let answer = if self.chance.one_in(3) {
-            self.caller.exit(p, budget)
+        let call = if self.chance.one_in(3) {
+            Call::Exit(p, budget)
         } else {
-            self.caller.kill(by, p, budget)
+            Call::Kill(by, p, budget)
         };
-        let _bytes = self.judge(p, answer, &[may]);
+        let _bytes = self.ask(p, call, &[may]);
     }
 }

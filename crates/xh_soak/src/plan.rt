@@ -35,7 +35,7 @@ pub(crate) struct Plan {
     pub(crate) workers: u8,
     pub(crate) processes: u8,
     pub(crate) groups: u8,
-    pub(crate) commands: u32,
+    pub(crate) commands: u16,
     pub(crate) ends: bool,
     pub(crate) scarce: bool,
 }
@@ -69,7 +69,7 @@ impl Plan {
             workers: workers as u8,
             processes: (chance.below(workers) + 1) as u8,
             groups: 1 << chance.below(4),
-            commands: chance.below(600) + 200,
+            commands: (chance.below(600) + 200) as u16,
             ends: config.arenas > 1 && chance.one_in(2),
             scarce,
         }

@@ -4,8 +4,8 @@ ghost use Rattle.xh_kernel.specs.Histories.{IsLaw};
 
 use crate::audit::{count_all, judge};
 use crate::board::Board;
-use crate::caller::{Caller, Told, hire};
-use crate::plan::{Chance, Plan};
+use crate::caller::{Caller, Hired, Told};
+use crate::plan::Plan;
 use crate::worker::Worker;
 use std::alloc::{AllocError, Global};
 use std::marker::Brand;
@@ -15,34 +15,6 @@ use std::time::Clock;
 use xh_books::{Books, close_kernel};
 use xh_core::Refused;
 use xh_kernel::{Account, Kernel, Names, Parts};
-
-// A worker for each caller.
-fn employ<'a, C: Caller, R>(
-    rt: &'a R,
-    alloc: Global,
-    plan: Plan,
-    board: &'a Board,
-    callers: Vec<C>,
-) -> Result<Vec<Worker<'a, C, R>>, AllocError> {
-    let mut workers = Vec::with_capacity(alloc, callers.len())?;
-    let mut number = 0u16;
-    for caller in callers {
-        let seed = plan.seed.wrapping_mul(1024);
-        workers.push(Worker {
-            rt,
-            board,
-            caller,
-            plan,
-            number,
-            chance: Chance(seed.wrapping_add(u64::from(number))),
-            is_known: true,
-            taken: 0,
-            wrong: None,
-        })?;
-        number = number.saturating_add(1);
-    }
-    Ok(workers)
-}
 
 // The workers work, each in a thread of its own. How many messages they took.
 fn work_all<C: Caller + Send, R: Threads + Clock + Sync>(
@@ -64,18 +36,26 @@ fn work_all<C: Caller + Send, R: Threads + Clock + Sync>(
     Ok(taken)
 }
 
-// A round on a kernel, with a worker for each account.
-fn play_on<N: Names + Send + Sync, R: Threads + Wait + Clock + Sync>(
-    rt: &R,
+// A worker for each account.
+fn hire<'a, N: Names, R: Wait + Clock>(
+    rt: &'a R,
     alloc: Global,
     plan: Plan,
-    board: &Board,
-    kernel: &Kernel<N>,
-    accounts: &mut [Account<N>],
-) -> Result<Told<u64>, AllocError> {
-    let callers = hire(rt, alloc, kernel, accounts)?;
-    let mut workers = employ(rt, alloc, plan, board, callers)?;
-    Ok(work_all(rt, &mut workers))
+    board: &'a Board,
+    kernel: &'a Kernel<N>,
+    accounts: &'a mut [Account<N>],
+) -> Result<Vec<Worker<'a, Hired<'a, N, R>, R>>, AllocError> {
+    let mut workers = Vec::with_capacity(alloc, accounts.len())?;
+    for account in accounts {
+        let caller = Hired {
+            rt,
+            alloc,
+            kernel,
+            account,
+        };
+        workers.push(Worker::new(rt, board, plan, workers.len(), caller))?;
+    }
+    Ok(workers)
 }
 
 // A round on a kernel of the parts, and its books.
@@ -90,7 +70,10 @@ fn play_named<N: Names + Send + Sync, R: Threads + Wait + Clock + Sync>(
     requires law { IsLaw N.parts N.leads }
 {
     let (kernel, mut accounts, looks) = Kernel::<N>::new(alloc, parts)?;
-    let played = play_on(rt, alloc, plan, board, &kernel, &mut accounts);
+    let played = match hire(rt, alloc, plan, board, &kernel, &mut accounts) {
+        Ok(mut workers) => Ok(work_all(rt, &mut workers)),
+        Err(refused) => Err(refused),
+    };
     let books = close_kernel(alloc, kernel, accounts, looks);
     Ok((played?, books?))
 }

@@ -1,13 +1,14 @@
 //! A worker: random commands of any process on any record.
 ghost use Rattle.std.specs.Prelude.{◌<◌};
 
-use crate::board::{Board, HINTS, PROCESSES, Words};
-use crate::caller::{Caller, Told};
+use crate::board::{Board, COMMANDS, HINTS, PROCESSES, Words};
+use crate::caller::Answer::{self, Blocks, Number};
+use crate::caller::{Call, Caller, Name, Told};
 use crate::plan::{Chance, Plan};
 use std::time::Clock;
 use xh_model::limits::MAX_WEAR;
 
-/// A worker; how many messages it took, and the first wrong answer.
+/// A worker; the tag of what it gives next, how many messages it took, and the first wrong answer.
 #[derive(Drop)]
 pub(crate) struct Worker<'a, C, R> {
     pub(crate) rt: &'a R,
@@ -18,18 +19,37 @@ pub(crate) struct Worker<'a, C, R> {
     pub(crate) chance: Chance,
     /// Whether each process that the command names has started.
     pub(crate) is_known: bool,
+    pub(crate) tag: u16,
     pub(crate) taken: u64,
     pub(crate) wrong: Option<&'static str>,
 }
 
 impl<'a, C: Caller, R: Clock> Worker<'a, C, R> {
+    /// The worker of a number, which does the caller's calls.
+    pub(crate) fn new(rt: &'a R, board: &'a Board, plan: Plan, number: usize, caller: C) -> Self {
+        let number = (number % 16) as u16;
+        Worker {
+            rt,
+            board,
+            caller,
+            plan,
+            number,
+            chance: Chance(plan.seed.wrapping_mul(1024).wrapping_add(u64::from(number))),
+            is_known: true,
+            tag: 0,
+            taken: 0,
+            wrong: None,
+        }
+    }
+
     /// Does its commands, as long as nothing is wrong.
     pub(crate) fn work(&mut self) {
-        for _ in 0..self.plan.commands {
+        for command in 0..self.plan.commands.min(COMMANDS) {
             if self.wrong.is_some() {
                 return;
             }
             self.is_known = true;
+            self.tag = self.number.wrapping_mul(COMMANDS).wrapping_add(command);
             self.start_own();
             self.act();
         }
@@ -42,8 +62,8 @@ impl<'a, C: Caller, R: Clock> Worker<'a, C, R> {
         if runs || self.number >= u16::from(self.plan.processes) {
             return;
         }
-        let answer = self.caller.spawn();
-        if let Some(p) = self.judge(0, answer, &["NoPlace"]) {
+        if let Some(Number(p)) = self.ask(0, Call::Spawn, &["NoPlace"]) {
+            let p = (p % 65_536) as u16;
             self.board.started.set(p, 1);
             self.board.processes.see(self.number, p, 0);
         }
@@ -70,10 +90,16 @@ impl<'a, C: Caller, R: Clock> Worker<'a, C, R> {
         }
     }
 
+    /// Does a call of the process.
+    pub(crate) fn ask(&mut self, p: u16, call: Call, may: &[Name]) -> Option<Answer> {
+        let told = self.caller.call(call);
+        self.judge(p, told, may)
+    }
+
     /// What a call of the process answered. A refusal has to be one of these, or that the process doesn't run.
-    pub(crate) fn judge<T>(&mut self, p: u16, told: Told<T>, may: &[&'static str]) -> Option<T> {
+    pub(crate) fn judge(&mut self, p: u16, told: Told<Answer>, may: &[Name]) -> Option<Answer> {
         match told {
-            Ok(it) => Some(it),
+            Ok(answer) => Some(answer),
             Err(why) => {
                 let is_so = match why {
                     "Ended" => self.board.aimed_at.get(p) != 0,
@@ -134,24 +160,24 @@ impl<'a, C: Caller, R: Clock> Worker<'a, C, R> {
         }
     }
 
-    /// The group of a process, from 1 on.
-    pub(crate) fn group(&self, p: u16) -> u8 {
-        (p % u16::from(self.plan.groups.max(1))) as u8 + 1
+    /// The eight bytes that are written for the processes of its group.
+    pub(crate) fn mark(&self, p: u16) -> u64 {
+        let group = u64::from(p % u16::from(self.plan.groups.max(1))) + 1;
+        group.wrapping_mul(0x0101_0101_0101_0101)
     }
 
-    // Bytes are 0, or those that are written for processes of the same group.
     fn claim_own(&mut self, p: u16, word: u64) {
-        let is_own = word == 0 || word == u64::from_le_bytes([self.group(p); 8]);
+        let is_own = word == 0 || word == self.mark(p);
         self.claim(is_own, "bytes of another group");
     }
 
     /// Tells the others where a block or an end is, if it is there still.
     pub(crate) fn meet(&mut self, p: u16, r: u16) {
         let slot = self.chance.below(u32::from(HINTS)) as u16;
-        match self.caller.read(p, r, 0) {
+        match self.caller.call(Call::Read(p, r, 0)) {
             Err("NotData") => self.board.ends.see(slot, p, r),
-            answer => {
-                if let Some(word) = self.judge(p, answer, &["NotOwned"]) {
+            told => {
+                if let Some(Number(word)) = self.judge(p, told, &["NotOwned"]) {
                     self.claim_own(p, word);
                     self.board.blocks.see(slot, p, r);
                 }
@@ -163,9 +189,8 @@ impl<'a, C: Caller, R: Clock> Worker<'a, C, R> {
         let (p, arena) = (self.process(), self.arena());
         let most = self.plan.config.bytes >> (2 * self.chance.below(8));
         let bytes = self.chance.below(most).saturating_add(1);
-        let answer = self.caller.alloc(p, bytes, arena);
         let may = ["NoRecord", "NoSpace", "Worn", "OutOfMemory"];
-        if let Some(block) = self.judge(p, answer, &may) {
+        if let Some(Blocks(block, _)) = self.ask(p, Call::Alloc(p, bytes, arena), &may) {
             let is_whole = block.len == bytes.div_ceil(16).saturating_mul(16);
             self.claim(is_whole, "another length");
             self.meet(p, block.rec);
@@ -175,9 +200,8 @@ impl<'a, C: Caller, R: Clock> Worker<'a, C, R> {
     fn split(&mut self) {
         let (p, r) = self.seen(&self.board.blocks, false);
         let at = (self.chance.below(4) + 1) * 16;
-        let answer = self.caller.split(p, r, at);
         let may = ["NotOwned", "NotData", "BadCut", "NoRecord", "OutOfMemory"];
-        if let Some((head, tail)) = self.judge(p, answer, &may) {
+        if let Some(Blocks(head, tail)) = self.ask(p, Call::Split(p, r, at), &may) {
             let is_cut = head.rec == r && head.len == at && tail.len > 0;
             self.claim(is_cut, "another cut");
             self.meet(p, tail.rec);
@@ -186,22 +210,20 @@ impl<'a, C: Caller, R: Clock> Worker<'a, C, R> {
 
     fn read_or_write(&mut self) {
         let (p, r) = self.seen(&self.board.blocks, false);
-        let (at, bytes) = (self.chance.below(64) * 8, [self.group(p); 8]);
-        let answer = if self.chance.one_in(2) {
-            self.caller.read(p, r, at)
+        let at = self.chance.below(64) * 8;
+        let call = if self.chance.one_in(2) {
+            Call::Read(p, r, at)
         } else {
-            let written = self.caller.write(p, r, at, &bytes);
-            written.map(|()| u64::from_le_bytes(bytes))
+            Call::Write(p, r, at, self.mark(p))
         };
-        if let Some(word) = self.judge(p, answer, &["NotOwned", "NotData", "BadRange"]) {
+        if let Some(Number(word)) = self.ask(p, call, &["NotOwned", "NotData", "BadRange"]) {
             self.claim_own(p, word);
         }
     }
 
     fn free(&mut self) {
         let (p, r) = self.seen(&self.board.blocks, true);
-        let answer = self.caller.free(p, r);
-        if let Some(bytes) = self.judge(p, answer, &["NotOwned", "NotData"]) {
+        if let Some(Number(bytes)) = self.ask(p, Call::Free(p, r), &["NotOwned", "NotData"]) {
             self.claim(bytes > 0 && bytes % 16 == 0, "no whole units");
         }
     }
