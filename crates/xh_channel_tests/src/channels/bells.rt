@@ -1,5 +1,5 @@
 //! Threads that wait at the bells of places, what rings them, and waits until a deadline.
-use super::calls::Call::{self, Put, Ring, Rouse, Shut};
+use super::calls::Call::{self, Put, Ring, Rouse, Shut, Take};
 use super::calls::{Ends, assert_same, by_end};
 use super::opening::FREE;
 use super::scenes::{Act, Scene, play};
@@ -20,9 +20,32 @@ fn after<R: Clock>(rt: &R, millis: u64) -> Option<Instant> {
     now.checked_add(Duration::from_millis(millis))
 }
 
-// Takes the message that waits, if one does, and then does what wakes the other.
-fn wake<R: Clock + Wait>(rt: &R, channels: &Channels, end: &mut Endpoint, call: Call) {
-    let _taken = by_end(rt, channels, end, Call::Take);
+/// What a thread waits for at its end: a message, or room for one.
+#[derive(Clone, Copy, PartialEq)]
+pub(super) enum For {
+    Message,
+    Room,
+}
+
+// The place's bell as it was before it asked for room, and then put a message, if there was room for it.
+fn ask<R: Clock + Wait>(rt: &R, channels: &Channels, end: &mut Endpoint, place: u8) -> u64 {
+    let seen = channels.bell(rt, place);
+    channels.await_room(rt, end.spot(), place);
+    let _sent = by_end(rt, channels, end, Put(1, None));
+    seen
+}
+
+// Does what wakes the other, which has put a message at least where it waits for room. Else the message that waits is taken first.
+fn wake<R: Clock + Wait>(
+    rt: &R,
+    channels: &Channels,
+    end: &mut Endpoint,
+    awaited: For,
+    call: Call,
+) {
+    if awaited == For::Message {
+        let _taken = by_end(rt, channels, end, Take);
+    }
     let _done = by_end(rt, channels, end, call);
 }
 
@@ -33,15 +56,21 @@ fn alternate<R: Clock + Wait>(
     channels: &Channels,
     end: &mut Endpoint,
     round: &AtomicU64,
+    awaited: For,
     call: Call,
 ) -> u64 {
     let Some(deadline) = after(rt, 30_000) else {
         return 0;
     };
     let place = end.spot().side;
-    channels.listen(rt, end.spot(), place);
+    if awaited == For::Message {
+        channels.listen(rt, end.spot(), place);
+    }
     for _ in rt.forever() {
-        let seen = channels.bell(rt, place);
+        let seen = match awaited {
+            For::Message => channels.bell(rt, place),
+            For::Room => ask(rt, channels, end, place),
+        };
         let at = round.load(SeqCst);
         if at >= ROUNDS || after(rt, 0) >= Some(deadline) {
             return at;
@@ -51,7 +80,7 @@ fn alternate<R: Clock + Wait>(
                 hint::spin_loop();
             }
             round.store(at + 1, SeqCst);
-            wake(rt, channels, end, call);
+            wake(rt, channels, end, awaited, call);
         } else if at % 4 < 2 {
             channels.wait_at(rt, place, seen);
         } else {
@@ -61,19 +90,20 @@ fn alternate<R: Clock + Wait>(
     0
 }
 
-/// Two threads wake each other by this call, and neither sleeps through its rounds.
+/// Two threads wait each for this, and wake each other by this call; neither sleeps through its rounds.
 pub(super) fn assert_rings<R: Clock + Threads + Wait + Abort + Sync>(
     rt: &R,
     channels: &Channels,
     ends: &mut Ends,
+    awaited: For,
     call: Call,
 ) {
     let (low, high) = (&mut ends.low, &mut ends.high);
     let round = AtomicU64::new(0);
     let rounds = thread::join(
         rt,
-        || alternate(rt, channels, low, &round, call),
-        || alternate(rt, channels, high, &round, call),
+        || alternate(rt, channels, low, &round, awaited, call),
+        || alternate(rt, channels, high, &round, awaited, call),
     );
     assert_same(rt, 0, rounds, (ROUNDS, ROUNDS));
 }
@@ -114,7 +144,16 @@ pub(super) fn assert_deadlines<R: Clock + Wait + Abort>(
 #[test]
 fn no_ring_is_slept_through(rt: HostRuntime) {
     for call in [Put(1, None), Shut, Rouse, Ring] {
-        play(&rt, rt.alloc(), 16, Scene::Each(FREE, Act::Rings(call), 1));
+        let act = Act::Rings(For::Message, call);
+        play(&rt, rt.alloc(), 16, Scene::Each(FREE, act, 1));
+    }
+}
+
+#[test]
+fn no_room_is_slept_through(rt: HostRuntime) {
+    for call in [Take, Shut, Rouse] {
+        let act = Act::Rings(For::Room, call);
+        play(&rt, rt.alloc(), 16, Scene::Each(FREE, act, 1));
     }
 }
 

@@ -1,5 +1,5 @@
 //! What is done on new channels. One function makes and drops them, and one the ends that are used.
-use super::bells::{assert_deadlines, assert_rings};
+use super::bells::{For, assert_deadlines, assert_rings};
 use super::calls::{Call, Ends, Row as Step, assert_rows};
 use super::opening::{assert_all_open, assert_goes_back, assert_own_room, opened};
 use super::threads::{assert_put_and_shut, assert_side_by_side};
@@ -12,14 +12,14 @@ use xh_channel::{Channels, Refused};
 use xh_model::Row;
 
 /// What is done at both ends of a channel that nobody else uses: rows, one after the other; rows, the ends on two threads, while
-/// a third sleeps at the turn until it has risen so often; a put that races a shut; rounds of two that wake each other so; waits
+/// a third sleeps at the turn until it has risen so often; a put that races a shut; rounds of two that wait so and wake each other so; waits
 /// until a time.
 #[derive(Clone, Copy)]
 pub(super) enum Act {
     Rows(&'static [Step]),
     SideBySide(u64, &'static [Step]),
     PutAndShut,
-    Rings(Call),
+    Rings(For, Call),
     Deadlines,
 }
 
@@ -43,7 +43,7 @@ fn act_at<R: Clock + Threads + Wait + Abort + Sync>(
         Act::Rows(rows) => assert_rows(rt, channels, ends, rows),
         Act::SideBySide(risen, rows) => assert_side_by_side(rt, channels, ends, risen, rows),
         Act::PutAndShut => assert_put_and_shut(rt, channels, ends),
-        Act::Rings(call) => assert_rings(rt, channels, ends, call),
+        Act::Rings(awaited, call) => assert_rings(rt, channels, ends, awaited, call),
         Act::Deadlines => assert_deadlines(rt, channels, ends),
     }
 }
