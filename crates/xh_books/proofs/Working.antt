@@ -1,7 +1,6 @@
 -- Each call is work of the worker.
 use Rattle.xh_books.proofs.Common.{AccountOf, Block, Call, Connects, Err, HandsOver, Leading, List, Makes, MatchResult, None, Ok, OpensBoth, Option, PLACES, PartsOf, PlaceSeen, Reaches}
 use Rattle.xh_books.proofs.Common.{Refused, Result, Row, Some, Wired, Wires, Works, arith, inl, mod-lt, place_of, refl, subst, suc, sym, zero, ℕ, ⊎_elim, ◌<◌, ◌≡◌, ◌≢◌, ◌≤◌, ◌⊎◌}
-use Rattle.xh_core.specs.declared.refused.Refused.TheVariants.{Empty}
 use Rattle.xh_kernel.specs.Waits.{AskedAll, AtLast, Repeats, SpawnsAt}
 use Rattle.xh_kernel.specs.Endings.{Exits, Kills, LooksFirst}
 use Rattle.xh_calls.specs.declared.call.Call.TheVariants as call
@@ -42,9 +41,9 @@ module _ (leads : Leading) where
   repeats p e R zero old new s = stays old new s
   repeats p e R (suc n) old new s = on old s.0 new (repeats p e R n old s.0 s.1) (does p e s.0 new s.2.0)
 
-  pub at_last : {A : Type 0} (p : ℕ) (e : Result A Refused → Call) (R : Result A Refused → PlaceSeen → PlaceSeen → Type 0) (result : Result A Refused) (old new : AccountOf)
-      → AtLast leads (place_of p) e R result old new → Reaches old new
-  at_last p e R result old new s = on old s.1 new (repeats p (e (Err Empty)) (R (Err Empty)) s.0 old s.1 s.2) (does p (e result) s.1 new s.3.0)
+  pub at_last : {A : Type 0} (p : ℕ) (e : Result A Refused → Call) (R : Result A Refused → PlaceSeen → PlaceSeen → Type 0) (vain result : Result A Refused) (old new : AccountOf)
+      → AtLast leads (place_of p) e R vain result old new → Reaches old new
+  at_last p e R vain result old new s = on old s.1 new (repeats p (e vain) (R vain) s.0 old s.1 s.2) (does p (e result) s.1 new s.3.0)
 
   -- ---- ends
 

@@ -9,6 +9,7 @@ use Rattle.xh_calls.specs.Several.{AnswersAt, TakesAny, TakesFirst, several_test
 use Rattle.xh_calls.specs.declared.several.Answered.{Answered}
 use Rattle.xh_core.specs.Refusing.{first_refusal}
 use Rattle.xh_core.specs.declared.refused.Refused.{Refused}
+use Rattle.xh_core.specs.declared.refused.Refused.TheVariants.{Empty}
 use Rattle.xh_kernel.specs.Accounts.{AccountOf}
 use Rattle.xh_kernel.specs.Calls.{Calls}
 use Rattle.xh_kernel.specs.Waits.{AtLast}
@@ -31,6 +32,6 @@ module _ (leads : Leading) (p : ℕ) (ends : List ℕ) where
   at_of old new (Err why) h = tt
   at_of old new (Ok a) h = ∥∥₁_elim h.1 le_prop (λ s. at_taken p ends s.2 s.3 a s.7)
 
-  pub at_of_last : (old new : AccountOf) (result : Result Answered Refused) → AtLast leads (place_of p) (TakeAny p ends) (λ answer from to. TakesAny p ends from to answer) result old new
+  pub at_of_last : (old new : AccountOf) (result : Result Answered Refused) → AtLast leads (place_of p) (TakeAny p ends) (λ answer from to. TakesAny p ends from to answer) (Err Empty) result old new
       → IfOk result (λ a. a.at < length ends)
   at_of_last old new result h = at_of h.1 new result h.3

@@ -165,6 +165,24 @@ impl<'a, 'k, N: Names, R: Wait + Clock> Process for Handle<'a, 'k, N, R> {
             .give(rt, p, end, tag, blocks, self.account, &OpenGate)
     }
 
+    fn give_wait(&mut self, end: u16, tag: u16, blocks: &[u16]) -> Result<u64, Refused> {
+        let (rt, p) = (self.rt, self.number);
+        self.kernel
+            .give_wait(rt, p, end, tag, blocks, self.account, &OpenGate)
+    }
+
+    fn give_wait_until(
+        &mut self,
+        end: u16,
+        tag: u16,
+        blocks: &[u16],
+        deadline: Instant,
+    ) -> Result<u64, Refused> {
+        let (rt, p) = (self.rt, self.number);
+        self.kernel
+            .give_wait_until(rt, p, end, tag, blocks, deadline, self.account, &OpenGate)
+    }
+
     fn take(&mut self, end: u16) -> Result<Taken, Refused> {
         let (rt, p) = (self.rt, self.number);
         self.kernel.take(rt, p, end, self.account, &OpenGate)

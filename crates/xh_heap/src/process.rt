@@ -1,8 +1,8 @@
 //! A process of the heap, by its handle.
-ghost use Rattle.std.specs.Prelude.{◌≡◌, ◌≢◌, ◌<◌, ℕ, [], IfErr, IfOk, None, Ok, OnErr, Some, length};
+ghost use Rattle.std.specs.Prelude.{◌≡◌, ◌≢◌, ◌<◌, ℕ, [], Err, IfErr, IfOk, None, Ok, OnErr, Some, length};
 ghost use Rattle.xh_calls.specs.declared.call.Call.TheVariants as call;
 ghost use Rattle.xh_calls.specs.Leading.{Leading};
-ghost use Rattle.xh_calls.specs.Messages.{Takes};
+ghost use Rattle.xh_calls.specs.Messages.{Gives, Takes};
 ghost use Rattle.xh_calls.specs.Parts.{PartsOf};
 ghost use Rattle.xh_calls.specs.Several.{TakesAny};
 ghost use Rattle.xh_core.specs.declared.refused.Refused.TheVariants as refused;
@@ -11,7 +11,7 @@ ghost use Rattle.xh_kernel.specs.Accounts.{AccountOf};
 ghost use Rattle.xh_kernel.specs.Endings.{Exits, Kills};
 ghost use Rattle.xh_kernel.specs.Histories.{Did};
 ghost use Rattle.xh_kernel.specs.Lends.{Lends, LendsMut};
-ghost use Rattle.xh_kernel.specs.Waits.{AtLast, SpawnsAt};
+ghost use Rattle.xh_kernel.specs.Waits.{AtLast, SpawnsAt, no_room};
 ghost use Rattle.xh_kernel.specs.Wires.{OpensBoth, Wires};
 ghost use Rattle.xh_model.specs.declared.limits.TheConstants.{MAX_BUDGET};
 ghost use Rattle.xh_model.specs.Words.{place_of};
@@ -149,6 +149,22 @@ pub trait Process: Drop {
     fn give(&mut self, end: u16, tag: u16, blocks: &[u16]) -> Result<u64, Refused>
         ensures { Acts (λ p. Did parts leads p (call.Give p end tag blocks.now result)) (handle self.old) (handle self.new) };
 
+    /// As `give`; where as many messages wait as may, it waits until the peer takes, without a lock, and gives again. It is refused
+    /// Full only with fewer blocks than were given.
+    fn give_wait(&mut self, end: u16, tag: u16, blocks: &[u16]) -> Result<u64, Refused>
+        ensures call { Acts (λ p. AtLast leads (place_of p) (call.Give p end tag blocks.now) (λ answer from to. Gives p end tag blocks.now from to answer) (no_room blocks.now) result) (handle self.old) (handle self.new) }
+        ensures waits { result ≢ no_room blocks.now };
+
+    /// As `give_wait`; once the time is past, or the clock can't be read, it is refused Full.
+    fn give_wait_until(
+        &mut self,
+        end: u16,
+        tag: u16,
+        blocks: &[u16],
+        deadline: Instant,
+    ) -> Result<u64, Refused>
+        ensures { Acts (λ p. AtLast leads (place_of p) (call.Give p end tag blocks.now) (λ answer from to. Gives p end tag blocks.now from to answer) (no_room blocks.now) result) (handle self.old) (handle self.new) };
+
     /// Takes the message that waits longest at an endpoint. Its blocks are this process's.
     ///
     /// NotOwned; NotEndpoint; where no message waits, PeerClosed where the peer is closed, and else Empty.
@@ -157,12 +173,12 @@ pub trait Process: Drop {
 
     /// As `take`; where no message waits and the peer is open, it waits, without a lock.
     fn take_wait(&mut self, end: u16) -> Result<Taken, Refused>
-        ensures call { Acts (λ p. AtLast leads (place_of p) (call.Take p end) (λ answer from to. Takes p end from to answer) result) (handle self.old) (handle self.new) }
+        ensures call { Acts (λ p. AtLast leads (place_of p) (call.Take p end) (λ answer from to. Takes p end from to answer) (Err refused.Empty) result) (handle self.old) (handle self.new) }
         ensures waits { IfErr result (λ why. why ≢ refused.Empty) };
 
     /// As `take_wait`; once the time is past, or the clock can't be read, it is refused Empty.
     fn take_wait_until(&mut self, end: u16, deadline: Instant) -> Result<Taken, Refused>
-        ensures { Acts (λ p. AtLast leads (place_of p) (call.Take p end) (λ answer from to. Takes p end from to answer) result) (handle self.old) (handle self.new) };
+        ensures { Acts (λ p. AtLast leads (place_of p) (call.Take p end) (λ answer from to. Takes p end from to answer) (Err refused.Empty) result) (handle self.old) (handle self.new) };
 
     /// Looks at up to 64 endpoints in their order, and takes at the first that has a message: its index, and what `take` answers
     /// there. Where none has one, PeerClosed at the first whose peer is closed.
@@ -175,13 +191,13 @@ pub trait Process: Drop {
     /// As `take_any`; where no message waits and no peer is closed, it waits, without a lock. It is refused Empty of no endpoints
     /// alone.
     fn take_any_wait(&mut self, ends: &[u16]) -> Result<Answered, Refused>
-        ensures call { Acts (λ p. AtLast leads (place_of p) (call.TakeAny p ends.now) (λ answer from to. TakesAny p ends.now from to answer) result) (handle self.old) (handle self.new) }
+        ensures call { Acts (λ p. AtLast leads (place_of p) (call.TakeAny p ends.now) (λ answer from to. TakesAny p ends.now from to answer) (Err refused.Empty) result) (handle self.old) (handle self.new) }
         ensures waits { IfErr result (λ why. why ≡ refused.Empty → ends.now ≡ []) }
         ensures at { IfOk result (λ a. a.at < length ends.now) };
 
     /// As `take_any_wait`; once the time is past, or the clock can't be read, it is refused Empty.
     fn take_any_wait_until(&mut self, ends: &[u16], deadline: Instant) -> Result<Answered, Refused>
-        ensures call { Acts (λ p. AtLast leads (place_of p) (call.TakeAny p ends.now) (λ answer from to. TakesAny p ends.now from to answer) result) (handle self.old) (handle self.new) }
+        ensures call { Acts (λ p. AtLast leads (place_of p) (call.TakeAny p ends.now) (λ answer from to. TakesAny p ends.now from to answer) (Err refused.Empty) result) (handle self.old) (handle self.new) }
         ensures at { IfOk result (λ a. a.at < length ends.now) };
 
     /// Closes an endpoint: it goes, and what was on its way to it. The peer may still take what was given by it. It answers the

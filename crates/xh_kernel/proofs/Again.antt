@@ -1,7 +1,12 @@
 -- Looks in vain, and the last one.
-use Rattle.xh_kernel.proofs.Common.{AccountOf, Call, Calls, Empty, Err, Leading, PlaceSeen, Repeats, Result, subst, suc, ℕ, ◌≡◌}
+use Rattle.xh_kernel.proofs.Common.{AccountOf, Call, Calls, Leading, PlaceSeen, Repeats, Result, Some, subst, suc, ℕ, ◌≡◌}
+use Rattle.std.specs.Prelude.{MatchOption, Option, ◌≢◌}
 use Rattle.xh_core.specs.declared.refused.Refused.{Refused}
 use Rattle.xh_kernel.specs.Waits.{AtLast}
+
+-- of an answer with which something goes
+pub was_vain : {A : Type 0} (answer vain : A) (seen : Option ℕ) (x : ℕ) → seen ≡ Some x → MatchOption seen (answer ≢ vain) (λ _. answer ≡ vain) → answer ≡ vain
+was_vain answer vain seen x is m = subst (λ o. MatchOption o (answer ≢ vain) (λ _. answer ≡ vain)) is m
 
 module _ (leads : Leading) (k place : ℕ) (is : k ≡ place) where
   -- one more in vain
@@ -9,7 +14,12 @@ module _ (leads : Leading) (k place : ℕ) (is : k ≡ place) where
       → (m : ℕ) × Repeats leads place e R m old new
   again n e R old mid new was now = (suc n, (mid, was, subst (λ (x : ℕ). Calls leads x e R mid new) is now))
 
+  -- the same, by its answer
+  pub in_vain : {A : Type 0} (e : Result A Refused → Call) (R : Result A Refused → PlaceSeen → PlaceSeen → Type 0) (vain answer : Result A Refused) (old mid new : AccountOf) → answer ≡ vain
+      → (n : ℕ) × Repeats leads place (e vain) (R vain) n old mid → Calls leads k (e answer) (R answer) mid new → (m : ℕ) × Repeats leads place (e vain) (R vain) m old new
+  in_vain e R vain answer old mid new same was now = again was.0 (e vain) (R vain) old mid new was.1 (subst (λ a. Calls leads k (e a) (R a) mid new) same now)
+
   -- and the one that answered
-  pub at_last : {A : Type 0} (e : Result A Refused → Call) (R : Result A Refused → PlaceSeen → PlaceSeen → Type 0) (result : Result A Refused) (old mid new : AccountOf)
-      → (n : ℕ) × Repeats leads place (e (Err Empty)) (R (Err Empty)) n old mid → Calls leads k (e result) (R result) mid new → AtLast leads place e R result old new
-  at_last e R result old mid new was now = (was.0, mid, was.1, subst (λ (x : ℕ). Calls leads x (e result) (R result) mid new) is now)
+  pub at_last : {A : Type 0} (e : Result A Refused → Call) (R : Result A Refused → PlaceSeen → PlaceSeen → Type 0) (vain result : Result A Refused) (old mid new : AccountOf)
+      → (n : ℕ) × Repeats leads place (e vain) (R vain) n old mid → Calls leads k (e result) (R result) mid new → AtLast leads place e R vain result old new
+  at_last e R vain result old mid new was now = (was.0, mid, was.1, subst (λ (x : ℕ). Calls leads x (e result) (R result) mid new) is now)

@@ -1,7 +1,7 @@
 -- Calls of which each is several entries of histories: those that ask one place after another, or look again and again.
-use Rattle.std.specs.Prelude.{◌≡◌, ℕ, zero, suc, ◌<◌, None, Some, Result, Err, MatchResult}
+use Rattle.std.specs.Prelude.{◌≡◌, ℕ, zero, suc, ◌<◌, List, None, Some, Result, Err, MatchResult}
 use Rattle.xh_core.specs.declared.refused.Refused.{Refused}
-use Rattle.xh_core.specs.declared.refused.Refused.TheVariants.{Empty}
+use Rattle.xh_core.specs.declared.refused.Refused.TheVariants.{Full}
 use Rattle.xh_calls.specs.Calls.{Spawns}
 use Rattle.xh_calls.specs.declared.call.Call.{Call}
 use Rattle.xh_calls.specs.declared.call.Call.TheVariants.{Spawn}
@@ -31,6 +31,10 @@ abbrev pub Repeats : Leading → ℕ → Call → (PlaceSeen → PlaceSeen → T
 Repeats leads k e R zero old new = new ≡ old
 Repeats leads k e R (suc n) old new = (mid : AccountOf) × Repeats leads k e R n old mid × Calls leads k e R mid new
 
--- it made the call as often as it looked in vain, and then once more, by its answer
-abbrev pub AtLast : Leading → ℕ → {A : Type 0} → (Result A Refused → Call) → (Result A Refused → PlaceSeen → PlaceSeen → Type 0) → Result A Refused → AccountOf → AccountOf → Type 0
-AtLast leads k e R result old new = (n : ℕ) × (mid : AccountOf) × Repeats leads k (e (Err Empty)) (R (Err Empty)) n old mid × Calls leads k (e result) (R result) mid new
+-- it made the call as often as it was in vain, which was answered `vain`, and then once more, by its answer
+abbrev pub AtLast : Leading → ℕ → {A : Type 0} → (Result A Refused → Call) → (Result A Refused → PlaceSeen → PlaceSeen → Type 0) → Result A Refused → Result A Refused → AccountOf → AccountOf → Type 0
+AtLast leads k e R vain result old new = (n : ℕ) × (mid : AccountOf) × Repeats leads k (e vain) (R vain) n old mid × Calls leads k (e result) (R result) mid new
+
+-- what a give in vain is answered: there is no room, and all blocks came back, in the order given
+abbrev pub no_room : List ℕ → Result ℕ Refused
+no_room given = Err (Full (record { items = given }))

@@ -24,6 +24,7 @@ mod blocks;
 mod channels;
 mod endings;
 mod messages;
+mod sending;
 mod waiting;
 
 use crate::account::Account;

@@ -8,6 +8,7 @@ mod kernel;
 mod looking;
 mod parts;
 mod scribe;
+mod sending;
 mod shared;
 mod words;
 

@@ -19,7 +19,7 @@ use xh_core::Refused;
 use xh_model::limits::PLACES;
 use xh_place::{Gate, Taken};
 
-/// Where the process of a place waits for a message: at an endpoint, or for several at the bell of its place.
+/// Where the process of a place waits: for a message at an endpoint; for one at several, or for room, at the bell of its place.
 #[derive(Drop)]
 pub(crate) enum Waits {
     Nowhere,

@@ -41,5 +41,5 @@ pub took : (parts : PartsOf) (leads : Leading) (p e : ℕ) (t : Result Taken Ref
 took parts leads p e t a old new is did = (t, is, did)
 
 pub waited : (parts : PartsOf) (leads : Leading) (p e : ℕ) (t : Result Taken Refused) (a : Result Received Refused) (old new : AccountOf) → a ≡ gotten_answer t
-    → IfErr t (λ why. why ≢ Empty) → AtLast leads (place_of p) (call.Take p e) (λ answer from to. Takes p e from to answer) t old new → Asked parts leads (Take p e true) a old new
+    → IfErr t (λ why. why ≢ Empty) → AtLast leads (place_of p) (call.Take p e) (λ answer from to. Takes p e from to answer) (Err Empty) t old new → Asked parts leads (Take p e true) a old new
 waited parts leads p e t a old new is waits did = (t, is, (λ empty. not_empty t waits (sym is ∙ empty)), did)

@@ -60,7 +60,7 @@ module _ (parts : PartsOf) (leads : Leading) where
   Asked (Give p e tag blocks) a old new = Did parts leads p (call.Give p e tag blocks a) old new
   Asked (Take p e false) a old new = (t : Result Taken Refused) × (a ≡ gotten_answer t) × Did parts leads p (call.Take p e t) old new
   Asked (Take p e true) a old new = (t : Result Taken Refused) × (a ≡ gotten_answer t) × (a ≢ Err Empty)
-      × AtLast leads (place_of p) (call.Take p e) (λ answer from to. Takes p e from to answer) t old new
+      × AtLast leads (place_of p) (call.Take p e) (λ answer from to. Takes p e from to answer) (Err Empty) t old new
   Asked (Free p r) a old new = Did parts leads p (call.Free p r a) old new
   Asked (Close p e) a old new = (bytes : ℕ) × Did parts leads p (call.Close p e bytes a) old new
   Asked (Exit p budget) a old new = Exits leads p (min budget MAX_BUDGET) old new a

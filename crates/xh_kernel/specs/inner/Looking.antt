@@ -1,11 +1,12 @@
 -- What one look for a message does, in the histories.
-use Rattle.std.specs.Prelude.{◌≡◌, ◌≢◌, ℕ, true, List, [], None, IfErr, Err}
+use Rattle.std.specs.Prelude.{◌≡◌, ◌≢◌, ℕ, true, List, [], None, Option, IfErr, MatchOption, Result, Err}
 use Rattle.xh_core.specs.Headers.{has_end}
 use Rattle.xh_core.specs.Refusing.{first_refusal}
+use Rattle.xh_core.specs.declared.refused.Refused.{Refused}
 use Rattle.xh_core.specs.declared.refused.Refused.TheVariants.{Empty}
 use Rattle.xh_calls.specs.declared.call.Call.TheVariants as call
 use Rattle.xh_calls.specs.Leading.{Leading}
-use Rattle.xh_calls.specs.Messages.{Takes}
+use Rattle.xh_calls.specs.Messages.{Gives, Takes}
 use Rattle.xh_calls.specs.Places.{start}
 use Rattle.xh_calls.specs.Several.{TakesAny}
 use Rattle.xh_place.specs.Places.{PlaceOf, found}
@@ -15,6 +16,7 @@ use Rattle.xh_kernel.specs.declared.looking.Search.{Search}
 use Rattle.xh_kernel.specs.declared.looking.Search.TheVariants as search_
 use Rattle.xh_kernel.specs.Accounts.{AccountOf}
 use Rattle.xh_kernel.specs.Calls.{Calls}
+use Rattle.xh_kernel.specs.Waits.{no_room}
 
 -- the process runs at the place, and has the endpoint
 abbrev pub CanTake : ℕ → ℕ → PlaceOf → Type 0
@@ -30,3 +32,8 @@ abbrev pub Searches : Leading → ℕ → ℕ → List ℕ → AccountOf → Acc
 Searches leads k p ends old new (search_.Done result) = Calls leads k (call.TakeAny p ends result) (λ from to. TakesAny p ends from to result) old new
     × IfErr result (λ refused. refused ≡ Empty → ends ≡ [])
 Searches leads k p ends old new (search_.Later seen) = Calls leads k (call.TakeAny p ends (Err Empty)) (λ from to. TakesAny p ends from to (Err Empty)) old new
+
+-- a give, and with one in vain goes what the bell was before it
+abbrev pub Sends : Leading → ℕ → ℕ → ℕ → ℕ → List ℕ → AccountOf → AccountOf → Result ℕ Refused → Option ℕ → Type 0
+Sends leads k p e tag given old new result seen = Calls leads k (call.Give p e tag given result) (λ from to. Gives p e tag given from to result) old new
+    × MatchOption seen (result ≢ no_room given) (λ _. result ≡ no_room given)

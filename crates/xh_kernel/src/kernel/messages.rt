@@ -1,5 +1,5 @@
 //! Messages of a process.
-ghost use Rattle.std.specs.Prelude.{◌≢◌, IfErr};
+ghost use Rattle.std.specs.Prelude.{◌≢◌, Err, IfErr};
 ghost use Rattle.xh_calls.specs.Messages.{Gives, Takes};
 ghost use Rattle.xh_core.specs.declared.refused.Refused.TheVariants as refused;
 ghost use Rattle.xh_calls.specs.declared.call.Call.TheVariants as call;
@@ -86,7 +86,7 @@ impl<N: Names> Kernel<N> {
         account: &mut Account<N>,
         gate: &G,
     ) -> Result<Taken, Refused>
-        ensures calls { AtLast N.leads (place_of p) (call.Take p e) (λ answer old new. Takes p e old new answer) result account.old account.new }
+        ensures calls { AtLast N.leads (place_of p) (call.Take p e) (λ answer old new. Takes p e old new answer) (Err refused.Empty) result account.old account.new }
         ensures waits { IfErr result (λ why. why ≢ refused.Empty) }
     {
         for _ in rt.forever() {

@@ -1,5 +1,5 @@
 //! Messages at any of several endpoints of a process, and until a time.
-ghost use Rattle.std.specs.Prelude.{◌≡◌, [], IfErr};
+ghost use Rattle.std.specs.Prelude.{◌≡◌, [], Err, IfErr};
 ghost use Rattle.xh_calls.specs.Messages.{Takes};
 ghost use Rattle.xh_calls.specs.Several.{TakesAny};
 ghost use Rattle.xh_core.specs.declared.refused.Refused.TheVariants as refused;
@@ -18,7 +18,7 @@ use xh_core::Refused;
 use xh_place::{Gate, Taken};
 
 // Whether the time is past, or the clock can't be read.
-fn is_past<R: Clock>(rt: &R, deadline: Instant) -> bool {
+pub(super) fn is_past<R: Clock>(rt: &R, deadline: Instant) -> bool {
     match Instant::now(rt) {
         Ok(now) => now >= deadline,
         Err(_unread) => true,
@@ -39,7 +39,7 @@ impl<N: Names> Kernel<N> {
         account: &mut Account<N>,
         gate: &G,
     ) -> Result<Taken, Refused>
-        ensures { AtLast N.leads (place_of p) (call.Take p e) (λ answer old new. Takes p e old new answer) result account.old account.new }
+        ensures { AtLast N.leads (place_of p) (call.Take p e) (λ answer old new. Takes p e old new answer) (Err refused.Empty) result account.old account.new }
     {
         for _ in rt.forever() {
             let past = is_past(rt, deadline);
@@ -93,7 +93,7 @@ impl<N: Names> Kernel<N> {
         account: &mut Account<N>,
         gate: &G,
     ) -> Result<Answered, Refused>
-        ensures calls { AtLast N.leads (place_of p) (call.TakeAny p ends.now) (λ answer old new. TakesAny p ends.now old new answer) result account.old account.new }
+        ensures calls { AtLast N.leads (place_of p) (call.TakeAny p ends.now) (λ answer old new. TakesAny p ends.now old new answer) (Err refused.Empty) result account.old account.new }
         ensures waits { IfErr result (λ why. why ≡ refused.Empty → ends.now ≡ []) }
     {
         for _ in rt.forever() {
@@ -121,7 +121,7 @@ impl<N: Names> Kernel<N> {
         account: &mut Account<N>,
         gate: &G,
     ) -> Result<Answered, Refused>
-        ensures { AtLast N.leads (place_of p) (call.TakeAny p ends.now) (λ answer old new. TakesAny p ends.now old new answer) result account.old account.new }
+        ensures { AtLast N.leads (place_of p) (call.TakeAny p ends.now) (λ answer old new. TakesAny p ends.now old new answer) (Err refused.Empty) result account.old account.new }
     {
         for _ in rt.forever() {
             let past = is_past(rt, deadline);

@@ -13,10 +13,10 @@ pub returns-in-Done : goal.returns-in-Done
 returns-in-Done g c =
     let place = ap (λ h. h.scribe.pen.number) c.deref_mut.ensures.value ∙ c.held-held.ensures in
     at_last g.N.Names.leads c.deref_mut.result.now.scribe.pen.number (place_of c.args.p) place (Take c.args.p c.args.e) (λ answer old new. Takes c.args.p c.args.e old new answer)
-    c.in-Done.answer c.args.account.now c.loop.account c.look_for-look.new.account c.loop.invariant c.in-Done.ensures.0
+    (Err Empty) c.in-Done.answer c.args.account.now c.loop.account c.look_for-look.new.account c.loop.invariant c.in-Done.ensures.0
 
 pub returns-in-Later : goal.returns-in-Later
 returns-in-Later g c =
     let place = ap (λ h. h.scribe.pen.number) c.deref_mut.ensures.value ∙ c.held-held.ensures in
     at_last g.N.Names.leads c.deref_mut.result.now.scribe.pen.number (place_of c.args.p) place (Take c.args.p c.args.e) (λ answer old new. Takes c.args.p c.args.e old new answer)
-    (Err Empty) c.args.account.now c.loop.account c.look_for-look.new.account c.loop.invariant c.in-Later.ensures
+    (Err Empty) (Err Empty) c.args.account.now c.loop.account c.look_for-look.new.account c.loop.invariant c.in-Later.ensures
