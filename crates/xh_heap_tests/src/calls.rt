@@ -67,6 +67,23 @@ fn messages<P: Process>(one: &mut P, other: &mut P) -> Result<[u64; 8], Refused>
     ])
 }
 
+/// Messages go over while there is room; behind four a block comes back at a time that is past, and goes once one was taken.
+fn rooms<P: Process>(one: &mut P, other: &mut P) -> Result<[u64; 8], Refused> {
+    let past = Instant::now(&one.rt()).map_err(|_unread| Refused::Empty)?;
+    let (out, into) = one.wire(other)?;
+    let block = one.alloc(16)?.rec;
+    Ok([
+        code(one.give_wait(out.rec, 1, &[])),
+        code(one.give_wait_until(out.rec, 2, &[], past)),
+        code(one.give(out.rec, 3, &[])),
+        code(one.give_wait(out.rec, 4, &[])),
+        code(one.give_wait_until(out.rec, 5, &[block], past)),
+        tag_of(other.take_wait(into.rec)),
+        code(one.give_wait(out.rec, 6, &[block])),
+        code(one.free(block).map(u64::from)),
+    ])
+}
+
 /// By its contract side 0 gives messages of the tag 5.
 const FIVES: &[Row] = &[Row {
     state: 0,
@@ -160,6 +177,7 @@ impl Job for Calls {
         Ok([
             blocks(own)?,
             messages(own, &mut other)?,
+            rooms(own, &mut other)?,
             channels(own, &mut other)?,
             endings(own, &mut other, self.0)?,
             in_place(own, &mut other)?,
@@ -172,6 +190,7 @@ fn each_call(rt: HostRuntime) {
     const EXPECTED: [[u64; 8]; 5] = [
         [48, 256, 16, 32, 98, 32, 1006, 1003],
         [1, 2, 7, 1006, 8, 1016, 1016, 1016],
+        [1, 2, 3, 4, 1014, 1, 5, 1006],
         [3, 1022, 1, 1022, 1, 5, 32, 1015],
         [2, 16, 1012, 0, 1011, 0, 1021, 97],
         [32, 7, 7, 1006, 1006, 1007, 1007, 1012],
