@@ -76,6 +76,21 @@ fn told(at: usize, answer: Result<Taken, Refused>) -> Told {
     }
 }
 
+// The number of a message that was given; or the refusal, and how many blocks came back.
+fn told_given(answer: Result<u64, Refused>) -> Told {
+    match answer {
+        Ok(no) => (0, no as u16, ""),
+        Err(refused) => (count_back(&refused), 0, refused.name()),
+    }
+}
+
+fn count_back(refused: &Refused) -> usize {
+    match refused {
+        Refused::Full { back } | Refused::PeerClosed { back } => back.len(),
+        _ => 0,
+    }
+}
+
 fn told_at(answer: Result<Answered, Refused>) -> Told {
     match answer {
         Ok(Answered { at, answer }) => told(at, answer),
@@ -83,8 +98,11 @@ fn told_at(answer: Result<Answered, Refused>) -> Told {
     }
 }
 
-/// A machine that others work on too, so that a take may wait, without an end or until a time.
+/// A machine that others work on too, so that a take or a give may wait, without an end or until a time.
 pub trait Shared: Booked {
+    /// What a give is told: the number of the message, in the place of its tag; or how many blocks came back, and why.
+    fn give_wait(&mut self, p: u16, e: u16, blocks: &[u16], until: Option<Instant>) -> Told;
+
     /// A take at one endpoint, the first.
     fn take_first(&mut self, p: u16, e: u16, until: Option<Instant>) -> Told;
 
@@ -94,6 +112,16 @@ pub trait Shared: Booked {
 }
 
 impl<'a, N: Names, R: Wait + Clock, G: Gate> Shared for Worker<'a, N, R, G> {
+    fn give_wait(&mut self, p: u16, e: u16, blocks: &[u16], until: Option<Instant>) -> Told {
+        let (rt, account, gate) = (self.rt, &mut self.account, self.gate);
+        told_given(match until {
+            Some(until) => self
+                .kernel
+                .give_wait_until(rt, p, e, 1, blocks, until, account, gate),
+            None => self.kernel.give_wait(rt, p, e, 1, blocks, account, gate),
+        })
+    }
+
     fn take_first(&mut self, p: u16, e: u16, until: Option<Instant>) -> Told {
         let (rt, gate) = (self.rt, self.gate);
         let answer = match until {

@@ -72,6 +72,33 @@ pub fn assert_steps<W: Shared>(rt: &impl Abort, alloc: Global, worker: &mut W, s
     }
 }
 
+// Gives by the last channel after so many: two find room; behind them a give of block 16 waits until the time, and the block
+// comes back; once one was taken it goes.
+fn assert_room<W: Shared>(rt: &impl Abort, worker: &mut W, until: Option<Instant>, after: u16) {
+    let told = [
+        worker.give_wait(0, 14, &[], until),
+        worker.give_wait(0, 14, &[], None),
+        worker.give_wait(0, 14, &[16], until),
+        worker.take_first(0, 15, None),
+        worker.give_wait(0, 14, &[16], until),
+        worker.take_first(0, 15, None),
+        worker.take_first(0, 15, None),
+    ];
+    let given = [1, 2, 3].map(|k: u16| (0, after.wrapping_add(k), ""));
+    let expected = [
+        given[0],
+        given[1],
+        (1, 0, "Full"),
+        (0, 1, ""),
+        given[2],
+        (0, 1, ""),
+        (0, 1, ""),
+    ];
+    for (at, was_told) in told.iter().enumerate() {
+        assert_told(rt, at, *was_told, expected[at]);
+    }
+}
+
 // Waits until the time at the first, and at any, are told so.
 fn assert_until<W: Shared>(
     rt: &impl Abort,
@@ -84,11 +111,13 @@ fn assert_until<W: Shared>(
     assert_told(rt, 1, worker.take_any_wait(0, &HIGH, until), any);
 }
 
-/// A wait returns once its time is past, and takes what waits then.
+/// A wait returns once its time is past, and takes what waits then, or gives where there is room.
 pub fn assert_deadlines<W: Shared, R: Clock + Abort>(rt: &R, alloc: Global, worker: &mut W) {
     const NONE: Told = (64, 0, "Empty");
     assert_answers(rt, alloc, worker, OPENS);
-    for millis in [0, 20] {
+    let block = answer_of(worker, alloc, Alloc(0, 16, 0));
+    assert_row(rt, 0, block, Block(16, 16));
+    for (millis, before) in [(0, 0), (20, 3)] {
         let until = after(rt, millis);
         assert!(rt; until.is_some());
         assert_until(rt, worker, until, (0, 0, "Empty"), NONE);
@@ -99,6 +128,7 @@ pub fn assert_deadlines<W: Shared, R: Clock + Abort>(rt: &R, alloc: Global, work
         );
         assert!(rt; given == (true, true));
         assert_until(rt, worker, until, (0, 7, ""), (1, 8, ""));
+        assert_room(rt, worker, until, before);
     }
     assert_told(rt, 2, worker.take_any_wait(0, &[], None), NONE);
 }

@@ -1,5 +1,5 @@
-//! A process that waits for a message at one endpoint or at one of two, on threads.
-use crate::answers::Call::{self, Alloc, Close, Exit, Give, Kill, Spawn, Wire};
+//! A process that waits for a message at one endpoint or at one of two, or for room, on threads.
+use crate::answers::Call::{self, Alloc, Close, Exit, Give, Kill, Spawn, Take, Wire};
 use crate::answers::{Answer, answer_of, assert_row};
 use crate::machines::{Case, Shared, Told, arenas_of, on_kernel};
 use std::alloc::Global;
@@ -17,11 +17,19 @@ pub fn after<R: Clock>(rt: &R, millis: u64) -> Option<Instant> {
     now.checked_add(Duration::from_millis(millis))
 }
 
-/// A process that waits at both its ends or at one; what ends its wait; the tag of the message that it takes then, or 0, and the
-/// refusal, or nothing.
+/// What a process waits for: a message at one of its ends or at both, or room for one, with a block, behind four that wait.
+#[derive(Clone, Copy, PartialEq)]
+enum For {
+    One,
+    Both,
+    Room,
+}
+
+/// What a process waits for; what ends its wait; the tag of the message that it takes then, or the number of that which it gives,
+/// or 0, and the refusal, or nothing.
 #[derive(Clone, Copy)]
 pub struct Waiting<'a> {
-    both: bool,
+    awaited: For,
     ender: Call<'a>,
     want: (u16, &'static str),
 }
@@ -49,6 +57,7 @@ fn later(call: Call, by: u16) -> Call {
         Alloc(p, n, arena) => Alloc(p | by, n, arena),
         Wire(p, q) => Wire(p | by, q | by),
         Give(p, e, tag, blocks) => Give(p | by, e, tag, blocks),
+        Take(p, e) => Take(p | by, e),
         Close(p, e) => Close(p | by, e),
         Kill(p, q, budget) => Kill(p | by, q | by, budget),
         Exit(p, budget) => Exit(p | by, budget),
@@ -57,17 +66,23 @@ fn later(call: Call, by: u16) -> Call {
 }
 
 // What process 0 is told that waits after a pause, by one of the ways, a long time at most.
-fn wait_late<W: Shared, R: Clock>(rt: &R, worker: &mut W, both: bool, by: u16, seed: u64) -> Told {
+fn wait_late<W: Shared, R: Clock>(
+    rt: &R,
+    worker: &mut W,
+    awaited: For,
+    by: u16,
+    seed: u64,
+) -> Told {
     let until = if seed % 2 == 0 {
         None
     } else {
         after(rt, 20_000)
     };
     pause(seed % 211);
-    if both {
-        worker.take_any_wait(by, &[4, 2], until)
-    } else {
-        worker.take_first(by, 2, until)
+    match awaited {
+        For::One => worker.take_first(by, 2, until),
+        For::Both => worker.take_any_wait(by, &[4, 2], until),
+        For::Room => worker.give_wait(by, 2, &[0], until),
     }
 }
 
@@ -75,6 +90,15 @@ fn wait_late<W: Shared, R: Clock>(rt: &R, worker: &mut W, both: bool, by: u16, s
 fn end_late<W: Shared>(alloc: Global, worker: &mut W, ender: Call, seed: u64) -> Answer {
     pause((seed / 211) % 4001);
     answer_of(worker, alloc, ender)
+}
+
+// Fills the direction from the end 2 of process 0, where it waits for room there.
+fn fill<W: Shared>(worker: &mut W, awaited: For, by: u16) {
+    if awaited == For::Room {
+        for tag in 0..4 {
+            let _given = worker.give(by, 2, tag, &[]);
+        }
+    }
 }
 
 // The process that waits is told so, and of a message at which end, while another thread ends its wait; then both end.
@@ -87,19 +111,25 @@ fn assert_round<W: Shared + Send, R: Threads + Clock + Abort + Sync>(
     by: u16,
     seed: u64,
 ) {
-    let Waiting { both, ender, want } = waiting;
+    let Waiting {
+        awaited,
+        ender,
+        want,
+    } = waiting;
     let mut last = Answer::Done;
     for call in BEFORE {
         last = answer_of(mine, alloc, later(*call, by));
     }
     assert_row(rt, 0, last, Answer::Two(4, 32, 5, 32));
+    fill(mine, awaited, by);
     let ((at, tag, refused), _answer) = thread::join(
         rt,
-        || wait_late(rt, other, both, by, seed),
+        || wait_late(rt, other, awaited, by, seed),
         || end_late(alloc, mine, later(ender, by), seed),
     );
     assert!(rt; (tag, refused) == want, "{refused}");
-    assert!(rt; refused != "" || at == usize::from(both));
+    let at_end = usize::from(awaited == For::Both);
+    assert!(rt; refused != "" || at == at_end);
     let _ended = (mine.exit(by, 4096).is_ok(), mine.exit(1 | by, 4096).is_ok());
 }
 
@@ -127,7 +157,7 @@ pub fn assert_wait<W: Shared + Send, R: Threads + Clock + Abort + Sync>(
 fn assert_waits<R: Threads + Wait + Clock + Abort + Sync>(
     rt: &R,
     alloc: Global,
-    both: bool,
+    awaited: For,
     ender: Call,
     want: (u16, &'static str),
 ) {
@@ -135,7 +165,11 @@ fn assert_waits<R: Threads + Wait + Clock + Abort + Sync>(
         wear: 1_000_000,
         ..arenas_of(1, 256, 16)
     };
-    let case = Case::Waits(Waiting { both, ender, want });
+    let case = Case::Waits(Waiting {
+        awaited,
+        ender,
+        want,
+    });
     for _ in 0..64 {
         let ledger = on_kernel(rt, alloc, config, 2, case);
         assert!(rt; matches!(ledger, Ok(ledger) if ledger.out == 0));
@@ -155,7 +189,7 @@ fn waits_at_one(rt: HostRuntime) {
         (Give(0, 4, 7, &[2]), 0, "NotOwned"),
     ];
     for (ender, tag, refused) in ENDERS {
-        assert_waits(&rt, rt.alloc(), false, *ender, (*tag, *refused));
+        assert_waits(&rt, rt.alloc(), For::One, *ender, (*tag, *refused));
     }
 }
 
@@ -174,6 +208,25 @@ fn waits_at_two(rt: HostRuntime) {
         (Exit(1, 4096), 0, "PeerClosed"),
     ];
     for (ender, tag, refused) in ENDERS {
-        assert_waits(&rt, rt.alloc(), true, *ender, (*tag, *refused));
+        assert_waits(&rt, rt.alloc(), For::Both, *ender, (*tag, *refused));
+    }
+}
+
+/// The same of one that waits for room at its end 2: a message is taken, and it gives the fifth; or it is told why not.
+#[test]
+fn waits_for_room(rt: HostRuntime) {
+    const ENDERS: &[(Call, u16, &str)] = &[
+        (Take(1, 3), 5, ""),
+        (Close(1, 3), 0, "PeerClosed"),
+        (Kill(1, 0, 4096), 0, "Ended"),
+        (Kill(1, 0, 1), 0, "Ended"),
+        (Close(0, 2), 0, "NotOwned"),
+        (Give(0, 4, 7, &[2]), 0, "NotOwned"),
+        (Exit(0, 4096), 0, "Ended"),
+        (Kill(0, 1, 4096), 0, "PeerClosed"),
+        (Exit(1, 4096), 0, "PeerClosed"),
+    ];
+    for (ender, tag, refused) in ENDERS {
+        assert_waits(&rt, rt.alloc(), For::Room, *ender, (*tag, *refused));
     }
 }
