@@ -7,7 +7,6 @@ use crate::turns::{Host, Step, Times};
 use std::alloc::Global;
 use std::marker::Brand;
 use std::sync::Wait;
-use std::thread;
 use xh_core::{Config, Refused};
 use xh_kernel::{Account, Kernel, Look, Names, Parts};
 use xh_model::limits::{MAX_ARENAS, MAX_BUDGET, MAX_DEPTH, MAX_RECORDS, MAX_WEAR, PLACES};
@@ -35,7 +34,7 @@ pub(crate) enum Call {
     Kill(u16),
     /// It looks at a place.
     Glance,
-    /// The first of two processes gives a message without blocks, and the second takes it.
+    /// The first of two processes gives a message without blocks, once there is room, and the second takes it.
     Give,
     /// The first gives a block and waits for it; the second waits for it and gives it back.
     PingPong,
@@ -119,17 +118,14 @@ impl<'a, N: Names, R: Wait> Player<'a, N, R> {
         freed.ok().map(drop)
     }
 
-    // Gives the blocks, once there is room.
-    fn give(&mut self) -> Option<()> {
+    fn give(&mut self, waits: bool) -> Option<()> {
         let (rt, heap, p, end) = (self.rt, self.heap, self.process, self.ends.0);
-        for _ in rt.forever() {
-            match heap.give(rt, p, end, 1, &self.blocks, self.account, &OpenGate) {
-                Ok(_number) => return Some(()),
-                Err(Refused::Full { back: _ }) => thread::yield_now(),
-                Err(_refused) => return None,
-            }
-        }
-        unreachable!()
+        let given = if waits {
+            heap.give_wait(rt, p, end, 1, &self.blocks, self.account, &OpenGate)
+        } else {
+            heap.give(rt, p, end, 1, &self.blocks, self.account, &OpenGate)
+        };
+        given.ok().map(drop)
     }
 
     fn take(&mut self, waits: bool) -> Option<()> {
@@ -159,7 +155,7 @@ impl<'a, N: Names, R: Wait> Step for Player<'a, N, R> {
         let block = self.blocks.first().copied();
         match self.call {
             Call::AllocFree(bytes, _) => self.alloc_free(bytes),
-            Call::GiveTake(_) => self.give().and(self.take(false)),
+            Call::GiveTake(_) => self.give(false).and(self.take(false)),
             Call::Read(_) => heap.read(rt, p, block?, 0, bytes, account, gate).ok(),
             Call::Write(_) => heap.write(rt, p, block?, 0, bytes, account, gate).ok(),
             Call::Kill(_) => {
@@ -168,10 +164,10 @@ impl<'a, N: Names, R: Wait> Step for Player<'a, N, R> {
                 killed.ok().map(drop)
             }
             Call::Glance => heap.glance(0, &mut self.look).ok().map(drop),
-            Call::Give if self.is_first => self.give(),
+            Call::Give if self.is_first => self.give(true),
             Call::Give => self.take(true),
-            Call::PingPong if self.is_first => self.give().and(self.take(true)),
-            Call::PingPong => self.take(true).and(self.give()),
+            Call::PingPong if self.is_first => self.give(false).and(self.take(true)),
+            Call::PingPong => self.take(true).and(self.give(false)),
         }
     }
 

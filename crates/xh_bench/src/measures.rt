@@ -54,6 +54,7 @@ pub(crate) const MEASURES: &[Row] = &[
     ("kill_256", 1, Of(Kill(256)), 250, KILL_256),
     ("glance", 1, Of(Glance), 200, &[(1, Load)]),
     ("ping_pong", 2, Of(PingPong), 130, &[(1, ToAndFro)]),
+    ("stream", 2, Of(Give), 150, &[(1, Pass)]),
     ("pairs_4", 4, Of(Give), 200, &[(1, Pass)]),
     ("script_4096", 1, By(SCRIPT), 110, &[(4, Script(1024))]),
 ];
