@@ -12,8 +12,8 @@ pub(crate) type Name = &'static str;
 /// What was answered.
 pub(crate) type Told<T> = Result<T, Name>;
 
-/// A call; but for a spawn its process stands first. A read and a write are of eight bytes; a take is at once, or until a
-/// time.
+/// A call; but for a spawn its process stands first. A read, a write and a write in place are of eight bytes; a give and a
+/// take are at once, or until a time.
 #[derive(Clone, Copy)]
 pub(crate) enum Call<'a> {
     Spawn,
@@ -22,8 +22,9 @@ pub(crate) enum Call<'a> {
     Split(u16, u16, u32),
     Read(u16, u16, u32),
     Write(u16, u16, u32, u64),
+    InPlace(u16, u16, u64),
     Free(u16, u16),
-    Give(u16, u16, u16, &'a [u16]),
+    Give(u16, u16, u16, &'a [u16], Option<Instant>),
     Take(u16, u16, Option<Instant>),
     TakeAny(u16, &'a [u16], Option<Instant>),
     Close(u16, u16),
@@ -80,20 +81,27 @@ impl<'a, N: Names, R: Wait + Clock> Hired<'a, N, R> {
                 Number(word)
             }
             Call::Free(p, r) => Number(u64::from(kernel.free(rt, p, r, to, gate)?)),
-            Call::Give(p, e, tag, load) => Number(kernel.give(rt, p, e, tag, load, to, gate)?),
+            Call::InPlace(p, r, word) => {
+                let mut write = |bytes: &mut [u8]| {
+                    if let Some(first) = bytes.get_mut(..8) {
+                        first.copy_from_slice(&word.to_le_bytes());
+                    }
+                };
+                kernel.with_bytes_mut(rt, p, r, &mut write, to, gate)?;
+                Number(word)
+            }
+            Call::Give(p, e, t, load, None) => Number(kernel.give(rt, p, e, t, load, to, gate)?),
+            Call::Give(p, e, t, load, Some(by)) => {
+                Number(kernel.give_wait_until(rt, p, e, t, load, by, to, gate)?)
+            }
             Call::Take(p, e, None) => Message(kernel.take(rt, p, e, to, gate)?),
-            Call::Take(p, e, Some(time)) => {
-                Message(kernel.take_wait_until(rt, p, e, time, to, gate)?)
-            }
-            Call::TakeAny(p, ends, None) => {
-                Message(kernel.take_any(rt, p, ends, to, gate)?.answer?)
-            }
-            Call::TakeAny(p, ends, Some(time)) => {
-                Message(
-                    kernel
-                        .take_any_wait_until(rt, p, ends, time, to, gate)?
-                        .answer?,
-                )
+            Call::Take(p, e, Some(by)) => Message(kernel.take_wait_until(rt, p, e, by, to, gate)?),
+            Call::TakeAny(p, ends, None) => Message(
+                kernel.take_any(rt, p, ends, to, gate)?.answer?,
+            ),
+            Call::TakeAny(p, ends, Some(by)) => {
+                let any = kernel.take_any_wait_until(rt, p, ends, by, to, gate)?;
+                Message(any.answer?)
             }
             Call::Close(p, e) => Number(kernel.close(rt, p, e, to, gate)?),
             Call::Exit(p, budget) => Number(kernel.exit(rt, p, budget, to, gate)?),
@@ -104,9 +112,6 @@ impl<'a, N: Names, R: Wait + Clock> Hired<'a, N, R> {
 
 impl<'a, N: Names, R: Wait + Clock> Caller for Hired<'a, N, R> {
     fn call(&mut self, call: Call) -> Told<Answer> {
-        match self.ask(call) {
-            Ok(answer) => Ok(answer),
-            Err(refused) => Err(refused.name()),
-        }
+        self.ask(call).map_err(|refused| refused.name())
     }
 }

@@ -12,12 +12,6 @@ fn joined(sum: u64, r: &u16) -> u64 {
     sum.wrapping_mul(65_537).wrapping_add(u64::from(*r) + 1)
 }
 
-// The time after so many milliseconds, and whether one is past.
-fn after<R: Clock>(rt: &R, millis: u32) -> Option<Instant> {
-    let now = Instant::now(rt).ok()?;
-    now.checked_add(Duration::from_millis(u64::from(millis)))
-}
-
 fn is_past<R: Clock>(rt: &R, time: Instant) -> bool {
     Instant::now(rt).map_or(true, |now| now >= time)
 }
@@ -41,6 +35,14 @@ fn gather(words: &Words, p: u16, not: u16, most: u32, goes: bool) -> ArrayVec<u1
 }
 
 impl<'a, C: Caller, R: Clock> Worker<'a, C, R> {
+    // A time at times, in some milliseconds.
+    fn until(&mut self) -> Option<Instant> {
+        let millis = self.chance.below(24);
+        let wait = Duration::from_millis(u64::from(millis));
+        let now = Instant::now(self.rt).ok()?;
+        now.checked_add(wait).filter(|_| millis < 3)
+    }
+
     /// A channel between two processes of one group, or of one alone.
     pub(crate) fn wire(&mut self) {
         let (p, other) = (self.process(), self.process());
@@ -71,7 +73,8 @@ impl<'a, C: Caller, R: Clock> Worker<'a, C, R> {
         }
         board.messages.set(self.tag, load.iter().fold(1, joined));
         let may = ["NotOwned", "NotEndpoint", "Full", "PeerClosed"];
-        let sent = self.ask(p, Call::Give(p, e, self.tag, &load), &may);
+        let until = self.until();
+        let sent = self.ask(p, Call::Give(p, e, self.tag, &load, until), &may);
         if sent.is_none() {
             for r in &load {
                 self.meet(p, *r);
@@ -83,8 +86,7 @@ impl<'a, C: Caller, R: Clock> Worker<'a, C, R> {
     pub(crate) fn take(&mut self) {
         let board = self.board;
         let (p, e) = self.seen(&board.ends, false);
-        let millis = self.chance.below(24);
-        let until = after(self.rt, millis).filter(|_| millis < 3);
+        let until = self.until();
         let mut ends = gather(&board.ends, p, e, 7, false);
         let _room = ends.try_push(e);
         let told = self.caller.call(if self.chance.one_in(2) {

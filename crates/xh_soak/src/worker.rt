@@ -211,10 +211,10 @@ impl<'a, C: Caller, R: Clock> Worker<'a, C, R> {
     fn read_or_write(&mut self) {
         let (p, r) = self.seen(&self.board.blocks, false);
         let at = self.chance.below(64) * 8;
-        let call = if self.chance.one_in(2) {
-            Call::Read(p, r, at)
-        } else {
-            Call::Write(p, r, at, self.mark(p))
+        let call = match self.chance.below(4) {
+            0 => Call::InPlace(p, r, self.mark(p)),
+            1 => Call::Write(p, r, at, self.mark(p)),
+            _ => Call::Read(p, r, at),
         };
         if let Some(Number(word)) = self.ask(p, call, &["NotOwned", "NotData", "BadRange"]) {
             self.claim_own(p, word);
