@@ -38,7 +38,8 @@ pub fn calls_are_work<N: Names>()
     ensures wire { (p q arena : ℕ) (c : Option (List Row)) (result : Result (Block × Block) Refused) → AreWork (λ old new. Wires N.parts N.leads p q arena c old new result) }
     ensures exit { (p budget : ℕ) (result : Result ℕ Refused) → AreWork (λ old new. Exits N.leads p budget old new result) }
     ensures kill { (by victim budget : ℕ) (result : Result ℕ Refused) → AreWork (λ old new. Kills N.leads by victim budget old new result) }
-    ensures take { (p e : ℕ) (result : Result Taken Refused) → AreWork (λ old new. AtLast N.leads (place_of p) (call.Take p e) (λ answer from to. Takes p e from to answer) (Err Empty) result old new) }
+    ensures take { (p e : ℕ) (result : Result Taken Refused)
+        → AreWork (λ old new. AtLast N.leads (place_of p) (call.Take p e) (λ answer from to. Takes p e from to answer) (Err Empty) result old new) }
     ensures take_any { (p : ℕ) (ends : List ℕ) (result : Result Answered Refused)
         → AreWork (λ old new. AtLast N.leads (place_of p) (call.TakeAny p ends) (λ answer from to. TakesAny p ends from to answer) (Err Empty) result old new) }
     ensures give { (p e tag : ℕ) (blocks : List ℕ) (result : Result ℕ Refused)

@@ -152,7 +152,8 @@ pub trait Process: Drop {
     /// As `give`; where as many messages wait as may, it waits until the peer takes, without a lock, and gives again. It is refused
     /// Full only with fewer blocks than were given.
     fn give_wait(&mut self, end: u16, tag: u16, blocks: &[u16]) -> Result<u64, Refused>
-        ensures call { Acts (λ p. AtLast leads (place_of p) (call.Give p end tag blocks.now) (λ answer from to. Gives p end tag blocks.now from to answer) (no_room blocks.now) result) (handle self.old) (handle self.new) }
+        ensures call { Acts (λ p. AtLast leads (place_of p) (call.Give p end tag blocks.now) (λ answer from to. Gives p end tag blocks.now from to answer) (no_room blocks.now) result)
+            (handle self.old) (handle self.new) }
         ensures waits { result ≢ no_room blocks.now };
 
     /// As `give_wait`; once the time is past, or the clock can't be read, it is refused Full.
@@ -163,7 +164,8 @@ pub trait Process: Drop {
         blocks: &[u16],
         deadline: Instant,
     ) -> Result<u64, Refused>
-        ensures { Acts (λ p. AtLast leads (place_of p) (call.Give p end tag blocks.now) (λ answer from to. Gives p end tag blocks.now from to answer) (no_room blocks.now) result) (handle self.old) (handle self.new) };
+        ensures { Acts (λ p. AtLast leads (place_of p) (call.Give p end tag blocks.now) (λ answer from to. Gives p end tag blocks.now from to answer) (no_room blocks.now) result)
+            (handle self.old) (handle self.new) };
 
     /// Takes the message that waits longest at an endpoint. Its blocks are this process's.
     ///
@@ -191,13 +193,15 @@ pub trait Process: Drop {
     /// As `take_any`; where no message waits and no peer is closed, it waits, without a lock. It is refused Empty of no endpoints
     /// alone.
     fn take_any_wait(&mut self, ends: &[u16]) -> Result<Answered, Refused>
-        ensures call { Acts (λ p. AtLast leads (place_of p) (call.TakeAny p ends.now) (λ answer from to. TakesAny p ends.now from to answer) (Err refused.Empty) result) (handle self.old) (handle self.new) }
+        ensures call { Acts (λ p. AtLast leads (place_of p) (call.TakeAny p ends.now) (λ answer from to. TakesAny p ends.now from to answer) (Err refused.Empty) result)
+            (handle self.old) (handle self.new) }
         ensures waits { IfErr result (λ why. why ≡ refused.Empty → ends.now ≡ []) }
         ensures at { IfOk result (λ a. a.at < length ends.now) };
 
     /// As `take_any_wait`; once the time is past, or the clock can't be read, it is refused Empty.
     fn take_any_wait_until(&mut self, ends: &[u16], deadline: Instant) -> Result<Answered, Refused>
-        ensures call { Acts (λ p. AtLast leads (place_of p) (call.TakeAny p ends.now) (λ answer from to. TakesAny p ends.now from to answer) (Err refused.Empty) result) (handle self.old) (handle self.new) }
+        ensures call { Acts (λ p. AtLast leads (place_of p) (call.TakeAny p ends.now) (λ answer from to. TakesAny p ends.now from to answer) (Err refused.Empty) result)
+            (handle self.old) (handle self.new) }
         ensures at { IfOk result (λ a. a.at < length ends.now) };
 
     /// Closes an endpoint: it goes, and what was on its way to it. The peer may still take what was given by it. It answers the
