@@ -28,7 +28,8 @@ pub(super) enum For {
 }
 
 // The place's bell as it was before it asked for room, and then put a message, if there was room for it.
-fn ask<R: Clock + Wait>(rt: &R, channels: &Channels, end: &mut Endpoint, place: u8) -> u64 {
+fn ask<R: Clock + Wait>(rt: &R, channels: &Channels, end: &mut Endpoint) -> u64 {
+    let place = end.spot().side;
     let seen = channels.bell(rt, place);
     channels.await_room(rt, end.spot(), place);
     let _sent = by_end(rt, channels, end, Put(1, None));
@@ -69,7 +70,7 @@ fn alternate<R: Clock + Wait>(
     for _ in rt.forever() {
         let seen = match awaited {
             For::Message => channels.bell(rt, place),
-            For::Room => ask(rt, channels, end, place),
+            For::Room => ask(rt, channels, end),
         };
         let at = round.load(SeqCst);
         if at >= ROUNDS || after(rt, 0) >= Some(deadline) {
