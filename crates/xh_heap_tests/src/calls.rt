@@ -166,7 +166,7 @@ struct Calls(Global);
 impl Job for Calls {
     type Plan = ();
 
-    type Answer = Result<[[u64; 8]; 5], Refused>;
+    type Answer = Result<[[u64; 8]; 6], Refused>;
 
     fn plan<P: Process>(&self, _team: &mut Team<P>) -> Result<(), Refused> {
         Ok(())
@@ -187,7 +187,7 @@ impl Job for Calls {
 
 #[test]
 fn each_call(rt: HostRuntime) {
-    const EXPECTED: [[u64; 8]; 5] = [
+    const EXPECTED: [[u64; 8]; 6] = [
         [48, 256, 16, 32, 98, 32, 1006, 1003],
         [1, 2, 7, 1006, 8, 1016, 1016, 1016],
         [1, 2, 3, 4, 1014, 1, 5, 1006],
