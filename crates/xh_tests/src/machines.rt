@@ -79,7 +79,7 @@ fn told(at: usize, answer: Result<Taken, Refused>) -> Told {
 // The number of a message that was given; or the refusal, and how many blocks came back.
 fn told_given(answer: Result<u64, Refused>) -> Told {
     match answer {
-        Ok(no) => (0, no as u16, ""),
+        Ok(no) => (0, (no % 65_536) as u16, ""),
         Err(refused) => (count_back(&refused), 0, refused.name()),
     }
 }
