@@ -96,9 +96,7 @@ impl<'a, N: Names, R: Wait + Clock> Hired<'a, N, R> {
             }
             Call::Take(p, e, None) => Message(kernel.take(rt, p, e, to, gate)?),
             Call::Take(p, e, Some(by)) => Message(kernel.take_wait_until(rt, p, e, by, to, gate)?),
-            Call::TakeAny(p, ends, None) => Message(
-                kernel.take_any(rt, p, ends, to, gate)?.answer?,
-            ),
+            Call::TakeAny(p, es, None) => Message(kernel.take_any(rt, p, es, to, gate)?.answer?),
             Call::TakeAny(p, ends, Some(by)) => {
                 let any = kernel.take_any_wait_until(rt, p, ends, by, to, gate)?;
                 Message(any.answer?)

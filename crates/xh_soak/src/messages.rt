@@ -12,10 +12,6 @@ fn joined(sum: u64, r: &u16) -> u64 {
     sum.wrapping_mul(65_537).wrapping_add(u64::from(*r) + 1)
 }
 
-fn is_past<R: Clock>(rt: &R, time: Instant) -> bool {
-    Instant::now(rt).map_or(true, |now| now >= time)
-}
-
 // Records of the process that were seen, so many at most, and not this one. What is to go is taken from the board.
 fn gather(words: &Words, p: u16, not: u16, most: u32, goes: bool) -> ArrayVec<u16, 8> {
     let mut found = ArrayVec::<u16, 8>::new();
@@ -95,7 +91,8 @@ impl<'a, C: Caller, R: Clock> Worker<'a, C, R> {
             Call::TakeAny(p, &ends, until)
         });
         if let Err("Empty") = told {
-            let is_past = until.is_none_or(|time| is_past(self.rt, time));
+            let now = Instant::now(self.rt).ok();
+            let is_past = until.is_none_or(|time| now.is_none_or(|now| now >= time));
             self.claim(is_past, "Empty before its time");
         }
         let may = ["NotOwned", "NotEndpoint", "PeerClosed", "Empty"];
