@@ -2,11 +2,11 @@
 //!
 //! `xh_soak SEED ROUNDS` plays so many rounds, the first by this seed and each by the next one. In a round 2 to 16
 //! workers on threads of their own do calls of any of the processes, several of one at once: they name processes and
-//! records that are another's or nobody's, and take at several endpoints and until a time. Each refusal has to be one
-//! that may be; a message comes once, with its blocks; the bytes of a block are of its own group of processes; and at the
-//! end each block is one process's, and the ledger what was counted. A line tells each round; the first that goes wrong
-//! is the last, and the status is 1. With a third word, `scarce`, a growth of memory may be refused, as
-//! tools/refuse_growth.c does it: calls may answer OutOfMemory, and what went before stays.
+//! records that are another's or nobody's, write in place, and give, take and take at several endpoints until a time.
+//! Each refusal has to be one that may be; a message comes once, with its blocks; the bytes of a block are of its own
+//! group of processes; and at the end each block is one process's, and the ledger what was counted. A line tells each
+//! round; the first that goes wrong is the last, and the status is 1. With a third word, `scarce`, a growth of memory may
+//! be refused, as tools/refuse_growth.c does it: calls may answer OutOfMemory, and what went before stays.
 #![tactic(auto)]
 
 mod audit;
