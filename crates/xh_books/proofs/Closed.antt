@@ -1,8 +1,8 @@
 -- The closed books: what was handed out is what the places own and what is in flight.
-use Rattle.xh_books.proofs.Common.{AccountOf, All, AreBooks, AreGathered, ArenaLine, IsOpen, List, PartsOf, PlaceOf, VaultOf, all_back, all_lengths, all_taken, ap, arena_lines, arenas_of}
+use Rattle.xh_books.proofs.Common.{AccountOf, All, AreBooks, AreGathered, ArenaLine, IsOpen, List, PartsOf, PlaceOf, VaultOf, all_lengths, ap, arena_lines, arenas_of}
 use Rattle.xh_books.proofs.Common.{bytes_in_flight, bytes_owned, closed_line, map, subst, sum, sum_by, sym, vault_names, ℕ, ◌+◌, ◌∙◌, ◌≡◌}
 use Rattle.xh_books.proofs.Collected.{Named}
-use Rattle.xh_books.proofs.Summing.{IsEven, all_moved, lines_even, outs_are}
+use Rattle.xh_books.proofs.Summing.{IsEven, lines_even, outs_are}
 
 -- what the ledger of them says
 pub record Sums (accounts : List AccountOf) (vs : List VaultOf) (ps : List PlaceOf) (n : ℕ) (lens : List ℕ) (lines : List ArenaLine) : Type 0 where
@@ -10,7 +10,6 @@ pub record Sums (accounts : List AccountOf) (vs : List VaultOf) (ps : List Place
   pub even : All IsEven lines
   pub out : sum_by (λ l. l.out) lines ≡ bytes_owned ps + bytes_in_flight ps n 0 lens
   pub lengths : lens ≡ all_lengths (arenas_of vs)
-  pub moved : all_taken accounts ≡ all_back accounts + sum_by (λ l. l.out) lines
 
 -- `vs` are the vaults handed in, `ws` with the accounts, `us` audited
 pub sums : (p : PartsOf) (n : ℕ) (accounts : List AccountOf) (vs ws us : List VaultOf) (ps : List PlaceOf) (lens : List ℕ) (lines : List ArenaLine)
@@ -27,7 +26,4 @@ sums p n accounts vs ws us ps lens lines vaults fresh named gathered same known 
       even = even;
       out = outs ∙ ap sum (sym lens_are) ∙ owned;
       lengths = lens_are;
-      moved =
-          let m = all_moved p.records.shape.names vs accounts vaults named (subst (All IsEven) arenas even) in
-          m ∙ ap (λ (ls : List ArenaLine). all_back accounts + sum_by (λ l. l.out) ls) (sym arenas);
     }

@@ -50,7 +50,8 @@ pub fronts_more : (all now_ rest : List PlaceSeen) (p : PlaceSeen) (seats seats'
     → seats' ≡ seats ++ x ∷ [] → FrontsSoFar all rest seats'
 fronts_more all now_ rest p seats seats' x was next same more =
     let f : Held Body → List (Deed Body) = λ y. y.front in let g : PlaceSeen → List (Deed Body) = λ q. q.front in
-    ap (λ (ys : List (Held Body)). map f ys ++ map g rest) more ∙ ap (λ (l : List (List (Deed Body))). l ++ map g rest) (map-append f seats (x ∷ [])) ∙ append_assoc (map f seats) (x.front ∷ []) (map g rest)
+    ap (λ (ys : List (Held Body)). map f ys ++ map g rest) more
+    ∙ ap (λ (l : List (List (Deed Body))). l ++ map g rest) (map-append f seats (x ∷ [])) ∙ append_assoc (map f seats) (x.front ∷ []) (map g rest)
     ∙ ap (λ (l : List (Deed Body)). map f seats ++ l ∷ map g rest) same ∙ ap (λ (qs : List PlaceSeen). map f seats ++ map g qs) (sym next) ∙ was
 
 pub one_more : (lines lines' : List PlaceLine) (o : Option PlaceLine) → lines' ≡ lines ++ cons_option o [] → length lines' ≤ length lines + 1

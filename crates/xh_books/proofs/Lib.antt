@@ -9,6 +9,4 @@ pub mod Owning
 pub mod FlightLines
 pub mod Closed
 pub mod LedgerLines
-pub mod Sums
-pub mod Working
 pub mod Kept

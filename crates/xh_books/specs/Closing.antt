@@ -1,12 +1,11 @@
 -- What a kernel was when it was closed: its places, their histories, and the ledger of them.
-use Rattle.std.specs.Prelude.{◌≡◌, List, All, length, map, slice_index}
-use Rattle.std.specs.List.{sum_by}
+use Rattle.std.specs.Prelude.{◌≡◌, List, All, length}
 use Rattle.xh_arena.specs.Views.{VaultOf}
 use Rattle.xh_calls.specs.declared.call.Entry.{Entry}
 use Rattle.xh_calls.specs.Parts.{IsOpen, PartsOf, vault_names}
 use Rattle.xh_core.specs.declared.flight.FlightLine.{FlightLine}
 use Rattle.xh_core.specs.declared.ledger.Ledger.{Ledger}
-use Rattle.xh_history.specs.Histories.{History, LookOf, PenOf}
+use Rattle.xh_history.specs.Histories.{LookOf, PenOf}
 use Rattle.xh_kernel.specs.Accounts.{AccountOf}
 use Rattle.xh_kernel.specs.Finished.{HaveSeen}
 use Rattle.xh_kernel.specs.Kept.{AreKept}
@@ -14,10 +13,10 @@ use Rattle.xh_kernel.specs.Places.{places_of}
 use Rattle.xh_place.specs.Seen.{PlaceSeen}
 use Rattle.xh_books.specs.Flight.{IsInFlight}
 use Rattle.xh_books.specs.Ledgers.{IsBalanced, all_lengths, arena_lines, arenas_of, bytes_in_flight, bytes_owned, place_lines}
-use Rattle.xh_books.specs.Sums.{EachArena, back_in, sum_of_all, taken_in}
 
--- The locks of the kernel kept lawful histories of its places, each led to the place beside it, and these are all accounts and looks of the workers that made them. The ledger is of
--- these places, of the kernel's vaults and of the accounts; the lines of directions are of these places and vaults.
+-- The locks of the kernel kept lawful histories of its places, each led to the place beside it, and these are all
+-- accounts and looks of the workers that made them. The ledger is of these places, of the kernel's vaults and of the
+-- accounts; the lines of directions are of these places and vaults.
 pub record IsClosed (parts : PartsOf) (accounts : List AccountOf) (looks : List (LookOf Entry)) (l : Ledger) (directions : List FlightLine) : Type 0 where
   pub places : List PlaceSeen
   pub pens : List (PenOf Entry)
@@ -32,8 +31,3 @@ pub record IsClosed (parts : PartsOf) (accounts : List AccountOf) (looks : List 
   pub flight : l.flight ≡ bytes_in_flight (places_of places) parts.records.shape.records 0 (all_lengths (arenas_of vaults))
   pub balanced : IsBalanced l
   pub in_flight : IsInFlight parts.records.shape places (all_lengths (arenas_of vaults)) directions
-
--- What the ledger says was taken of each arena is the sum of what all calls of the histories took there, and what came back of all arenas the sum of what came back by them.
-pub record IsSumOver (parts : PartsOf) (hs : List (History Entry)) (l : Ledger) : Type 0 where
-  pub taken : EachArena parts (λ i. slice_index (map (λ a. a.taken) l.arenas.items) i ≡ sum_of_all (taken_in i) hs)
-  pub back : sum_by (λ a. a.back) l.arenas.items ≡ sum_of_all back_in hs

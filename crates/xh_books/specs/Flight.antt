@@ -1,5 +1,5 @@
 -- What is in flight when the books are closed, direction by direction.
-use Rattle.std.specs.Prelude.{◌≡◌, ℕ, ◌==◌, ◌<◌, false, cond, count_by, filter, List, All, Any, IsSomeAnd, length, map, nat_lt, slice_get, Option, Some, None}
+use Rattle.std.specs.Prelude.{◌≡◌, ℕ, ◌==◌, ◌<◌, false, cond, count_by, filter, List, All, Any, IsSomeAnd, length, map, nat_lt, replicate, slice_get, Option, Some, None}
 use Rattle.std.specs.List.{range_with_len, sum_by, zip}
 use Rattle.xh_core.specs.declared.flight.FlightLine.{FlightLine}
 use Rattle.xh_kernel.specs.Places.{places_of}
@@ -15,7 +15,7 @@ use Rattle.xh_place.specs.Seen.{PlaceSeen}
 use Rattle.xh_records.specs.declared.shape.Shape.{Shape}
 use Rattle.xh_arena.specs.Views.{LotOf}
 use Rattle.xh_records.specs.Deeds.{Arrives, Deed, IsLeft, carried, deeds_by, events}
-use Rattle.xh_records.specs.History.{LeadsTo, StartsWith, all_free, process_of}
+use Rattle.xh_records.specs.History.{LeadsTo, StartsWith, process_of}
 use Rattle.xh_books.specs.Ledgers.{is_listed}
 
 -- ---- the lines, of all records, each given by the word of its holder and its length
@@ -55,7 +55,7 @@ pub record IsInFlight (s : Shape) (places : List PlaceSeen) (lengths : List ℕ)
   pub seen : All (λ p. StartsWith log p.front) places
   pub owners : Ownership
   pub count : length owners ≡ length lengths
-  pub leads : LeadsTo s.records (all_free (length owners)) (events log) owners
+  pub leads : LeadsTo s.records (replicate (length owners) None) (events log) owners
   pub arrives : Arrives log
   pub passed : (k d : ℕ) → IsHeldBy owners k (Some (Direction d)) → (l : LotOf Body) × (slice_get lengths k ≡ Some l.len) × IsLeft log (number_of s.records k) d l
   pub quiet : (k n : ℕ) (h : Option Holder) → slice_get lengths k ≡ Some n → IsHeldBy owners k h → Stands (places_of places) (number_of s.records k) n h

@@ -43,13 +43,6 @@ arenas_of = map (λ v. v.arena)
 abbrev pub all_lengths : List ArenaState → List ℕ
 all_lengths = flat_map lengths_of
 
--- all that the workers took of all arenas, and all that they gave back
-abbrev pub all_taken : List AccountOf → ℕ
-all_taken = sum_by (λ a. sum_by (λ t. t.taken) a.tallies)
-
-abbrev pub all_back : List AccountOf → ℕ
-all_back = sum_by (λ a. sum_by (λ t. t.back) a.tallies)
-
 -- ---- places
 
 -- the lines of the places, in their order; one that nobody has had has none

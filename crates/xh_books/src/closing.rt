@@ -1,5 +1,5 @@
 //! Closing the books.
-ghost use Rattle.std.specs.Prelude.{◌≡◌, ◌+◌, ◌*◌, ◌<◌, ◌≤◌, All, IfErr, IfOk, length, sum, vec_len};
+ghost use Rattle.std.specs.Prelude.{◌≡◌, ◌⊎◌, ◌+◌, ◌*◌, ◌<◌, ◌≤◌, All, Err, IfErr, IfOk, Ok, length, sum, vec_len};
 ghost use Rattle.std.specs.List.{sum_by};
 ghost use Rattle.xh_calls.specs.Parts.{IsOpen, vault_names};
 ghost use Rattle.xh_kernel.specs.Places.{places_of};
@@ -9,14 +9,14 @@ ghost use Rattle.xh_books.specs.Closing.{IsClosed};
 ghost use Rattle.xh_core.specs.Flight.{AreFlightLines};
 ghost use Rattle.xh_books.specs.Flight.{IsInFlight};
 ghost use Rattle.xh_books.specs.inner.Steps.{AreAt, TellFlight, lens_of};
-ghost use Rattle.xh_books.specs.Ledgers.{IsBalanced, all_back, all_lengths, all_taken, arena_lines, arenas_of, bytes_in_flight, bytes_owned, place_lines};
+ghost use Rattle.xh_books.specs.Ledgers.{IsBalanced, all_lengths, arena_lines, arenas_of, bytes_in_flight, bytes_owned, place_lines};
 
 use crate::auditing::audit;
 use crate::collecting::gather;
 use crate::flight::flight_lines;
 use crate::lines::{arena_lines, bytes_in, bytes_out, end_places};
 use arrayvec::ArrayVec;
-use std::alloc::Global;
+use std::alloc::{AllocError, Global};
 use xh_arena::{Lot, Vault};
 use xh_core::{
     ARENA_LINES, ArenaLine, FLIGHT_LINES, FlightLine, Ledger, PLACE_LINES, PlaceLine, Refused,
@@ -101,7 +101,6 @@ pub fn close_books<N: Names>(
     ensures places { IfOk result (λ b. b.ledger.places.items ≡ place_lines (places_of places.items)) }
     ensures owned { IfOk result (λ b. b.ledger.owned ≡ bytes_owned (places_of places.items)) }
     ensures flight { IfOk result (λ b. b.ledger.flight ≡ bytes_in_flight (places_of places.items) records.shape.records 0 (all_lengths (arenas_of vaults.items))) }
-    ensures moved { IfOk result (λ b. all_taken accounts.items ≡ all_back accounts.items + b.ledger.out) }
     ensures balanced { IfOk result (λ b. IsBalanced b.ledger) }
     ensures in_flight { IfOk result (λ b. IsInFlight records.shape places.items (all_lengths (arenas_of vaults.items)) b.flight.items) }
     ensures lines { IfOk result (λ b. AreFlightLines b.ledger.flight b.flight.items) }
@@ -116,11 +115,9 @@ pub fn close_books<N: Names>(
     Ok(Books { ledger, flight })
 }
 
-/// Takes a kernel apart whose workers are done, compares what they have seen with the histories of its places,
-/// and closes its books. The accounts and the looks of all workers are handed in.
-///
-/// OutOfMemory where a growth was refused.
-pub fn close_kernel<N: Names>(
+// Takes a kernel apart whose workers are done, compares what they have seen with the histories of its places,
+// and closes its books.
+fn close<N: Names>(
     alloc: Global,
     kernel: Kernel<N>,
     accounts: Vec<Account<N>>,
@@ -145,5 +142,36 @@ pub fn close_kernel<N: Names>(
             },
         ) => close_books(alloc, vaults, places, records, accounts),
         Err(refused) => Err(refused),
+    }
+}
+
+/// Ends a kernel by what was done on it: takes it apart, compares what its workers have seen with the histories of its
+/// places, and closes its books. What was done is an answer, with the accounts and the looks of all workers; or it
+/// failed, and the kernel is let go. Answers with the books what was done.
+///
+/// The error of what was done, and that of a refused growth where one was refused here.
+pub fn close_kernel<N: Names, A: Drop, E: From<AllocError>>(
+    alloc: Global,
+    kernel: Kernel<N>,
+    done: Result<(A, Vec<Account<N>>, Vec<Look>), E>,
+) -> Result<(A, Books), E>
+    requires accounts { IfOk done (λ d. vec_len d.1 ≡ N.parts.workers) }
+    requires looks { IfOk done (λ d. All (λ l. l.table ≡ N.parts.histories) d.2.items) }
+    ensures closed { IfOk result (λ r. (d : _) × (done ≡ Ok d) × (r.0 ≡ d.0) × IsClosed N.parts d.1.items d.2.items r.1.ledger r.1.flight.items) }
+    ensures arenas { IfOk result (λ r. (length r.1.ledger.arenas.items ≡ length N.parts.records.shape.names) × All (λ a. a.size ≡ N.parts.size) r.1.ledger.arenas.items) }
+    ensures places { IfOk result (λ r. All (λ line. line.place < PLACES) r.1.ledger.places.items) }
+    ensures balanced { IfOk result (λ r. IsBalanced r.1.ledger) }
+    ensures lines { IfOk result (λ r. AreFlightLines r.1.ledger.flight r.1.flight.items) }
+    ensures refused { IfErr result (λ e. (done ≡ Err e) ⊎ ((why : _) × E.from_gives why e)) }
+{
+    match done {
+        Ok((answer, accounts, looks)) => match close(alloc, kernel, accounts, looks) {
+            Ok(books) => Ok((answer, books)),
+            Err(_refused) => Err(E::from(AllocError)),
+        },
+        Err(error) => {
+            kernel.discard();
+            Err(error)
+        }
     }
 }

@@ -1,8 +1,12 @@
 -- A refusal for want of space is that of the arena's vault.
 use Rattle.xh_calls.proofs.Common.{Block, END_BYTES, Err, FrontOf, IfErr, IsRefusedBy, IsUnopened, LacksSpace, Leaves, MatchOption, None, Ok, OnOk, Option, PartsOf, Refused, Result, Some, Tests}
+use Rattle.xh_calls.specs.Vaults.{AsksVault}
+use Rattle.xh_calls.proofs.Common.{Bool, cond, false, true}
+use Rattle.xh_calls.proofs.Common.{Allocates, FindsFull, IsLack, PlaceSeen, SpaceOf, Status, alloc_tests, start, subst, ◌++◌}
 use Rattle.xh_calls.proofs.Common.{Unopened, VaultOf, first_refusal, inl, inr, ℕ, ⊎_elim, ◌*◌, ◌<◌, ◌≡◌}
 use Rattle.xh_arena.specs.declared.refused.Refused.{Refused as Reason}
 use Rattle.xh_arena.specs.declared.refused.Refused.TheVariants as arena
+use Rattle.xh_core.specs.Space.{rounded}
 use Rattle.xh_core.specs.declared.refused.Refused.TheVariants as refused
 use Rattle.xh_place.specs.Vaults.{IsNoPair, IsRefusedAt}
 
@@ -56,3 +60,50 @@ module _ {V : Type 0} (old new : V) (front : V → FrontOf VaultOf) (parts : Par
         → MatchOption o (IfErr opened (λ u. LacksSo u.why)) (λ e. IfErr opened (λ u. u.why ≡ e) × OnOk opened ⊥ × Q)
     go None h = each opened h
     go (Some e) h = (h.0, h.1, h.2.1)
+
+-- ---- alloc
+
+-- more is so of a vault that refused
+lack_as : (full : Type 0) (P Q : Reason → Type 0) → ((why : Reason) → P why → Q why) → (e : Refused) → IsLack full P e → IsLack full Q e
+lack_as full P Q f refused.NoSpace h = f arena.NoSpace h
+lack_as full P Q f refused.Worn h = f arena.Worn h
+lack_as full P Q f e h = h
+
+-- the same call, of a process of the same status, and of arenas of which more is so
+pub allocated : {status status' : Status} {space space' : SpaceOf} (n a : ℕ) (old new : PlaceSeen) (result : Result Block Refused) → status ≡ status' → space.arenas ≡ space'.arenas
+    → space.size ≡ space'.size → ((b m : ℕ) (why : Reason) → space.refuses b m why → space'.refuses b m why) → Allocates status space n a old new result → Allocates status' space' n a old new result
+allocated {status} {status'} {space} {space'} n a old new result same arenas size more h = record {
+  made = h.made;
+  block = h.block;
+  refused = h.refused;
+  why = subst (λ (o : Option Refused). MatchOption o (IfErr result (Lack space')) Refuses) (λ i. first_refusal (start (same i) ++ alloc_tests a (arenas i) n (size i))) (go (first_refusal
+      (start status ++ alloc_tests a space.arenas n space.size)) h.why);
+}
+  where
+    Lack : SpaceOf → Refused → Type 0
+    Lack s = IsLack (FindsFull 0 old new a) (s.refuses a (rounded n))
+
+    Refuses : Refused → Type 0
+    Refuses e = (result ≡ Err e) × (new.place ≡ old.place)
+
+    each : (r : Result Block Refused) → IfErr r (Lack space) → IfErr r (Lack space')
+    each (Ok b) l = tt
+    each (Err e) l = lack_as (FindsFull 0 old new a) (space.refuses a (rounded n)) (space'.refuses a (rounded n)) (more a (rounded n)) e l
+
+    go : (o : Option Refused) → MatchOption o (IfErr result (Lack space)) Refuses → MatchOption o (IfErr result (Lack space')) Refuses
+    go None l = each result l
+    go (Some e) l = l
+
+-- NoSpace and Worn are what the vault answered: no test of an alloc refuses so
+pub asks : (parts : PartsOf) (a n : ℕ) (f g : FrontOf VaultOf) (full same : Type 0) (P : Reason → Type 0) (w x y z : Bool) (result : Result Block Refused)
+    → ((why : Reason) → P why → IsRefusedBy parts a n f g why)
+    → MatchOption (cond w (Some refused.NoProcess) (cond x (Some refused.Ended) (cond y (Some refused.NoArena) (cond z (Some refused.BadSize) None)))) (IfErr result (IsLack full P))
+    (λ e. (result ≡ Err e) × same) → IfErr result (AsksVault parts a n f g)
+asks parts a n f g full same P true x y z result more h = rw h.0 tt
+asks parts a n f g full same P false true y z result more h = rw h.0 tt
+asks parts a n f g full same P false false true z result more h = rw h.0 tt
+asks parts a n f g full same P false false false true result more h = rw h.0 tt
+asks parts a n f g full same P false false false false (Ok b) more h = tt
+asks parts a n f g full same P false false false false (Err refused.NoSpace) more h = inr (more arena.NoSpace h)
+asks parts a n f g full same P false false false false (Err refused.Worn) more h = more arena.Worn h
+asks parts a n f g full same P false false false false (Err e) more h = tt

@@ -1,7 +1,7 @@
 -- What the looks at several endpoints find, from one look to the next.
-use Rattle.xh_calls.proofs.Common.{AnswersAt, AreEmpty, AreEndsOf, AreReady, Bool, Empty, EndDoes, Err, HaveNone, IsUntaken, List, MatchResult, None, NotEndpoint, Ok, Option, PeerClosed, PlaceOf}
-use Rattle.xh_calls.proofs.Common.{PlaceSeen, Posted, Refused, Result, Some, TakesFirst, [], ap, arith, closed, cond, end_tests, first_later, first_of, first_refusal, found, inl, inr, not, refl}
-use Rattle.xh_calls.proofs.Common.{start, subst, suc, sym, true, ℕ, ⊎_elim, ◌++◌, ◌∙◌, ◌∷◌, ◌≡◌, ◌⊎◌}
+use Rattle.xh_calls.proofs.Common.{AnswersAt, FindNone, AreEndsOf, AreReady, Bool, Empty, EndDoes, Err, HaveNone, IsUntaken, List, MatchResult, None, NotEndpoint, Ok, Option, PeerClosed, PlaceOf}
+use Rattle.xh_calls.proofs.Common.{PlaceSeen, EndpointOf, Refused, Result, Some, TakesFirst, [], ap, arith, closed, cond, end_tests, first_later, first_of, first_refusal, found, inl, inr, not, refl}
+use Rattle.xh_calls.proofs.Common.{TakesAt, start, status_at, subst, suc, sym, true, ℕ, ⊎_elim, ◌++◌, ◌∙◌, ◌∷◌, ◌≡◌, ◌⊎◌}
 use Rattle.xh_channel.specs.declared.refused.Refused.{Refused as NoMessage}
 use Rattle.xh_channel.specs.declared.refused.Refused.TheVariants as none
 use Rattle.xh_channel.specs.Refusals.{same_refusal}
@@ -11,14 +11,13 @@ use Rattle.xh_model.proofs.Keyed.{put_at, put_other}
 use Rattle.xh_place.specs.declared.got.Taken.{Taken}
 use Rattle.xh_place.specs.Endpoints.{Takes as EndTakes}
 use Rattle.xh_calls.specs.declared.several.Answered.{Answered}
-use Rattle.xh_calls.specs.Messages.{Takes}
 
 -- ---- endpoints stay
 
-stays : (e r : ℕ) (p q : PlaceOf) (does : Posted → Posted → Type 0) → EndDoes e p q does → has_end (found p r) ≡ true → has_end (found q r) ≡ true
+stays : (e r : ℕ) (p q : PlaceOf) (does : EndpointOf → EndpointOf → Type 0) → EndDoes e p q does → has_end (found p r) ≡ true → has_end (found q r) ≡ true
 stays e r p q does d h = let is = d.3 in let was = d.2 in grind (arith, put_at, put_other)
 
-all_stay : (e : ℕ) (es : List ℕ) (p q : PlaceOf) (does : Posted → Posted → Type 0) → EndDoes e p q does → AreEndsOf p es → AreEndsOf q es
+all_stay : (e : ℕ) (es : List ℕ) (p q : PlaceOf) (does : EndpointOf → EndpointOf → Type 0) → EndDoes e p q does → AreEndsOf p es → AreEndsOf q es
 all_stay e [] p q does d h = h
 all_stay e (r ∷ rs) p q does d h = (stays e r p q does d h.0, all_stay e rs p q does d h.1)
 
@@ -28,12 +27,13 @@ end_passes (Some b) h = ap (λ (x : Bool). cond (not x) (Some NotEndpoint) None)
 
 -- ---- a look that finds no message
 
-module _ (p e : ℕ) (s t : PlaceSeen) (why : Refused) (runs : first_refusal (start p s.place) ≡ None) (end : has_end (found s.place e) ≡ true) (takes : Takes p e s t (Err why)) where
+module _ (p e : ℕ) (s t : PlaceSeen) (why : Refused) (runs : first_refusal (start (status_at p s.place)) ≡ None) (end : has_end (found s.place e) ≡ true) (takes : TakesAt
+    (status_at p s.place) e s t (Err why)) where
   untaken : IsUntaken e s.place t.place why
-  untaken = rw (first_later (start p s.place) (end_tests (found s.place e)) runs ∙ end_passes (found s.place e) end) at takes
+  untaken = rw (first_later (start (status_at p s.place)) (end_tests (found s.place e)) runs ∙ end_passes (found s.place e) end) at takes
 
   pub ready_after : (es : List ℕ) → AreEndsOf s.place es → AreReady p t.place es
-  ready_after es h = (ap (λ (x : PlaceOf). first_refusal (start p x)) untaken.1.3 ∙ runs, all_stay e es s.place t.place (EndTakes (Err untaken.0)) untaken.1 h)
+  ready_after es h = (ap (λ (x : PlaceOf). first_refusal (start (status_at p x))) untaken.1.3 ∙ runs, all_stay e es s.place t.place (EndTakes (Err untaken.0)) untaken.1 h)
 
   which : (why ≡ Empty) ⊎ (why ≡ closed)
   which = go untaken.0 untaken.1 untaken.2 where
@@ -50,7 +50,7 @@ none_append : (p : ℕ) (a b : List ℕ) (s t u : PlaceSeen) → HaveNone p a s 
 none_append p [] b s t u h k = subst (λ (x : PlaceSeen). HaveNone p b x u) h k
 none_append p (e ∷ es) b s t u h k = (h.0, h.1, h.2, none_append p es b h.0 t u h.3 k)
 
-empties : (p : ℕ) (es : List ℕ) (s t : PlaceSeen) → AreEmpty p es s t → HaveNone p es s t
+empties : (p : ℕ) (es : List ℕ) (s t : PlaceSeen) → FindNone p es s t → HaveNone p es s t
 empties p [] s t h = h
 empties p (e ∷ es) s t h = (h.0, Empty, h.1, empties p es h.0 t h.3)
 
@@ -64,7 +64,7 @@ module _ (p : ℕ) (es : List ℕ) (s u : PlaceSeen) (at : ℕ) where
 
   -- one endpoint more before it
   later_by : (e : ℕ) (r : PlaceSeen) (answer : Result Taken Refused) (h : AnswersAt p es s u (answered at answer))
-      → MatchResult answer (λ _. HaveNone p (e ∷ h.before) r h.first × (u ≡ h.mid)) (λ why. (why ≡ closed) × AreEmpty p (e ∷ h.before) r h.first × HaveNone p h.after h.mid u)
+      → MatchResult answer (λ _. HaveNone p (e ∷ h.before) r h.first × (u ≡ h.mid)) (λ why. (why ≡ closed) × FindNone p (e ∷ h.before) r h.first × HaveNone p h.after h.mid u)
       → AnswersAt p (e ∷ es) r u (answered (suc at) answer)
   later_by e r answer h looks = record {
     before = e ∷ h.before;
@@ -79,17 +79,18 @@ module _ (p : ℕ) (es : List ℕ) (s u : PlaceSeen) (at : ℕ) where
   }
 
   -- behind an endpoint without a message
-  message : (e : ℕ) (r : PlaceSeen) (why : Refused) → Takes p e r s (Err why) → (taken : Taken) → AnswersAt p es s u (answered at (Ok taken)) → AnswersAt p (e ∷ es) r u (answered (suc at) (Ok taken))
+  message : (e : ℕ) (r : PlaceSeen) (why : Refused) → TakesAt (status_at p r.place) e r s (Err why) → (taken : Taken) → AnswersAt p es s u (answered at (Ok taken))
+      → AnswersAt p (e ∷ es) r u (answered (suc at) (Ok taken))
   message e r why k taken h = later_by e r (Ok taken) h ((s, why, k, h.looks.0), h.looks.1)
 
-pub first_takes : (p e : ℕ) (es ends : List ℕ) (s t : PlaceSeen) (taken : Taken) → ends ≡ e ∷ es → Takes p e s t (Ok taken) → AnswersAt p ends s t (answered 0 (Ok taken))
+pub first_takes : (p e : ℕ) (es ends : List ℕ) (s t : PlaceSeen) (taken : Taken) → ends ≡ e ∷ es → TakesAt (status_at p s.place) e s t (Ok taken) → AnswersAt p ends s t (answered 0 (Ok taken))
 first_takes p e es ends s t taken is k = subst (λ (xs : List ℕ). AnswersAt p xs s t (answered 0 (Ok taken))) (sym is)
     (record { before = []; e = e; after = es; first = s; mid = t; ends_are = refl; index = refl; takes = k; looks = (refl, refl) })
 
-shut_first : (p e : ℕ) (es : List ℕ) (s t u : PlaceSeen) → Takes p e s t (Err closed) → HaveNone p es t u → AnswersAt p (e ∷ es) s u (answered 0 (Err closed))
+shut_first : (p e : ℕ) (es : List ℕ) (s t u : PlaceSeen) → TakesAt (status_at p s.place) e s t (Err closed) → HaveNone p es t u → AnswersAt p (e ∷ es) s u (answered 0 (Err closed))
 shut_first p e es s t u k h = record { before = []; e = e; after = es; first = s; mid = t; ends_are = refl; index = refl; takes = k; looks = (refl, refl, h) }
 
-over_empty : (p e : ℕ) (es : List ℕ) (r s u : PlaceSeen) (later : Result Answered Refused) → Takes p e r s (Err Empty) → s.place ≡ r.place → TakesFirst p es s u later
+over_empty : (p e : ℕ) (es : List ℕ) (r s u : PlaceSeen) (later : Result Answered Refused) → TakesAt (status_at p r.place) e r s (Err Empty) → s.place ≡ r.place → TakesFirst p es s u later
     → TakesFirst p (e ∷ es) r u (first_of Empty later)
 over_empty p e es r s u (Ok a) k same h = go a.answer h where
   go : (answer : Result Taken Refused) → AnswersAt p es s u (answered a.at answer) → TakesFirst p (e ∷ es) r u (first_of Empty (Ok (answered a.at answer)))
@@ -97,14 +98,16 @@ over_empty p e es r s u (Ok a) k same h = go a.answer h where
   go (Err why) g = later_by p es s u a.at e r (Err why) g (g.looks.0, (s, k, same, g.looks.1), g.looks.2)
 over_empty p e es r s u (Err why) k same h = (h.0, (s, k, same, h.1))
 
-over_closed : (p e : ℕ) (es : List ℕ) (s t u : PlaceSeen) (later : Result Answered Refused) → Takes p e s t (Err closed) → TakesFirst p es t u later → TakesFirst p (e ∷ es) s u (first_of closed later)
+over_closed : (p e : ℕ) (es : List ℕ) (s t u : PlaceSeen) (later : Result Answered Refused) → TakesAt (status_at p s.place) e s t (Err closed) → TakesFirst p es t u later
+    → TakesFirst p (e ∷ es) s u (first_of closed later)
 over_closed p e es s t u (Ok a) k h = go a.answer h where
   go : (answer : Result Taken Refused) → AnswersAt p es t u (answered a.at answer) → TakesFirst p (e ∷ es) s u (first_of closed (Ok (answered a.at answer)))
   go (Ok taken) g = message p es t u a.at e s closed k taken g
   go (Err why) g = shut_first p e es s t u k (looked p es t u a.at why g)
 over_closed p e es s t u (Err why) k h = shut_first p e es s t u k (empties p es t u h.1)
 
-pub took : (p e : ℕ) (es : List ℕ) (s t u : PlaceSeen) (why : Refused) (later : Result Answered Refused) → AreReady p s.place (e ∷ es) → Takes p e s t (Err why) → (why ≡ Empty → t.place ≡ s.place)
+pub took : (p e : ℕ) (es : List ℕ) (s t u : PlaceSeen) (why : Refused) (later : Result Answered Refused) → AreReady p s.place (e ∷ es) → TakesAt (status_at p s.place) e s t (Err why)
+    → (why ≡ Empty → t.place ≡ s.place)
     → TakesFirst p es t u later → TakesFirst p (e ∷ es) s u (first_of why later)
 took p e es s t u why later r k same h = ⊎_elim
     (λ (w : why ≡ Empty). rw w (over_empty p e es s t u later (rw w at k) (same w) h))

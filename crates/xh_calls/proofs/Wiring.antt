@@ -2,7 +2,7 @@
 use Rattle.xh_calls.proofs.Common.{AreBlocks, Closes, ClosesAgain, Content, END_BYTES, Err, Fits, HasGivenBack, HasLow, IsClosed, IsEndAt, IsSeen, IsUntouched, Item, List, MatchOption, None}
 use Rattle.xh_calls.proofs.Common.{Option, PlaceSeen, Refused, Result, Some, TallyOf, [], alone, ap, arith, bytes, end_tests, endpoint, option_map, header_of, first_later, first_refusal, found, inr}
 use Rattle.xh_calls.proofs.Common.{kind_of}
-use Rattle.xh_calls.proofs.Common.{last, refl, start, subst, with_blocks, ℕ, ◌++◌, ◌∙◌, ◌∷◌, ◌≡◌, ◌≤◌}
+use Rattle.xh_calls.proofs.Common.{last, refl, start, status_at, subst, with_blocks, ℕ, ◌++◌, ◌∙◌, ◌∷◌, ◌≡◌, ◌≤◌}
 use Rattle.xh_model.specs.Keyed.{without}
 use Rattle.xh_place.proofs.Swept.{last_bytes}
 
@@ -15,15 +15,15 @@ long_end (bytes xs) n channel side at fits = absurd at
 long_end (endpoint e) n channel side at fits = fits
 
 -- side 0 was closed
-pub closes_again : (p r channel : ℕ) (before after : List TallyOf) (old new : PlaceSeen) (result : Result ℕ Refused) → first_refusal (start p old.place) ≡ None → AreBlocks old.place.blocks
+pub closes_again : (p r channel : ℕ) (before after : List TallyOf) (old new : PlaceSeen) (result : Result ℕ Refused) → first_refusal (start (status_at p old.place)) ≡ None → AreBlocks old.place.blocks
     → HasLow channel r old.place
-    → (n : ℕ) × Closes p r n old new result × HasGivenBack n before after → (n : ℕ) × ClosesAgain p channel r old new n × HasGivenBack n before after
+    → (n : ℕ) × Closes (status_at p old.place) r n old new result × HasGivenBack n before after → (n : ℕ) × ClosesAgain p channel r old new n × HasGivenBack n before after
 closes_again p r channel before after old new result none blocks low h =
     let x = low.0 in let n = h.0 in
     let tests : first_refusal (end_tests (found old.place r)) ≡ None = ap (λ (o : Option Item). first_refusal (end_tests (option_map header_of o))) low.1
     ∙ passes_end x.len x.content channel 0 low.2 in
     let d : IsClosed r old new n result = subst (λ (o : Option Refused). MatchOption o (IsClosed r old new n result) (λ refused. (result ≡ Err refused) × IsUntouched old new n))
-    (first_later (start p old.place) (end_tests (found old.place r)) none ∙ tests) h.1 in
+    (first_later (start (status_at p old.place)) (end_tests (found old.place r)) none ∙ tests) h.1 in
     let long : x.len ≡ END_BYTES = long_end x.content x.len channel 0 low.2 (blocks.whole r x low.1).1 in
     let front = without r old.place.blocks in
     let whole : last r old.place.blocks ≡ front ++ (r, x) ∷ [] = ap (λ (o : Option Item). front ++ alone r o) low.1 in

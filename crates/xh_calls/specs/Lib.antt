@@ -6,7 +6,5 @@ pub mod Places
 pub mod Calls
 pub mod Channels
 pub mod Wires
-pub mod Messages
 pub mod Several
-pub mod Endings
 pub mod inner

@@ -1,6 +1,6 @@
 -- A take at the first of several endpoints that has a message.
 use Rattle.std.specs.Prelude.{◌≡◌, ℕ, List, [], ◌∷◌, ◌++◌, length, nat_lt, Result, Err, MatchResult}
-use Rattle.xh_core.specs.Calls.{end_tests}
+use Rattle.xh_core.specs.Calls.{end_tests, start}
 use Rattle.xh_core.specs.Refusing.{Tests}
 use Rattle.xh_core.specs.Several.{has_twice}
 use Rattle.xh_core.specs.declared.refused.Refused.{Refused}
@@ -10,8 +10,8 @@ use Rattle.xh_place.specs.Places.{PlaceOf, found}
 use Rattle.xh_place.specs.Seen.{PlaceSeen}
 use Rattle.xh_calls.specs.declared.several.Answered.{Answered}
 use Rattle.xh_calls.specs.declared.several.TheConstants.{MAX_ENDS}
-use Rattle.xh_calls.specs.Messages.{Takes}
-use Rattle.xh_calls.specs.Places.{start}
+use Rattle.xh_calls.specs.Places.{status_at}
+use Rattle.xh_place.specs.Messages.{TakesAt}
 
 -- ---- why it is refused
 
@@ -21,19 +21,19 @@ each_end place [] = []
 each_end place (e ∷ es) = end_tests (found place e) ++ each_end place es
 
 abbrev pub several_tests : ℕ → PlaceOf → List ℕ → Tests
-several_tests p place ends = start p place ++ (nat_lt MAX_ENDS (length ends), TooMany) ∷ (each_end place ends ++ (has_twice ends, Twice) ∷ [])
+several_tests p place ends = start (status_at p place) ++ (nat_lt MAX_ENDS (length ends), TooMany) ∷ (each_end place ends ++ (has_twice ends, Twice) ∷ [])
 
 -- ---- what its looks find
 
 -- each of the endpoints was looked at, in their order, and none had a message
 abbrev pub HaveNone : ℕ → List ℕ → PlaceSeen → PlaceSeen → Type 0
 HaveNone p [] old new = new ≡ old
-HaveNone p (e ∷ es) old new = (mid : PlaceSeen) × (why : Refused) × Takes p e old mid (Err why) × HaveNone p es mid new
+HaveNone p (e ∷ es) old new = (mid : PlaceSeen) × (why : Refused) × TakesAt (status_at p old.place) e old mid (Err why) × HaveNone p es mid new
 
 -- each of the endpoints was looked at, in their order, and had no message and an open peer
-abbrev pub AreEmpty : ℕ → List ℕ → PlaceSeen → PlaceSeen → Type 0
-AreEmpty p [] old new = new ≡ old
-AreEmpty p (e ∷ es) old new = (mid : PlaceSeen) × Takes p e old mid (Err Empty) × (mid.place ≡ old.place) × AreEmpty p es mid new
+abbrev pub FindNone : ℕ → List ℕ → PlaceSeen → PlaceSeen → Type 0
+FindNone p [] old new = new ≡ old
+FindNone p (e ∷ es) old new = (mid : PlaceSeen) × TakesAt (status_at p old.place) e old mid (Err Empty) × (mid.place ≡ old.place) × FindNone p es mid new
 
 -- what the take of an endpoint answers whose peer is closed and which has no message
 abbrev pub closed : Refused
@@ -48,13 +48,13 @@ pub record AnswersAt (p : ℕ) (ends : List ℕ) (old new : PlaceSeen) (a : Answ
   pub mid : PlaceSeen
   pub ends_are : ends ≡ before ++ e ∷ after
   pub index : a.at ≡ length before
-  pub takes : Takes p e first mid a.answer
+  pub takes : TakesAt (status_at p first.place) e first mid a.answer
   pub looks : MatchResult a.answer (λ _. HaveNone p before old first × (new ≡ mid))
-      (λ why. (why ≡ closed) × AreEmpty p before old first × HaveNone p after mid new)
+      (λ why. (why ≡ closed) × FindNone p before old first × HaveNone p after mid new)
 
 -- one of the endpoints answers, or each of them was looked at and was empty
 abbrev pub TakesFirst : ℕ → List ℕ → PlaceSeen → PlaceSeen → Result Answered Refused → Type 0
-TakesFirst p ends old new result = MatchResult result (AnswersAt p ends old new) (λ why. (why ≡ Empty) × AreEmpty p ends old new)
+TakesFirst p ends old new result = MatchResult result (AnswersAt p ends old new) (λ why. (why ≡ Empty) × FindNone p ends old new)
 
 -- the first test that refuses is the answer, and then nothing changed; else the first message is taken
 abbrev pub TakesAny : ℕ → List ℕ → PlaceSeen → PlaceSeen → Result Answered Refused → Type 0

@@ -1,5 +1,6 @@
 -- What the steps of wiring do: side 0 of a channel is of the one process, and side 1 comes to the other.
 use Rattle.std.specs.Prelude.{◌≡◌, ◌≢◌, ◌⊎◌, ℕ, ◌+◌, ◌*◌, ◌≤◌, true, false, List, [], ◌∷◌, Option, Some, Result, Ok, Err, MatchResult}
+use Rattle.xh_core.specs.Calls.{start}
 use Rattle.xh_core.specs.declared.block.Block.{Block}
 use Rattle.xh_core.specs.declared.refused.Refused.{Refused}
 use Rattle.xh_core.specs.declared.status.Status.TheVariants.{Vacant}
@@ -13,10 +14,10 @@ use Rattle.xh_place.specs.Ends.{is_here, IsTooLate}
 use Rattle.xh_place.specs.Places.{Item, PlaceOf, with_less, with_more}
 use Rattle.xh_place.specs.Seen.{Becomes, IsElsewhere, IsSeen, PlaceSeen, SawWord}
 use Rattle.xh_calls.specs.declared.wired.Wired.{Wired}
-use Rattle.xh_calls.specs.Channels.{Opens}
-use Rattle.xh_calls.specs.Endings.{IsUntouched}
+use Rattle.xh_calls.specs.Channels.{OpensChannel}
 use Rattle.xh_calls.specs.Parts.{PartsOf}
-use Rattle.xh_calls.specs.Places.{start}
+use Rattle.xh_calls.specs.Places.{status_at}
+use Rattle.xh_place.specs.Calls.{IsUntouched}
 
 -- the block of the record is side 0 of the channel
 abbrev pub HasLow : ℕ → ℕ → PlaceOf → Type 0
@@ -31,9 +32,9 @@ toward_high channel = 2 * channel + 1
 -- p opened a channel, and passed its side 1 on the direction toward it; or could not open one
 abbrev pub OpensToward : PartsOf → ℕ → ℕ → Option (List Row) → PlaceSeen → PlaceSeen → Result Wired Refused → Type 0
 OpensToward parts p arena contract old new result = MatchResult result
-    (λ w. (mid : PlaceSeen) × Opens parts p arena contract old mid (Ok (w.low, w.high)) × HasLow w.channel w.low.rec mid.place
+    (λ w. (mid : PlaceSeen) × OpensChannel parts p arena contract old mid (Ok (w.low, w.high)) × HasLow w.channel w.low.rec mid.place
     × Becomes (with_less (toward_high w.channel) w.high.rec mid.place) mid new)
-    (λ refused. Opens parts p arena contract old new (Err refused))
+    (λ refused. OpensChannel parts p arena contract old new (Err refused))
 
 -- ---- side 1, on its way to q on the direction d
 
@@ -56,5 +57,5 @@ ReceivesOr q d r bytes old new result = MatchResult result (λ _. (bytes ≡ 0) 
 -- p doesn't run any more; or has it no more; or it was closed: no fewer bytes came back than it has
 abbrev pub ClosesAgain : ℕ → ℕ → ℕ → PlaceSeen → PlaceSeen → ℕ → Type 0
 ClosesAgain p channel r old new bytes =
-    (IsUntouched old new bytes × (((refused : Refused) × (first_refusal (start p old.place) ≡ Some refused)) ⊎ (HasLow channel r old.place → ⊥)))
+    (IsUntouched old new bytes × (((refused : Refused) × (first_refusal (start (status_at p old.place)) ≡ Some refused)) ⊎ (HasLow channel r old.place → ⊥)))
     ⊎ ((result : Result ℕ Refused) × IsClosed r old new bytes result × (END_BYTES ≤ bytes))

@@ -3,20 +3,22 @@ ghost use Rattle.std.specs.Prelude.{◌≡◌, ◌/◌, ◌<◌, IfErr, MatchRes
 ghost use Rattle.xh_core.specs.Space.{rounded};
 ghost use Rattle.xh_model.specs.declared.limits.TheConstants.{MAX_RECORDS};
 ghost use Rattle.xh_place.specs.Places.{IsPlaceOf};
-ghost use Rattle.xh_place.specs.Seen.{IsSamePlace, Stays};
+ghost use Rattle.xh_place.specs.Calls.{Allocates, FreesBlock, Lends, LendsMut, Reads, Splits, Writes};
+ghost use Rattle.xh_place.specs.Seen.{IsSamePlace};
 ghost use Rattle.xh_place.specs.Tallies.{gave, took};
-ghost use Rattle.xh_calls.specs.Calls.{Allocates, Frees, Lends, LendsMut, Reads, Splits, Writes};
-ghost use Rattle.xh_calls.specs.Places.{IsServed, IsTillOf};
+ghost use Rattle.xh_calls.specs.Calls.{space_of};
+ghost use Rattle.xh_calls.specs.Places.{IsServed, IsTillOf, status_at};
 ghost use Rattle.xh_calls.specs.Vaults.{AsksVault};
 
+use crate::arenas::Lent;
 use crate::heap::Heap;
 use crate::names::Names;
-use crate::starting::check_start;
+use crate::starting::check_number;
 use crate::till::Till;
 use std::alloc::Global;
 use std::sync::Wait;
 use xh_core::{Block, Refused};
-use xh_place::{Gate, Place};
+use xh_place::{Desk, Gate, Place};
 
 impl<N: Names> Heap<N> {
     /// As `Kernel::alloc`, by whoever has the place's lock.
@@ -34,12 +36,23 @@ impl<N: Names> Heap<N> {
         requires { IsServed N.parts place.old.place till.old }
         ensures same { IsSamePlace place.old place.new × IsTillOf N.parts till.new }
         ensures tallies { MatchResult result (λ b. till.new.tallies.items ≡ took arena b.len till.old.tallies.items) (λ _. till.new.tallies.items ≡ till.old.tallies.items) }
-        ensures made { Allocates N.parts p n arena place.old place.new result }
+        ensures made { Allocates (status_at p place.old.place) (space_of N.parts) n arena place.old place.new result }
         ensures refused { IfErr result (AsksVault N.parts arena (rounded n) till.old.seen till.new.seen) }
     {
-        check_start(place, p)?;
+        check_number(place, p)?;
         let tallies = till.tallies.as_mut_slice();
-        at_desk!(rt, self, gate, till, tallies, desk => place.alloc(alloc, &mut desk, n, arena))
+        let mut lent = Lent::new(rt, &self.arenas, &mut till.seen);
+        let mut desk = Desk {
+            rt,
+            records: &self.records,
+            channels: &self.channels,
+            vaults: &mut lent,
+            tallies,
+            gate,
+        };
+        let answer = place.alloc(alloc, &mut desk, n, arena);
+        lent.end(&mut till.seen);
+        answer
     }
 
     /// As `Kernel::split`, by whoever has the place's lock.
@@ -57,10 +70,21 @@ impl<N: Names> Heap<N> {
         requires { IsServed N.parts place.old.place till.old }
         ensures same { IsSamePlace place.old place.new × IsTillOf N.parts till.new }
         ensures tallies { till.new.tallies.items ≡ till.old.tallies.items }
-        ensures cut { Splits p r k place.old place.new result }
+        ensures cut { Splits (status_at p place.old.place) r k place.old place.new result }
     {
-        check_start(place, p)?;
-        at_desk!(rt, self, gate, till, &mut [], desk => place.split(alloc, &mut desk, r, k))
+        check_number(place, p)?;
+        let mut lent = Lent::new(rt, &self.arenas, &mut till.seen);
+        let mut desk = Desk {
+            rt,
+            records: &self.records,
+            channels: &self.channels,
+            vaults: &mut lent,
+            tallies: &mut [],
+            gate,
+        };
+        let answer = place.split(alloc, &mut desk, r, k);
+        lent.end(&mut till.seen);
+        answer
     }
 
     /// As `Kernel::read`, by whoever has the place's lock.
@@ -73,11 +97,10 @@ impl<N: Names> Heap<N> {
         out: &mut [u8],
     ) -> Result<(), Refused>
         requires { IsPlaceOf N.parts.records place.old.place }
-        ensures same { Stays place.old place.new }
-        ensures read { Reads p r at place.old.place out.new result }
+        ensures read { Reads (status_at p place.old.place) r at out.new place.old place.new result }
         ensures refused { OnErr result (out.new ≡ out.old) }
     {
-        check_start(place, p)?;
+        check_number(place, p)?;
         place.read(&self.records, r, at, out)
     }
 
@@ -91,10 +114,9 @@ impl<N: Names> Heap<N> {
         bytes: &[u8],
     ) -> Result<(), Refused>
         requires { IsPlaceOf N.parts.records place.old.place }
-        ensures same { IsSamePlace place.old place.new }
-        ensures written { Writes p r at bytes.now place.old.place place.new.place result }
+        ensures { Writes (status_at p place.old.place) r at bytes.now place.old place.new result }
     {
-        check_start(place, p)?;
+        check_number(place, p)?;
         place.write(&self.records, r, at, bytes)
     }
 
@@ -108,10 +130,9 @@ impl<N: Names> Heap<N> {
     ) -> Result<A, Refused>
         requires place { IsPlaceOf N.parts.records place.old.place }
         requires callable { F.IsAlwaysCallable f.old }
-        ensures same { Stays place.old place.new }
-        ensures lent { Lends F.FnMut p r f.old f.new place.old.place result }
+        ensures { Lends F.FnMut (status_at p place.old.place) r f.old f.new place.old place.new result }
     {
-        check_start(place, p)?;
+        check_number(place, p)?;
         place.with_bytes(&self.records, r, f)
     }
 
@@ -125,10 +146,9 @@ impl<N: Names> Heap<N> {
     ) -> Result<A, Refused>
         requires place { IsPlaceOf N.parts.records place.old.place }
         requires callable { F.IsAlwaysCallable f.old }
-        ensures same { IsSamePlace place.old place.new }
-        ensures lent { LendsMut F.FnMut p r f.old f.new place.old.place place.new.place result }
+        ensures { LendsMut F.FnMut (status_at p place.old.place) r f.old f.new place.old place.new result }
     {
-        check_start(place, p)?;
+        check_number(place, p)?;
         place.with_bytes_mut(&self.records, r, f)
     }
 
@@ -146,10 +166,21 @@ impl<N: Names> Heap<N> {
         ensures same { IsSamePlace place.old place.new × IsTillOf N.parts till.new }
         ensures tallies { MatchResult result (λ n. till.new.tallies.items ≡ gave (r / MAX_RECORDS) n till.old.tallies.items) (λ _. till.new.tallies.items ≡ till.old.tallies.items) }
         ensures arena { OnOk result (r / MAX_RECORDS < length N.parts.records.shape.names) }
-        ensures freed { Frees p r place.old.place place.new.place result }
+        ensures freed { FreesBlock (status_at p place.old.place) r place.old place.new result }
     {
-        check_start(place, p)?;
+        check_number(place, p)?;
         let tallies = till.tallies.as_mut_slice();
-        at_desk!(rt, self, gate, till, tallies, desk => place.free(&mut desk, r))
+        let mut lent = Lent::new(rt, &self.arenas, &mut till.seen);
+        let mut desk = Desk {
+            rt,
+            records: &self.records,
+            channels: &self.channels,
+            vaults: &mut lent,
+            tallies,
+            gate,
+        };
+        let answer = place.free(&mut desk, r);
+        lent.end(&mut till.seen);
+        answer
     }
 }

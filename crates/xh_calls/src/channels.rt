@@ -1,25 +1,25 @@
 //! Channels are opened, for one process or toward another.
 ghost use Rattle.std.specs.Prelude.{◌≡◌, ℕ, ◌+◌, ◌*◌, ◌<◌, ◌++◌, Err, IfErr, IfOk, MatchResult, Ok, false, length, true, ⊤};
 ghost use Rattle.xh_channel.specs.Pairs.{IsPair};
-ghost use Rattle.xh_channel.specs.Queues.{Posted};
+ghost use Rattle.xh_channel.specs.Endpoint.{EndpointOf};
 ghost use Rattle.xh_core.specs.declared.status.Status.TheVariants as status;
-ghost use Rattle.xh_core.specs.Calls.{arena_tests};
+ghost use Rattle.xh_core.specs.Calls.{arena_tests, start};
 ghost use Rattle.xh_core.specs.Refusing.{Tested};
 ghost use Rattle.xh_model.specs.declared.limits.TheConstants.{CHANNELS, END_BYTES};
 ghost use Rattle.xh_place.specs.Ending.{HasGivenBack};
-ghost use Rattle.xh_place.specs.Ends.{AreListed, IsUnopened, Opens as OpensEnds};
-ghost use Rattle.xh_place.specs.Starts.{start as starts};
+ghost use Rattle.xh_place.specs.Ends.{AreListed, IsUnopened, Opens};
 ghost use Rattle.xh_place.specs.Places.{IsPlaceOf};
 ghost use Rattle.xh_place.specs.Seen.{FindsFull, IsSamePlace, PlaceSeen, Stays};
 ghost use Rattle.xh_records.specs.History.{StartsWith};
 ghost use Rattle.xh_place.specs.Tallies.{took};
 ghost use Rattle.xh_records.specs.Seats.{IsRecord};
-ghost use Rattle.xh_calls.specs.Channels.{GoesBy, Opens};
-ghost use Rattle.xh_calls.specs.Places.{IsServed, IsTillOf, start};
+ghost use Rattle.xh_calls.specs.Channels.{GoesBy, OpensChannel};
+ghost use Rattle.xh_calls.specs.Places.{IsServed, IsTillOf, status_at};
 ghost use Rattle.xh_calls.specs.Vaults.{AsksVault};
 ghost use Rattle.xh_calls.specs.inner.Opening.{LacksSpace};
 ghost use Rattle.xh_calls.specs.Wires.{ClosesAgain, HasLow, OpensToward, ReceivesOr, toward_high};
 
+use crate::arenas::Lent;
 use crate::heap::Heap;
 use crate::names::Names;
 use crate::starting::check_start;
@@ -28,7 +28,7 @@ use crate::wired::Wired;
 use std::sync::Wait;
 use xh_channel::Endpoint;
 use xh_core::{Block, Contract, Refused};
-use xh_place::{Gate, Place, Unopened};
+use xh_place::{Desk, Gate, Place, Unopened};
 
 // Both ends of a new channel, with a contract or without.
 fn open_channel<N: Names, R: Wait>(
@@ -67,7 +67,7 @@ fn finish<N: Names, R: Wait>(
 impl<N: Names> Heap<N> {
     // The tests of an open that come before the channel's.
     fn test_open(&self, place: &Place, p: u16, arena: u32) -> Result<(), Refused>
-        ensures { Tested (start p place.now.place ++ arena_tests arena (length N.parts.records.shape.names)) result (λ _. place.now.place.state ≡ status.Running) }
+        ensures { Tested (start (status_at p place.now.place) ++ arena_tests arena (length N.parts.records.shape.names)) result (λ _. place.now.place.state ≡ status.Running) }
     {
         check_start(place, p)?;
         if arena >= u32::from(self.arenas.count) {
@@ -90,12 +90,23 @@ impl<N: Names> Heap<N> {
         requires served { IsServed N.parts place.old.place till.old }
         requires fresh { IsPair low high }
         ensures same { IsSamePlace place.old place.new × IsTillOf N.parts till.new }
-        ensures opened { OpensEnds arena low high place.old.place place.new.place till.old.tallies.items till.new.tallies.items result }
-        ensures why { IsUnopened (starts place.old.place.state ++ arena_tests arena (length place.old.place.shape.names)) (place.new.place ≡ place.old.place)
+        ensures opened { Opens arena low high place.old.place place.new.place till.old.tallies.items till.new.tallies.items result }
+        ensures why { IsUnopened (start place.old.place.state ++ arena_tests arena (length place.old.place.shape.names)) (place.new.place ≡ place.old.place)
             (LacksSpace N.parts arena (FindsFull 1 place.old place.new arena) till.old.seen till.new.seen) result }
     {
         let tallies = till.tallies.as_mut_slice();
-        at_desk!(rt, self, gate, till, tallies, desk => place.open(&mut desk, low, high, arena))
+        let mut lent = Lent::new(rt, &self.arenas, &mut till.seen);
+        let mut desk = Desk {
+            rt,
+            records: &self.records,
+            channels: &self.channels,
+            vaults: &mut lent,
+            tallies,
+            gate,
+        };
+        let answer = place.open(&mut desk, low, high, arena);
+        lent.end(&mut till.seen);
+        answer
     }
 
     /// As `Kernel::open`, by whoever has the place's lock; the channel goes by the contract, or by none.
@@ -112,9 +123,9 @@ impl<N: Names> Heap<N> {
         requires { IsServed N.parts place.old.place till.old }
         ensures same { IsSamePlace place.old place.new × IsTillOf N.parts till.new }
         ensures tallies { MatchResult result (λ _. till.new.tallies.items ≡ took arena (2 * END_BYTES) till.old.tallies.items) (λ _. till.new.tallies.items ≡ till.old.tallies.items) }
-        ensures opened { Opens N.parts p arena contract place.old place.new result }
+        ensures opened { OpensChannel N.parts p arena contract place.old place.new result }
         ensures refused { IfErr result (AsksVault N.parts arena (2 * END_BYTES) till.old.seen till.new.seen) }
-        ensures ends { IfOk result (λ ends. (place.new.place.state ≡ status.Running) × ((low : Posted) × (high : Posted) × IsPair low high × AreListed low high place.new.place ends)) }
+        ensures ends { IfOk result (λ ends. (place.new.place.state ≡ status.Running) × ((low : EndpointOf) × (high : EndpointOf) × IsPair low high × AreListed low high place.new.place ends)) }
     {
         self.test_open(place, p, arena)?;
         let (low, high) = open_channel(rt, self, contract)?;
@@ -168,7 +179,18 @@ impl<N: Names> Heap<N> {
     {
         let tallies = till.tallies.as_mut_slice();
         let toward = 2 * channel + 1;
-        at_desk!(rt, self, gate, till, tallies, desk => place.accept_end(&mut desk, q, r, toward))
+        let mut lent = Lent::new(rt, &self.arenas, &mut till.seen);
+        let mut desk = Desk {
+            rt,
+            records: &self.records,
+            channels: &self.channels,
+            vaults: &mut lent,
+            tallies,
+            gate,
+        };
+        let answer = place.accept_end(&mut desk, q, r, toward);
+        lent.end(&mut till.seen);
+        answer
     }
 
     // Whether the record is side 0 of the channel.

@@ -2,16 +2,17 @@
 ghost use Rattle.std.specs.Prelude.{◌≡◌, ℕ};
 ghost use Rattle.xh_place.specs.Ending.{HasGivenBack};
 ghost use Rattle.xh_place.specs.Seen.{IsSamePlace};
-ghost use Rattle.xh_calls.specs.Endings.{Closes, Stops};
-ghost use Rattle.xh_calls.specs.Places.{IsServed, IsTillOf};
+ghost use Rattle.xh_place.specs.Calls.{Closes, Stops};
+ghost use Rattle.xh_calls.specs.Places.{IsServed, IsTillOf, status_at};
 
+use crate::arenas::Lent;
 use crate::heap::Heap;
 use crate::names::Names;
-use crate::starting::{check_start, check_stop};
+use crate::starting::check_number;
 use crate::till::Till;
 use std::sync::Wait;
 use xh_core::Refused;
-use xh_place::{Gate, Place};
+use xh_place::{Desk, Gate, Place};
 
 impl<N: Names> Heap<N> {
     /// As `Kernel::close`, by whoever has the place's lock.
@@ -26,11 +27,22 @@ impl<N: Names> Heap<N> {
     ) -> Result<u64, Refused>
         requires { IsServed N.parts place.old.place till.old }
         ensures same { IsSamePlace place.old place.new × IsTillOf N.parts till.new }
-        ensures closed { (bytes : ℕ) × Closes p e bytes place.old place.new result × HasGivenBack bytes till.old.tallies.items till.new.tallies.items }
+        ensures closed { (bytes : ℕ) × Closes (status_at p place.old.place) e bytes place.old place.new result × HasGivenBack bytes till.old.tallies.items till.new.tallies.items }
     {
-        check_start(place, p)?;
+        check_number(place, p)?;
         let tallies = till.tallies.as_mut_slice();
-        at_desk!(rt, self, gate, till, tallies, desk => place.close_end(&mut desk, e))
+        let mut lent = Lent::new(rt, &self.arenas, &mut till.seen);
+        let mut desk = Desk {
+            rt,
+            records: &self.records,
+            channels: &self.channels,
+            vaults: &mut lent,
+            tallies,
+            gate,
+        };
+        let answer = place.close_end(&mut desk, e);
+        lent.end(&mut till.seen);
+        answer
     }
 
     /// As `Kernel::exit`, by whoever has the place's lock.
@@ -45,10 +57,21 @@ impl<N: Names> Heap<N> {
     ) -> Result<u64, Refused>
         requires { IsServed N.parts place.old.place till.old }
         ensures same { IsSamePlace place.old place.new × IsTillOf N.parts till.new }
-        ensures stopped { (bytes : ℕ) × Stops p budget bytes place.old place.new result × HasGivenBack bytes till.old.tallies.items till.new.tallies.items }
+        ensures stopped { (bytes : ℕ) × Stops (status_at p place.old.place) budget bytes place.old place.new result × HasGivenBack bytes till.old.tallies.items till.new.tallies.items }
     {
-        check_stop(place, p)?;
+        check_number(place, p)?;
         let tallies = till.tallies.as_mut_slice();
-        at_desk!(rt, self, gate, till, tallies, desk => place.stop(&mut desk, budget))
+        let mut lent = Lent::new(rt, &self.arenas, &mut till.seen);
+        let mut desk = Desk {
+            rt,
+            records: &self.records,
+            channels: &self.channels,
+            vaults: &mut lent,
+            tallies,
+            gate,
+        };
+        let answer = place.stop(&mut desk, budget);
+        lent.end(&mut till.seen);
+        answer
     }
 }

@@ -5,7 +5,7 @@ ghost use Rattle.xh_model.specs.declared.limits.TheConstants.{PLACES};
 use crate::arenas::Arenas;
 use crate::names::Names;
 use xh_channel::Channels;
-use xh_place::Body;
+use xh_place::{Body, Desk};
 use xh_records::Records;
 
 /// The records, the channels and the locks of the arenas. A call reaches them with the lock of its place
@@ -17,4 +17,25 @@ pub struct Heap<N: Names> {
     pub arenas: Arenas<N>,
     ghost named: { (records ≡ N.parts.records) × (channels.depth ≡ N.parts.depth) },
     ghost places: { records.shape.places ≡ PLACES },
+}
+
+impl<N: Names> Heap<N> {
+    // What a call on messages works on: no vault and no tally.
+    pub(crate) fn desk<'a, R, G>(
+        &'a self,
+        rt: &'a R,
+        none: &'a mut (),
+        gate: &'a G,
+    ) -> Desk<'a, R, (), G>
+        ensures { result.records.now ≡ N.parts.records }
+    {
+        Desk {
+            rt,
+            records: &self.records,
+            channels: &self.channels,
+            vaults: none,
+            tallies: &mut [],
+            gate,
+        }
+    }
 }

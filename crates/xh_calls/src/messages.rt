@@ -2,11 +2,12 @@
 ghost use Rattle.std.specs.Prelude.{◌≡◌, IfErr};
 ghost use Rattle.xh_place.specs.Places.{IsPlaceOf};
 ghost use Rattle.xh_place.specs.Seen.{IsSamePlace};
-ghost use Rattle.xh_calls.specs.Messages.{Gives, Takes};
+ghost use Rattle.xh_place.specs.Messages.{Gives, TakesAt};
+ghost use Rattle.xh_calls.specs.Places.{status_at};
 
 use crate::heap::Heap;
 use crate::names::Names;
-use crate::starting::check_start;
+use crate::starting::check_number;
 use std::sync::Wait;
 use xh_core::Refused;
 use xh_place::{Gate, Place, Taken};
@@ -25,11 +26,10 @@ impl<N: Names> Heap<N> {
     ) -> Result<u64, Refused>
         requires { IsPlaceOf N.parts.records place.old.place }
         ensures same { IsSamePlace place.old place.new }
-        ensures given { Gives p e tag blocks.now place.old place.new result }
+        ensures given { Gives (status_at p place.old.place) e tag blocks.now place.old place.new result }
     {
-        check_start(place, p)?;
-        let desk = desk!(rt, self, gate);
-        place.give(&desk, e, tag, blocks)
+        check_number(place, p)?;
+        place.give(&self.desk(rt, &mut (), gate), e, tag, blocks)
     }
 
     /// As `Kernel::take`, by whoever has the place's lock.
@@ -43,11 +43,10 @@ impl<N: Names> Heap<N> {
     ) -> Result<Taken, Refused>
         requires { IsPlaceOf N.parts.records place.old.place }
         ensures same { IsSamePlace place.old place.new }
-        ensures taken { Takes p e place.old place.new result }
+        ensures taken { TakesAt (status_at p place.old.place) e place.old place.new result }
         ensures empty { IfErr result (λ why. why ≡ Refused.Empty → place.new.place ≡ place.old.place) }
     {
-        check_start(place, p)?;
-        let desk = desk!(rt, self, gate);
-        place.take(&desk, e)
+        check_number(place, p)?;
+        place.take(&self.desk(rt, &mut (), gate), e)
     }
 }

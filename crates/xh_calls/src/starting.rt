@@ -1,45 +1,41 @@
 //! Whether a process runs at a place, and its start.
-ghost use Rattle.std.specs.Prelude.{◌≡◌, false};
+ghost use Rattle.std.specs.Prelude.{◌≡◌, IfErr, OnOk, Some};
 ghost use Rattle.xh_core.specs.declared.status.Status.TheVariants as status;
-ghost use Rattle.xh_core.specs.Refusing.{Tested};
-ghost use Rattle.xh_core.specs.Statuses.{is_over};
+ghost use Rattle.xh_core.specs.Calls.{start, stop};
+ghost use Rattle.xh_core.specs.Refusing.{Tested, first_refusal};
 ghost use Rattle.xh_model.specs.Words.{place_of};
 ghost use Rattle.xh_place.specs.Places.{IsPlaceOf};
 ghost use Rattle.xh_records.specs.History.{StartsWith};
 ghost use Rattle.xh_calls.specs.Calls.{Spawns};
-ghost use Rattle.xh_calls.specs.Places.{start, status_of, stop};
+ghost use Rattle.xh_calls.specs.Places.{status_at};
 
 use crate::heap::Heap;
 use crate::names::Names;
 use xh_core::{Refused, Status};
-use xh_model::limits::{GENERATIONS, PLACES};
+use xh_model::limits::{GENERATIONS, PLACES, PROCESSES};
 use xh_place::Place;
 
-// How far the process has come.
-fn status_of(place: &Place, p: u16) -> Status
-    ensures { result ≡ status_of p place.now.place }
+// The process is the place's latest, whose state the place's calls test. NoProcess, and Ended of one before it.
+pub(crate) fn check_number(place: &Place, p: u16) -> Result<(), Refused>
+    ensures latest { OnOk result (status_at p place.now.place ≡ place.now.place.state) }
+    ensures other { IfErr result (λ e. (first_refusal (start (status_at p place.now.place)) ≡ Some e) × (first_refusal (stop (status_at p place.now.place)) ≡ Some e)) }
 {
     let latest = place.process();
-    let known = if latest == p {
-        place.state()
-    } else {
-        Status::Ended
-    };
-    known.of(p, latest / u16::from(PLACES))
+    if latest == p && p < PROCESSES {
+        return Ok(());
+    }
+    match Status::Ended.of(p, latest / u16::from(PLACES)) {
+        Status::Vacant => Err(Refused::NoProcess),
+        _ => Err(Refused::Ended),
+    }
 }
 
 /// The tests of a call by the process: it is the latest of the place, and runs. NoProcess, Ended.
 pub fn check_start(place: &Place, p: u16) -> Result<(), Refused>
-    ensures { Tested (start p place.now.place) result (λ _. place.now.place.state ≡ status.Running) }
+    ensures { Tested (start (status_at p place.now.place)) result (λ _. place.now.place.state ≡ status.Running) }
 {
-    status_of(place, p).check_start()
-}
-
-// The tests of an end of the process: it is the latest of the place, and has not ended. NoProcess, Ended.
-pub(crate) fn check_stop(place: &Place, p: u16) -> Result<(), Refused>
-    ensures { Tested (stop p place.now.place) result (λ _. is_over place.now.place.state ≡ false) }
-{
-    status_of(place, p).check_stop()
+    check_number(place, p)?;
+    place.state().check_start()
 }
 
 impl<N: Names> Heap<N> {

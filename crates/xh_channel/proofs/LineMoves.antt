@@ -1,9 +1,10 @@
 -- What a put, a take and a shut of the line that a seat holds make of its account, and what contracts see of that.
-use Rattle.xh_channel.proofs.Common.{Account, Bool, Counts, Err, Grows, IsEndBy, IsSettled, IsSome, LiesFor, LineEnd, LineView, Lined, List, Me, Message, None, Ok}
-use Rattle.xh_channel.proofs.Common.{OnErr, OnlySaw, Option, Part, PutsBy, PutsOn, Result, Shuts, ShutsBy, Some, TableId, TakesBy, TakesOn, [], and_parts, and_right, ap, append_assoc, arith}
-use Rattle.xh_channel.proofs.Common.{counts_at, end_of, false, false_from_ne_true, holding, inl, inr, is_drained, is_nothing, length, length-append, length_push, line_view, message}
+use Rattle.xh_channel.proofs.Common.{Account, Bool, Counts, EndpointOf, EndpointPuts, EndpointShuts, EndpointTakes, Err, Grows, IfOk, IsEndBy, IsSettled, IsSome, LiesFor, LineEnd}
+use Rattle.xh_channel.proofs.Common.{LinePuts, LineShuts, LineTakes, LineView, SeatDoes, Lined, List, Me, Message, None, Ok}
+use Rattle.xh_channel.proofs.Common.{OnErr, OnlySaw, Option, Part, Result, Some, TableId, [], ap, append_assoc, arith}
+use Rattle.xh_channel.proofs.Common.{end_of, false, false_from_ne_true, holding, inl, inr, length, length-append, length_push, line_view, message, on_line}
 use Rattle.xh_channel.proofs.Common.{now_shut, number, numbers_before, numbers_join, one_put, one_taken, refl, rest, subst, suc, sym, take, take-append_seam, true, true≢false, unwrap_or, waiting}
-use Rattle.xh_channel.proofs.Common.{zero, ℕ, ⊎_elim, ◌&&◌, ◌++◌, ◌+◌, ◌-◌, ◌<◌, ◌||◌, ◌∙◌, ◌∷◌, ◌≡◌, ◌≤◌}
+use Rattle.xh_channel.proofs.Common.{zero, ℕ, ⊎_elim, ◌++◌, ◌+◌, ◌-◌, ◌<◌, ◌||◌, ◌∙◌, ◌∷◌, ◌≡◌, ◌≤◌}
 use Rattle.arrayvec.specs.ArrayVec.{ArrayVec}
 use Rattle.xh_model.specs.declared.row.Row.{Row}
 use Rattle.xh_model.specs.Direction.{AreNumberedFrom, IsDirection}
@@ -13,11 +14,7 @@ use Rattle.xh_channel.specs.declared.refused.Refused.TheVariants as refused
 use Rattle.xh_channel.specs.declared.unsent.Unsent.{Unsent}
 use Rattle.xh_channel.specs.declared.unsent.Unsent.TheVariants.{Full, PeerClosed, Protocol}
 use Rattle.xh_channel.specs.inner.LineRule.{Found, IsTold, counts_in, own_by, peer_by, settled, settled_by}
-use Rattle.xh_channel.specs.Ends.{one_put, one_taken, now_shut}
-use Rattle.xh_channel.specs.Lines.{Lined, PutsOn, Shuts, TakesOn, end_of, is_drained, is_nothing, waiting}
-use Rattle.xh_channel.specs.LineSeats.{LineView, OnlySaw, PutsBy, ShutsBy, TakesBy, counts_at}
-use Rattle.xh_channel.specs.Numbers.{message, number}
-use Rattle.xh_channel.specs.inner.LineRule.{Grows, IsEndBy, IsSettled, LiesFor, holding, line_view}
+use Rattle.xh_model.specs.declared.limits.TheConstants.{MAX_MESSAGES}
 
 or_right : (a b : Bool) → b ≡ true → (a || b) ≡ true
 or_right true b e = refl
@@ -55,7 +52,6 @@ accounts v peer own rows depth state line e =
         rows = e.0.rows i;
         depth = e.0.depth i;
         state = e.0.state i;
-        drained = e.0.drained i;
         sent = sym e.1.waits.0 i;
         got = (ap (λ (c : Counts). take c.taken peer.sent) counts ∙ ap (take (length own.got)) e.0.waits.0 ∙ take-append_seam own.got (waiting (end_of line v.side))) i;
         shut = (counts i).shut;
@@ -93,7 +89,6 @@ module _ (table : TableId) (v : Part) (peer : Account) (line line' : Lined) (fou
     state = ap (λ (x : LineEnd). x.state) same ∙ was.1.state;
     counts = ap (λ (x : LineEnd). x.counts) same ∙ was.1.counts;
     waits = subst (λ (x : List Message × LineEnd). IsDirection number x.0 peer.got (waiting x.1)) (λ i. (sent i, sym same i)) was.1.waits;
-    drained = ap is_drained same ∙ was.1.drained;
   }
 
   -- what contracts see of the seat once it gave the line back
@@ -118,30 +113,26 @@ module _ (table : TableId) (v : Part) (peer : Account) (line line' : Lined) (fou
       let told = false_from_ne_true v.told.shut (λ p. true≢false (sym (found.told.2 p) ∙ closed)) in
       (told, (λ i. told i || closed i))
 
-  -- an end that isn't shut isn't drained
-  undrained : (end : LineEnd) → end.counts.shut ≡ false → is_drained end ≡ false
-  undrained end e = ap (λ b. b && is_nothing (waiting end)) e
-
   -- where the line stayed as it was
   kept : line' ≡ line → IsSettled (holding v peer) line' × (own_by (holding v peer) line' ≡ own)
   kept same = settled_so v peer own line' found.few (subst (λ (l : Lined). Ends k l own peer) (sym same) was) (omega arith, omega arith, λ p. p) found.told
 
-  only_saw : line' ≡ line → OnlySaw (line_view table v) seen
-  only_saw same = (seen_is own (kept same).1, saw_no_less)
-
-  same_counts : line' ≡ line → counts_at seen ≡ counts_in own
-  same_counts same = ap counts_in (kept same).1
+  only_saw : line' ≡ line → (e : EndpointOf) → OnlySaw (on_line e (line_view table v)) (on_line e seen)
+  only_saw same e = (ap (on_line e) (seen_is own (kept same).1), saw_no_less)
 
   -- what the contract allows by the line it allows by the account
   step_by : (tag side : ℕ) (next : Option ℕ) → allowed line.rows (end_of line k).state tag side ≡ next → allowed own.rows own.state tag side ≡ next
   step_by tag side next e = (λ i. allowed (sym was.0.rows i) (sym was.0.state i) tag side) ∙ e
 
   module _ (tag : ℕ) (blocks : ArrayVec ℕ) where
+    next_at : (e : EndpointOf) → e.spot.side ≡ k → (next : Option ℕ) → allowed line.rows (end_of line k).state tag k ≡ next → allowed own.rows own.state tag e.spot.side ≡ next
+    next_at e at next is = ap (allowed own.rows own.state tag) at ∙ step_by tag k next is
+
     full : length (waiting (end_of line (1 - k))) ≡ line.depth → v.told.taken + own.depth ≤ length own.sent
     full e = let sent = ap length was.1.waits.0 in let deep = was.0.depth in let told = found.told.1 in omega (arith, length-append peer.got (waiting (end_of line (1 - k))))
 
-    pub put_done : (r : Result ℕ Unsent) → PutsOn line line' k tag blocks r → OnErr r (line' ≡ line)
-        → IsSettled (holding v peer) line' × PutsBy (line_view table v) seen tag blocks r × OnErr r (OnlySaw (line_view table v) seen)
+    pub put_done : (r : Result ℕ Unsent) → LinePuts line line' k tag blocks r → OnErr r (line' ≡ line)
+        → IsSettled (holding v peer) line' × SeatDoes (line_view table v) seen (λ e e'. EndpointPuts e e' tag blocks r × OnErr r (OnlySaw e e'))
     put_done (Ok n) p _ =
         let m : Message = message n tag blocks in
         let o = was.0 in
@@ -151,7 +142,6 @@ module _ (table : TableId) (v : Part) (peer : Account) (line line' : Lined) (fou
         let longer : length (own.sent ++ m ∷ []) ≡ suc (length own.sent) = omega (arith, length_push own.sent m) in
         let numbered = numbers_join number 0 own.sent m e.waits.1 (is_next ∙ ap suc (omega arith)) in
         let own' : Account = record own { sent = own.sent ++ m ∷ []; state = (end_of line' k).state } in
-        let step = step_by tag k (Some own'.state) r.4.1 in
         let counts : counts_in own' ≡ one_put (counts_in own) = λ i. record { put = longer i; taken = length own.got; shut = own.shut } in
         let ends' : Ends k line' own' peer = (
           record {
@@ -160,92 +150,78 @@ module _ (table : TableId) (v : Part) (peer : Account) (line line' : Lined) (fou
             state = refl;
             counts = r.1 ∙ ap one_put o.counts ∙ sym counts;
             waits = subst (IsDirection number peer.sent own.got) (sym p.waits) o.waits;
-            drained = (λ i. (r.1 i).shut && is_nothing (p.waits i)) ∙ o.drained;
           },
           record {
             rows = p.rules.0 ∙ e.rows;
             depth = p.rules.1 ∙ e.depth;
             state = p.state ∙ e.state;
             counts = p.counts ∙ e.counts;
-            waits = (ap (λ l. l ++ m ∷ []) e.waits.0 ∙ append_assoc peer.got (waiting (end_of line (1 - k))) (m ∷ []) ∙ ap (λ l. peer.got ++ l) (sym r.4.0), numbered);
-            drained = undrained (end_of line' (1 - k)) (ap (λ (c : Counts). c.shut) p.counts ∙ r.3) ∙ sym (undrained (end_of line (1 - k)) r.3) ∙ e.drained;
+            waits = (ap (λ l. l ++ m ∷ []) e.waits.0 ∙ append_assoc peer.got (waiting (end_of line (1 - k))) (m ∷ []) ∙ ap (λ l. peer.got ++ l) (sym r.3), numbered);
           },
         ) in
         let s = settled_so v peer own' line' found.few ends' (omega arith, omega arith, λ q. q) found.told in
-        let unshut = saw_open r.3 in
-        let so : PutsBy (line_view table v) (record (line_view table (record v { own = own' })) { peer_shut = saw }) tag blocks (Ok n) =
-        (is_next, counts, subst IsSome (sym step) refl, unshut, (step, (λ i. record (line_view table (record v { own = own' })) { peer_shut = (unshut.1 ∙ sym unshut.0) i }), numbered)) in
-        (s.0, subst (λ (x : LineView). PutsBy (line_view table v) x tag blocks (Ok n)) (sym (seen_is own' s.1)) so, tt)
-    put_done (Err (Protocol back)) p same = ((kept same).0, (p.put.0, same_counts same, step_by tag k None p.put.2), only_saw same)
-    put_done (Err (PeerClosed back)) p same = ((kept same).0, (p.put.0, same_counts same, subst IsSome (sym (step_by tag k _ refl)) p.put.2, saw_shut p.put.3), only_saw same)
-    put_done (Err (Full back)) p same = (
-      (kept same).0,
-      (
-        p.put.0,
-        same_counts same,
-        subst IsSome (sym (step_by tag k _ refl)) p.put.2,
-        saw_open p.put.3,
-        ⊎_elim (λ e. inl (full e)) (λ e. inr (ap (λ (c : Counts). c.put) (sym was.0.counts)
-            ∙ e)) p.put.4,
-      ),
-      only_saw same,
-    )
+        let unshut = saw_open r.2 in
+        let after : LineView = record (line_view table (record v { own = own' })) { peer_shut = saw } in
+        let same : after ≡ record after { peer_shut = v.told.shut } = λ i. record after { peer_shut = (unshut.1 ∙ sym unshut.0) i } in
+        let so : SeatDoes (line_view table v) after (λ e e'. EndpointPuts e e' tag blocks (Ok n)) =
+        λ f at. (is_next, unshut.0, (ap (on_line f) same, numbered, next_at f at (Some own'.state) r.4)) in
+        (s.0, λ f at. (subst (λ x. EndpointPuts (on_line f (line_view table v)) (on_line f x) tag blocks (Ok n)) (sym (seen_is own' s.1)) (so f at), tt))
+    put_done (Err (Protocol back)) p same = ((kept same).0, λ e at. ((p.put.0, next_at e at None p.put.1), only_saw same e))
+    put_done (Err (PeerClosed back)) p same = ((kept same).0, λ e at. ((p.put.0, subst IsSome (sym (next_at e at _ refl)) p.put.1, saw_shut p.put.2), only_saw same e))
+    put_done (Err (Full back)) p same =
+        let unshut = saw_open p.put.2 in
+        let far = ⊎_elim (λ e. inl (full e)) (λ e. inr (ap (λ (c : Counts). c.put) (sym was.0.counts) ∙ e)) p.put.3 in
+        ((kept same).0, λ e at. ((p.put.0, subst IsSome (sym (next_at e at _ refl)) p.put.1, unshut.0, unshut.1, far), only_saw same e))
 
   emptied : waiting (end_of line k) ≡ [] → v.told.put ≤ length own.got
   emptied e = let sent = ap length was.0.waits.0 in let none = ap length e in let told = found.told.0 in omega (arith, length-append own.got (waiting (end_of line k)))
 
-  -- where nothing waits, a side that was shut is drained
-  emptied_drained : waiting (end_of line k) ≡ [] → own.shut ≡ true → own.drained ≡ true
-  emptied_drained e closed = sym was.0.drained ∙ (λ i. (was.0.counts i).shut && is_nothing (e i)) ∙ ap (λ b. b && true) closed
-
-  found_none : line' ≡ line → waiting (end_of line k) ≡ [] → (v.told.put ≤ length own.got) × (own.shut ≡ true → seen.drained ≡ true)
-  found_none same e = (emptied e, λ closed. ap (λ (a : Account). a.drained) (kept same).1 ∙ emptied_drained e closed)
-
-  pub take_done : (r : Result Message Refused) → TakesOn line line' k r → OnErr r (line' ≡ line)
-      → IsSettled (holding v peer) line' × TakesBy (line_view table v) seen r × OnErr r (OnlySaw (line_view table v) seen)
-  take_done (Ok m) t _ =
+  pub take_done : (r : Result Message Refused) → LineTakes line line' k r → OnErr r (line' ≡ line) → IfOk r (λ m. m.no ≤ MAX_MESSAGES)
+      → IsSettled (holding v peer) line' × SeatDoes (line_view table v) seen (λ e e'. EndpointTakes e e' r × OnErr r (OnlySaw e e'))
+  take_done (Ok m) t _ few =
       let o = was.0 in
       let r = t.taken in
-      let own' : Account = record own { got = own.got ++ m ∷ []; state = (end_of line' k).state; drained = is_drained (end_of line' k) } in
+      let own' : Account = record own { got = own.got ++ m ∷ []; state = (end_of line' k).state } in
       let longer : length (own.got ++ m ∷ []) ≡ suc (length own.got) = omega (arith, length_push own.got m) in
       let counts : counts_in own' ≡ one_taken (counts_in own) = λ i. record { put = length own.sent; taken = longer i; shut = own.shut } in
-      let split : peer.sent ≡ (own.got ++ m ∷ []) ++ waiting (end_of line' k) = o.waits.0 ∙ ap (λ l. own.got ++ l) r.2.0 ∙ sym (append_assoc own.got (m ∷ []) (waiting (end_of line' k))) in
+      let split : peer.sent ≡ (own.got ++ m ∷ []) ++ waiting (end_of line' k) = o.waits.0 ∙ ap (λ l. own.got ++ l) r.2 ∙ sym (append_assoc own.got (m ∷ []) (waiting (end_of line' k))) in
       let ends' : Ends k line' own' peer = (
-        record { rows = t.rules.0 ∙ o.rows; depth = t.rules.1 ∙ o.depth; state = refl; counts = r.1 ∙ ap one_taken o.counts ∙ sym counts; waits = (split, o.waits.1); drained = refl },
+        record { rows = t.rules.0 ∙ o.rows; depth = t.rules.1 ∙ o.depth; state = refl; counts = r.1 ∙ ap one_taken o.counts ∙ sym counts; waits = (split, o.waits.1) },
         peer_same t.rules.0 t.rules.1 t.peer own' refl,
       ) in
       let s = settled_so v peer own' line' found.few ends' (omega arith, omega arith, λ q. q) found.told in
       let numbered = numbers_before number 0 (own.got ++ m ∷ []) (waiting (end_of line' k)) (subst (AreNumberedFrom number 0) split o.waits.1) in
-      let waited : own.drained ≡ false = sym o.drained ∙ ap (λ l. (end_of line k).counts.shut && is_nothing l) r.2.0 ∙ and_right (end_of line k).counts.shut false refl in
-      let so : TakesBy (line_view table v) (record (line_view table (record v { own = own' })) { peer_shut = saw }) (Ok m) =
-      (r.0 ∙ ap (λ (c : Counts). suc c.taken) o.counts, counts, (step_by m.tag (1 - k) (Some own'.state) r.2.1, refl, saw_no_less, numbered, waited)) in
-      (s.0, subst (λ (x : LineView). TakesBy (line_view table v) x (Ok m)) (sym (seen_is own' s.1)) so, tt)
-  take_done (Err (refused.PeerClosed back)) t same = ((kept same).0, (t.taken.0, same_counts same, found_none same t.taken.2, saw_shut t.taken.3), only_saw same)
-  take_done (Err refused.Empty) t same = ((kept same).0, (same_counts same, found_none same t.taken.1, saw_open t.taken.2), only_saw same)
-  take_done (Err refused.OutOfMemory) t same = absurd t.taken
-  take_done (Err refused.BadSize) t same = absurd t.taken
-  take_done (Err refused.NoChannel) t same = absurd t.taken
+      let so : SeatDoes (line_view table v) (record (line_view table (record v { own = own' })) { peer_shut = saw }) (λ e e'. EndpointTakes e e' (Ok m)) =
+      λ e at. (
+        r.0 ∙ ap (λ (c : Counts). suc c.taken) o.counts,
+        (refl, saw_no_less),
+        numbered,
+        ap (λ n. allowed own.rows own.state m.tag (1 - n)) at ∙ step_by m.tag (1 - k) (Some own'.state) r.3,
+        λ _. few,
+      ) in
+      (s.0, λ e at. (subst (λ x. EndpointTakes (on_line e (line_view table v)) (on_line e x) (Ok m)) (sym (seen_is own' s.1)) (so e at), tt))
+  take_done (Err (refused.PeerClosed back)) t same _ = ((kept same).0, λ e _. ((t.taken.0, emptied t.taken.1, saw_shut t.taken.2), only_saw same e))
+  take_done (Err refused.Empty) t same _ = let unshut = saw_open t.taken.1 in ((kept same).0, λ e _. ((emptied t.taken.0, unshut.0, unshut.1), only_saw same e))
+  take_done (Err refused.OutOfMemory) t same _ = absurd t.taken
+  take_done (Err refused.BadSize) t same _ = absurd t.taken
+  take_done (Err refused.NoChannel) t same _ = absurd t.taken
 
-  pub shut_done : Shuts line line' k → IsSettled (holding v peer) line' × ShutsBy (line_view table v) seen
+  pub shut_done : LineShuts line line' k → IsSettled (holding v peer) line' × SeatDoes (line_view table v) seen EndpointShuts
   shut_done t =
       let o = was.0 in
-      let own' : Account = record own { shut = true; drained = is_drained (end_of line' k) } in
-      let still : own.drained ≡ true → own'.drained ≡ true = λ p. (λ i. (t.shut i).shut && is_nothing (t.waits i))
-      ∙ (and_parts (end_of line k).counts.shut (is_nothing (waiting (end_of line k))) (o.drained ∙ p)).1 in
+      let own' : Account = record own { shut = true } in
       let ends' : Ends k line' own' peer = (
         record {
           rows = t.rules.0 ∙ o.rows;
           depth = t.rules.1 ∙ o.depth;
           state = t.state ∙ o.state;
-          counts = t.shut
-              ∙ ap now_shut o.counts;
+          counts = t.shut ∙ ap now_shut o.counts;
           waits = subst (IsDirection number peer.sent own.got) (sym t.waits) o.waits;
-          drained = refl;
         },
         peer_same t.rules.0 t.rules.1 t.peer own' refl,
       ) in
       let s = settled_so v peer own' line' found.few ends' (omega arith, omega arith, λ _. refl) found.told in
-      (s.0, (seen_is own' s.1, saw_no_less, still))
+      (s.0, λ e _. (ap (on_line e) (seen_is own' s.1), saw_no_less))
 
 pub has_word : (a b : TableId) → a ≡ b → a.words ≡ 16 → 0 < b.words
 has_word a b same words = subst (λ (t : TableId). 0 < t.words) same (omega arith)

@@ -1,16 +1,15 @@
 -- Each step on a line's word keeps the rule.
-use Rattle.xh_channel.proofs.Common.{Account, Allows, Counts, Grows, IsEndBy, IsSettled, LiesFor, LineEnd, Lined, List, Me, None, Option, Part, Some, [], and_parts, ap, append-nil}
-use Rattle.xh_channel.proofs.Common.{arith, carried_after, either, eq-eqb, eqb, eqb-true, exchanged, false, get_elem?, gives, holding, inl, inr, is_nothing, keeps, ne_eqb}
-use Rattle.xh_channel.proofs.Common.{no_counts, none, or_cases, put_back, refl, set, slice_index, some, step, subst, suc, sym, takes, true, true≢false, waiting, zero, ℕ, ⊎_elim, ◌++◌}
+use Rattle.xh_channel.proofs.Common.{Account, Allows, Counts, Grows, IsEndBy, IsSettled, LiesFor, LineEnd, Lined, List, Me, None, Option, Part, Some, [], ap}
+use Rattle.xh_channel.proofs.Common.{arith, carried_after, either, eq-eqb, eqb, eqb-true, exchanged, false, get_elem?, gives, holding, inl, inr, keeps, ne_eqb}
+use Rattle.xh_channel.proofs.Common.{no_counts, none, or_cases, put_back, refl, set, slice_index, some, step, subst, suc, sym, takes, true, true≢false, waiting, zero, ℕ, ⊎_elim}
 use Rattle.xh_channel.proofs.Common.{◌||◌, ◌∙◌, ◌∷◌, ◌≡◌, ◌≢◌, ◌⊎◌}
 use mathlib.Core.Option as maybe
-use Rattle.xh_channel.specs.inner.LineRule.{Compared, Fits, IsHome, IsOut, IsTaken, IsTold, Kept, Lies, Locked, Owns, Settled, Truth, by, counts_in, no_account, no_part, own_by, peer_by, settled}
+use Rattle.xh_channel.specs.inner.LineRule.{Compared, IsTrueOf, IsHome, IsOut, IsTaken, IsTold, Kept, Lies, Locked, Owns, Settled, Truth, by, counts_in, no_account, no_part, own_by, peer_by, settled}
 use Rattle.xh_channel.proofs.Views.{every_set}
 use Rattle.std.proofs.Common.{length}
 use Rattle.std.proofs.Common.{replicate}
 use Rattle.atomic_table.specs.Table.{Splits, Joins, opening}
 use Rattle.atomic_table.proofs.Lists.{at_set}
-use Rattle.xh_channel.specs.declared.message.Message.{Message}
 use Rattle.xh_channel.specs.inner.LineRule.{both_sides, low_side, high_side, joined}
 use Rattle.xh_channel.proofs.Views.{every_two, every_snoc, one_view}
 
@@ -64,7 +63,7 @@ locks slots id me f a b out owns s h long at small =
       (
         t',
         inr (m.0, others, v.side, ap (λ l. set l 0 next) words ∙ ap (λ n. n ∷ others) m.1, ap (λ l. set l 0 none) homes, ap suc (sym o.seat)),
-        every_set (Fits t') s.views id w
+        every_set (IsTrueOf t') s.views id w
             ((λ _. record { seat = o.seat; own = o.own; holds = sym (eq-eqb (suc id) (suc id) refl); knows = λ _. refl; both = λ p. ((o.both p).0, refl) }), (h.2 id v at).1, (h.2 id v at).2)
             (λ j u other e. let g = h.2 j u e in
             ((λ p. let x = g.0 p in record { seat = x.seat; own = x.own; holds = none_holds j u x ∙ sym (not_holder id j other); knows = x.knows; both = x.both }), g.1, g.2)),
@@ -89,7 +88,7 @@ locks slots id me f a b out owns s h long at small =
       (
         t,
         inr (m.0, gone.1, gone.2, ap (λ l. set l 0 next) gone.3 ∙ ap (λ n. n ∷ gone.1) m.1, gone.4, gone.5),
-        every_set (Fits t) s.views id v (h.2 id v at) (λ j u _ e. h.2 j u e),
+        every_set (IsTrueOf t) s.views id v (h.2 id v at) (λ j u _ e. h.2 j u e),
       ),
       ((λ zero_is. absurd (omega arith)), λ _. refl),
     ))
@@ -159,7 +158,7 @@ settles slots id me line front owns holds is s h long at small =
       (
         t',
         inl (others.0, Some line, ap (λ l. set l 0 0) others.2, (λ i. put_back (slot.1 i) (front i)), refl, is.0),
-        every_set (Fits t') s.views id w (
+        every_set (IsTrueOf t') s.views id w (
           (λ _. record { seat = o.seat; own = own_back k own peer; holds = sym (no_holder id); knows = λ p. absurd (true≢false (sym p)); both = λ p. ((o.both p).0, peer_back k own peer) }),
           subst (IsTold told) (sym (peer_back k own peer)) is_told,
           told_by_side k v.peer_told t.low t.high low high grow.0 grow.1 mine.2,
@@ -189,7 +188,7 @@ nothing_told a = (omega arith, omega arith, λ p. absurd (true≢false (sym p)))
 all_told : (a : Account) → IsTold (counts_in a) a
 all_told a = (omega arith, omega arith, λ p. p)
 
-no_fits : (t : Truth) (id : ℕ) → Fits t id no_part
+no_fits : (t : Truth) (id : ℕ) → IsTrueOf t id no_part
 no_fits t id = ((λ p. absurd (true≢false (sym p))), nothing_told t.high, nothing_told t.low)
 
 -- where one seat has both accounts and doesn't hold the line, that is at home
@@ -198,19 +197,11 @@ at_home : (t : Truth) (id : ℕ) (v : Part) (words : List ℕ) (homes : List (ma
 at_home t id v words homes is o both idle = ⊎_elim (λ x. x)
     (λ (x : IsOut t words homes). absurd (true≢false (sym (holds_it t id v o (x.5 ∙ ap suc (one_seat x.2 v.side t.low_seat t.high_seat id o.seat (o.both both).0))) ∙ idle))) is
 
-emptied : (ms : List Message) → is_nothing ms ≡ true → ms ≡ []
-emptied [] e = refl
-emptied (m ∷ ms) e = absurd (true≢false (sym e))
-
 end_taken : (line : Lined) (end : LineEnd) (own peer : Account) → IsEndBy line end own peer → IsTaken peer own
-end_taken line end own peer is = (
-  (waiting end, is.waits),
-  λ p. let both = and_parts end.counts.shut (is_nothing (waiting end)) (is.drained ∙ p) in
-      (ap (λ (c : Counts). c.shut) (sym is.counts) ∙ both.0, sym (append-nil own.got) ∙ ap (λ l. own.got ++ l) (sym (emptied (waiting end) both.1)) ∙ sym is.waits.0),
-)
+end_taken line end own peer is = (waiting end, is.waits)
 
 nothing_taken : IsTaken no_account no_account
-nothing_taken = (([], (refl, tt)), λ p. absurd (true≢false (sym p)))
+nothing_taken = ([], (refl, tt))
 
 all_taken : (line : S) (low high : Account) → Lies line low high → IsTaken low high × IsTaken high low
 all_taken None low high l = subst (λ (x : Account × Account). IsTaken x.0 x.1 × IsTaken x.1 x.0) (λ i. (sym l.0 i, sym l.1 i)) (nothing_taken, nothing_taken)
@@ -236,7 +227,7 @@ compares slots id me owns both idle s h long at small =
       (
         t,
         inl (home.0, home.1, ap (λ l. set l 0 (slice_index l 0)) home.2, home.3, home.4, home.5),
-        every_set (Fits t) s.views id w (
+        every_set (IsTrueOf t) s.views id w (
           (λ _. record { seat = o.seat; own = o.own; holds = o.holds; knows = o.knows; both = o.both }),
           subst (IsTold w.told) (sym peer) (all_told v.peer),
           subst (IsTold w.peer_told) (sym o.own) (all_told v.own),
@@ -266,7 +257,7 @@ sides id v side owns both idle s h at =
     let low_seat : t.low_seat ≡ id = subst (λ (n : ℕ). by n t.low_seat t.high_seat ≡ id) side o.seat in (
       t',
       inl home,
-      every_snoc (Fits t') vs high (
+      every_snoc (IsTrueOf t') vs high (
         (λ _. record {
           seat = refl;
           own = subst (λ (n : ℕ). by n t.high t.low ≡ v.peer) side (o.both both).1;
@@ -277,7 +268,7 @@ sides id v side owns both idle s h at =
         subst (λ (n : ℕ). IsTold v.peer_told (by n t.low t.high)) side mine.2,
         subst (λ (n : ℕ). IsTold v.told (by n t.high t.low)) side mine.1,
       )
-          (every_set (Fits t') s.views id low (
+          (every_set (IsTrueOf t') s.views id low (
             (λ _. record {
               seat = subst (λ (n : ℕ). by n t.low_seat new ≡ id) (sym side) low_seat;
               own = o.own;
@@ -317,7 +308,7 @@ joins id v other w side side' owns owns' idle idle' s h at two at' =
     let t' : Truth = record t { high_seat = id } in (
       t',
       inl home,
-      every_two (Fits t') s.views id other both no_part (
+      every_two (IsTrueOf t') s.views id other both no_part (
         (λ _. record {
           seat = subst (λ (n : ℕ). by n t.low_seat id ≡ id) (sym side) low_seat;
           own = o.own;
@@ -341,5 +332,5 @@ begins =
     let t : Truth = record { low_seat = 0; high_seat = 0; holder = 0; low = no_account; high = no_account } in (
       t,
       inl (replicate 15 0, None, refl, refl, refl, (refl, refl)),
-      one_view (Fits t) both_sides ((λ _. record { seat = refl; own = refl; holds = refl; knows = λ p. absurd (true≢false (sym p)); both = λ _. (refl, refl) }), nothing_told no_account, nothing_told no_account),
+      one_view (IsTrueOf t) both_sides ((λ _. record { seat = refl; own = refl; holds = refl; knows = λ p. absurd (true≢false (sym p)); both = λ _. (refl, refl) }), nothing_told no_account, nothing_told no_account),
     )

@@ -4,7 +4,7 @@ use Rattle.xh_channel.proofs.Common.{number, number_at, numbers_before, numbers_
 use Rattle.xh_channel.proofs.Common.{⊎_elim, ◌++◌, ◌∙◌, ◌∷◌, ◌≡◌, ◌≢◌, ◌≤◌}
 use Rattle.crossbeam_queue.specs.Fifo.{Forks, Learns, Merges, Pops, Pushes}
 use Rattle.crossbeam_queue.proofs.Lists.{at_set}
-use Rattle.xh_channel.specs.declared.direction.Role.{Role}
+use Rattle.xh_channel.specs.declared.queue_rule.Role.{Role}
 use Rattle.xh_channel.proofs.Views.{Every, every_set, every_two, every_snoc, one_view}
 use Rattle.xh_channel.specs.Directions.{Fits, Got, Ordered, Sent, WaitsAhead, WaitsBehind, role}
 

@@ -5,7 +5,7 @@ use mathlib.Core.Option.{some}
 use lib.ListN.{get_elem?}
 use Rattle.xh_model.specs.Direction.{IsDirection}
 use Rattle.xh_channel.specs.declared.message.Message.{Message}
-use Rattle.xh_channel.specs.declared.direction.Role.{Role}
+use Rattle.xh_channel.specs.declared.queue_rule.Role.{Role}
 use Rattle.xh_channel.specs.Numbers.{number, Numbered}
 
 abbrev pub role : Bool → Bool → List Message → List Message → ℕ → ℕ → Role

@@ -1,11 +1,11 @@
 pub mod inner
+pub mod Agreement
+pub mod Calls
 pub mod Directions
-pub mod Ends
+pub mod Endpoint
 pub mod LineSeats
 pub mod Lines
-pub mod Agreement
 pub mod Numbers
 pub mod Pairs
-pub mod QueueEnds
 pub mod Queues
 pub mod Refusals

@@ -1,16 +1,30 @@
 -- A channel with a contract, as it is lent under its lock.
-use Rattle.std.specs.Prelude.{◌≡◌, ℕ, zero, suc, ◌+◌, ◌-◌, ◌≤◌, Bool, true, false, ◌&&◌, List, [], ◌∷◌, ◌++◌, length, map, Some, None, IsSome, Result}
+use Rattle.std.specs.Prelude.{◌≡◌, ◌⊎◌, ℕ, zero, suc, ◌+◌, ◌-◌, ◌≤◌, true, false, List, [], ◌∷◌, ◌++◌, length, map, Some, None, IsSome, Result, MatchResult}
 use Rattle.arrayvec.specs.ArrayVec.{ArrayVec}
 use Rattle.xh_model.specs.declared.limits.TheConstants.{MAX_DEPTH, MAX_MESSAGES}
 use Rattle.xh_model.specs.declared.row.Row.{Row}
 use Rattle.xh_model.specs.Rows.{allowed, row_at, IsValid, InStep}
 use Rattle.xh_core.specs.Talks.{AreOrderly}
+use Rattle.xh_channel.specs.declared.counts.Counts.{Counts}
 use Rattle.xh_channel.specs.declared.message.Message.{Message}
 use Rattle.xh_channel.specs.declared.line_end.LineEnd.{LineEnd}
 use Rattle.xh_channel.specs.declared.refused.Refused.{Refused}
+use Rattle.xh_channel.specs.declared.refused.Refused.TheVariants as refused
 use Rattle.xh_channel.specs.declared.unsent.Unsent.{Unsent}
-use Rattle.xh_channel.specs.Numbers.{NumberedFrom, tag}
-use Rattle.xh_channel.specs.Ends.{Puts, Takes, no_counts, now_shut}
+use Rattle.xh_channel.specs.declared.unsent.Unsent.TheVariants.{Protocol, PeerClosed, Full}
+use Rattle.xh_channel.specs.Numbers.{NumberedFrom, message, tag}
+
+abbrev pub no_counts : Counts
+no_counts = record { put = 0; taken = 0; shut = false }
+
+abbrev pub one_put : Counts → Counts
+one_put c = record c { put = suc c.put }
+
+abbrev pub one_taken : Counts → Counts
+one_taken c = record c { taken = suc c.taken }
+
+abbrev pub now_shut : Counts → Counts
+now_shut c = record c { shut = true }
 
 -- the messages on their way to this end, the front one first
 abbrev pub waiting : LineEnd → List Message
@@ -20,30 +34,36 @@ waiting end = end.waiting.items
 abbrev pub tags : LineEnd → List ℕ
 tags end = map tag (waiting end)
 
-abbrev pub is_nothing : List Message → Bool
-is_nothing [] = true
-is_nothing (m ∷ ms) = false
-
--- it was shut and nothing waits for it: nothing comes any more, since no put toward a shut end succeeds
-abbrev pub is_drained : LineEnd → Bool
-is_drained end = end.counts.shut && is_nothing (waiting end)
-
 -- what an end put is what its peer took and then what waits for the peer, numbered on
 abbrev pub Follows : LineEnd → LineEnd → Type 0
 Follows own peer = (own.counts.put ≡ peer.counts.taken + length (waiting peer)) × NumberedFrom peer.counts.taken (waiting peer)
 
--- a put by `own` toward `peer`: on success the message is at the back, and the state of `own` moves by the contract
-abbrev pub PutsBetween : List Row → ℕ → ℕ → LineEnd → LineEnd → LineEnd → LineEnd → ℕ → ArrayVec ℕ → Result ℕ Unsent → Type 0
-PutsBetween rows depth side own own' peer peer' tag =
-    Puts (λ m. (waiting peer' ≡ waiting peer ++ m ∷ []) × (allowed rows own.state tag side ≡ Some own'.state))
-    (allowed rows own.state tag side ≡ None) (IsSome (allowed rows own.state tag side))
-    (length (waiting peer) ≡ depth) (peer.counts.shut ≡ true) (peer.counts.shut ≡ false) own.counts own'.counts tag
+-- why a put by `own` toward `peer` was refused, and the blocks come back: the state doesn't allow the message, the peer is shut,
+-- or as many wait as the depth or the direction has carried its last message
+abbrev pub UnputBetween : List Row → ℕ → ℕ → LineEnd → LineEnd → ℕ → ArrayVec ℕ → Unsent → Type 0
+UnputBetween rows depth side own peer t blocks (Protocol back) = (back ≡ blocks) × (allowed rows own.state t side ≡ None)
+UnputBetween rows depth side own peer t blocks (PeerClosed back) = (back ≡ blocks) × IsSome (allowed rows own.state t side) × (peer.counts.shut ≡ true)
+UnputBetween rows depth side own peer t blocks (Full back) = (back ≡ blocks) × IsSome (allowed rows own.state t side) × (peer.counts.shut ≡ false)
+    × ((length (waiting peer) ≡ depth) ⊎ (own.counts.put ≡ MAX_MESSAGES))
 
--- a take by `own`: on success it gives the front message, which the state of `own` allowed `peer` to put, and that state moves by the contract
+-- a put by `own` toward `peer`, which isn't shut: the message is at the back, and the state of `own` moves by the contract; or why not
+abbrev pub PutsBetween : List Row → ℕ → ℕ → LineEnd → LineEnd → LineEnd → LineEnd → ℕ → ArrayVec ℕ → Result ℕ Unsent → Type 0
+PutsBetween rows depth side own own' peer peer' t blocks result = MatchResult result
+    (λ n. (n ≡ suc own.counts.put) × (own'.counts ≡ one_put own.counts) × (peer.counts.shut ≡ false) × (waiting peer' ≡ waiting peer ++ message n t blocks ∷ [])
+    × (allowed rows own.state t side ≡ Some own'.state))
+    (UnputBetween rows depth side own peer t blocks)
+
+-- why a take by `own` was refused: none waits, and `peer` is shut or not
+abbrev pub UntakenBetween : LineEnd → LineEnd → Refused → Type 0
+UntakenBetween own peer (refused.PeerClosed back) = (back.items ≡ []) × (waiting own ≡ []) × (peer.counts.shut ≡ true)
+UntakenBetween own peer refused.Empty = (waiting own ≡ []) × (peer.counts.shut ≡ false)
+UntakenBetween own peer _ = ⊥
+
+-- a take by `own`: it gives the front message, which the state of `own` allowed `peer` to put, and that state moves by the contract; or why not
 abbrev pub TakesBetween : List Row → ℕ → LineEnd → LineEnd → LineEnd → Result Message Refused → Type 0
-TakesBetween rows side own own' peer =
-    Takes (λ m. (waiting own ≡ m ∷ waiting own') × (allowed rows own.state m.tag (1 - side) ≡ Some own'.state))
-    (waiting own ≡ []) (peer.counts.shut ≡ true) (peer.counts.shut ≡ false) own.counts own'.counts
+TakesBetween rows side own own' peer result = MatchResult result
+    (λ m. (m.no ≡ suc own.counts.taken) × (own'.counts ≡ one_taken own.counts) × (waiting own ≡ m ∷ waiting own') × (allowed rows own.state m.tag (1 - side) ≡ Some own'.state))
+    (UntakenBetween own peer)
 
 -- both ends go by the contract together
 abbrev pub AreInStep : List Row → ℕ → LineEnd → LineEnd → Type 0
@@ -85,7 +105,7 @@ abbrev pub SameRules : Lined → Lined → Type 0
 SameRules old new = (new.rows ≡ old.rows) × (new.depth ≡ old.depth)
 
 -- a put by a side, which leaves what waits for it, and of its peer the state and the counts
-pub record PutsOn (old new : Lined) (side tag : ℕ) (blocks : ArrayVec ℕ) (result : Result ℕ Unsent) : Type 0 where
+pub record LinePuts (old new : Lined) (side tag : ℕ) (blocks : ArrayVec ℕ) (result : Result ℕ Unsent) : Type 0 where
   pub put : PutsBetween old.rows old.depth side (end_of old side) (end_of new side) (end_of old (1 - side)) (end_of new (1 - side)) tag blocks result
   pub rules : SameRules old new
   pub waits : waiting (end_of new side) ≡ waiting (end_of old side)
@@ -93,13 +113,13 @@ pub record PutsOn (old new : Lined) (side tag : ℕ) (blocks : ArrayVec ℕ) (re
   pub state : (end_of new (1 - side)).state ≡ (end_of old (1 - side)).state
 
 -- a take by a side, which leaves its peer
-pub record TakesOn (old new : Lined) (side : ℕ) (result : Result Message Refused) : Type 0 where
+pub record LineTakes (old new : Lined) (side : ℕ) (result : Result Message Refused) : Type 0 where
   pub taken : TakesBetween old.rows side (end_of old side) (end_of new side) (end_of old (1 - side)) result
   pub rules : SameRules old new
   pub peer : end_of new (1 - side) ≡ end_of old (1 - side)
 
 -- the side is marked as shut, and nothing else changes
-pub record Shuts (old new : Lined) (side : ℕ) : Type 0 where
+pub record LineShuts (old new : Lined) (side : ℕ) : Type 0 where
   pub shut : (end_of new side).counts ≡ now_shut (end_of old side).counts
   pub rules : SameRules old new
   pub waits : waiting (end_of new side) ≡ waiting (end_of old side)

@@ -5,7 +5,7 @@ use Rattle.xh_model.specs.Direction.{AreNumberedFrom}
 use Rattle.xh_channel.specs.declared.message.Message.{Message}
 
 abbrev pub message : ℕ → ℕ → ArrayVec ℕ → Message
-message number tag blocks = record { no = number; tag = tag; blocks = blocks }
+message n t blocks = record { no = n; tag = t; blocks = blocks }
 
 abbrev pub number : Message → ℕ
 number m = m.no

@@ -1,12 +1,12 @@
 //! One end of a channel, apart from where its number is free again.
-ghost use Rattle.std.specs.Prelude.{◌≡◌, ◌+◌, ◌*◌, ◌<◌, ◌≤◌, suc, true, false, OnErr, IfOk, IfErr, MatchBool};
-ghost use Rattle.xh_model.specs.declared.limits.TheConstants.{CHANNELS, MAX_DEPTH, MAX_MESSAGES};
-ghost use Rattle.xh_channel.specs.Ends.{given_back};
+ghost use Rattle.std.specs.Prelude.{◌≡◌, ◌+◌, ◌*◌, ◌<◌, ◌≤◌, suc, true, false, is_some, length, OnErr, IfOk, MatchBool};
+ghost use Rattle.xh_model.specs.declared.limits.TheConstants.{MAX_DEPTH, MAX_MESSAGES};
 ghost use Rattle.xh_channel.specs.Agreement.{AgreesWith, ArePeers, told_all};
+ghost use Rattle.xh_channel.specs.Calls.{EndpointPuts, EndpointShuts, EndpointTakes, OnlySaw, Unpushed};
 ghost use Rattle.xh_channel.specs.LineSeats.{IsBlank};
 ghost use Rattle.xh_channel.specs.Numbers.{message};
 ghost use Rattle.xh_channel.specs.Pairs.{IsPair, IsUnused, ruled_by, unruled};
-ghost use Rattle.xh_channel.specs.Queues.{AreIdle, IsSameEnd, IsUnsent, KeepsItsMessages, PutsAs, ShutsAs, TakesAs, Unpushed};
+ghost use Rattle.xh_channel.specs.inner.Ends.{AreIdle, IsUnsent};
 
 use crate::closed_word::ClosedWord;
 use crate::line_seat::{self, LineSeat};
@@ -15,7 +15,7 @@ use crate::queue_end::{self, QueueEnd};
 use crate::refused::Refused;
 use crate::spot::Spot;
 use crate::unsent::Unsent;
-use crate::waiting::{OwnSignal, Signal};
+use crate::waiting::OwnSignal;
 use arrayvec::ArrayVec;
 use std::marker::Model;
 use std::sync::Wait;
@@ -25,24 +25,26 @@ use xh_model::limits::{MAX_BLOCKS, MAX_MESSAGES};
 /// One end of a channel.
 #[derive(Drop)]
 pub struct ChannelEnd {
-    spot: Spot,
+    pub(crate) spot: Spot,
     // with a contract the line carries the messages, and the queues nothing
-    has_contract: bool,
-    sender: QueueEnd,
+    pub(crate) has_contract: bool,
+    pub(crate) sender: QueueEnd,
     receiver: QueueEnd,
     word: ClosedWord,
-    put: u64,
+    // how many messages it sent
+    pub(crate) put: u64,
     line: LineSeat,
     // its channel's, also where it is used on other channels
-    signal: OwnSignal,
+    pub(crate) signal: OwnSignal,
 }
 
 impl Model for ChannelEnd {
-    ghost use Rattle.xh_channel.specs.Queues.{IsEnd, Posted, posted};
+    ghost use Rattle.xh_channel.specs.Endpoint.{EndpointOf};
+    ghost use Rattle.xh_channel.specs.inner.Ends.{IsEnd, endpoint_of};
 
-    ghost Value = { Posted };
+    ghost Value = { EndpointOf };
 
-    ghost view = { λ e. posted e.spot e.has_contract e.sender e.receiver e.word e.put e.line };
+    ghost view = { λ e. endpoint_of e.spot e.has_contract e.sender e.receiver e.word e.put e.line };
 
     ghost invariant = { λ e. IsEnd e.spot e.has_contract e.sender e.receiver e.word e.put e.line };
 }
@@ -64,7 +66,7 @@ pub fn begin<R: Wait>(
     contract: Contract,
     depth: u8,
 ) -> (ChannelEnd, ChannelEnd)
-    requires pair { IsPair low high × (low.has_contract ≡ false) }
+    requires pair { IsPair low high × (is_some low.contract ≡ false) }
     requires depth { (low.depth ≡ depth) × (1 ≤ depth) × (depth ≤ MAX_DEPTH) }
     ensures { (result.0 ≡ ruled_by contract low) × (result.1 ≡ ruled_by contract high) }
 {
@@ -84,7 +86,7 @@ pub fn begin<R: Wait>(
 
 // As `compare`, by both queues and the closed words.
 fn compare_queues(one: ChannelEnd, other: ChannelEnd) -> (ChannelEnd, ChannelEnd)
-    requires { ArePeers one other × (one.has_contract ≡ false) }
+    requires { ArePeers one other × (is_some one.contract ≡ false) }
     ensures told { (result.0 ≡ told_all one other) × (result.1 ≡ told_all other one) }
     ensures agree { AgreesWith one other × AgreesWith other one }
 {
@@ -110,7 +112,7 @@ fn compare_queues(one: ChannelEnd, other: ChannelEnd) -> (ChannelEnd, ChannelEnd
 
 // As `compare`, by the line, side 0 first.
 fn compare_lines(low: ChannelEnd, high: ChannelEnd) -> (ChannelEnd, ChannelEnd)
-    requires { ArePeers low high × (low.has_contract ≡ true) × (low.side ≡ 0) }
+    requires { ArePeers low high × (is_some low.contract ≡ true) × (low.spot.side ≡ 0) }
     ensures told { (result.0 ≡ told_all low high) × (result.1 ≡ told_all high low) }
     ensures agree { AgreesWith low high × AgreesWith high low }
 {
@@ -129,7 +131,7 @@ pub fn compare(one: ChannelEnd, other: ChannelEnd) -> (ChannelEnd, ChannelEnd)
     ensures told { (result.0 ≡ told_all one other) × (result.1 ≡ told_all other one) }
     ensures agree { AgreesWith one other × AgreesWith other one }
 {
-    if !one.has_contract() {
+    if !one.has_contract {
         return compare_queues(one, other);
     }
     if one.spot.side == 0 {
@@ -151,7 +153,7 @@ impl ChannelEnd {
         requires own { (word.word ≡ 2 * spot.channel + spot.side) × (line.side ≡ spot.side) }
         requires roles { (queues.0.role.pushes ≡ true) × (queues.1.role.pops ≡ true) }
         requires new { AreIdle queues.0 queues.1 word × IsBlank line }
-        ensures spot { (result.channel ≡ spot.channel) × (result.side ≡ spot.side) × (result.depth ≡ queues.0.depth) }
+        ensures spot { (result.spot ≡ spot) × (result.depth ≡ queues.0.depth) }
         ensures tables { (result.out ≡ queues.0.queue) × (result.into ≡ queues.1.queue) × (result.closed ≡ word.table) × (result.line ≡ line.table) }
         ensures unused { IsUnused result × (result ≡ unruled result) }
     {
@@ -166,26 +168,6 @@ impl ChannelEnd {
             line,
             signal,
         }
-    }
-
-    /// Its channel, 0 to 63, and its side, 0 or 1.
-    pub fn spot(&self) -> Spot
-        ensures { (result.channel ≡ self.now.channel) × (result.side ≡ self.now.side) × (result.channel < CHANNELS) × (result.side < 2) }
-    {
-        self.spot
-    }
-
-    /// Whether its channel has a contract.
-    pub fn has_contract(&self) -> bool
-        ensures { result ≡ self.now.has_contract }
-    {
-        self.has_contract
-    }
-
-    pub fn depth(&self) -> usize
-        ensures { result ≡ self.now.depth }
-    {
-        self.sender.depth()
     }
 
     /// The channel has no contract any more.
@@ -206,10 +188,10 @@ impl ChannelEnd {
         tag: u16,
         blocks: ArrayVec<u16, MAX_BLOCKS>,
     ) -> Result<u64, Unsent>
-        requires { self.old.has_contract ≡ false }
-        ensures put { PutsAs self.old self.new tag blocks result }
+        requires { is_some self.old.contract ≡ false }
+        ensures put { EndpointPuts self.old self.new tag blocks result }
         ensures last { IfOk result (λ no. no ≤ MAX_MESSAGES) }
-        ensures refused { OnErr result (KeepsItsMessages self.old self.new) }
+        ensures refused { OnErr result (OnlySaw self.old self.new) }
     {
         if self.word.peer_is_shut() {
             return Err(Unsent::PeerClosed { back: blocks });
@@ -230,7 +212,7 @@ impl ChannelEnd {
 
     /// Looks again, after a push: where the peer is shut by now, the message doesn't count as sent.
     pub fn stays_sent(&mut self) -> bool
-        requires { (self.old.has_contract ≡ false) × (0 < self.old.counts.put) × (self.old.peer_shut ≡ false) }
+        requires { (is_some self.old.contract ≡ false) × (0 < length self.old.sent) × (self.old.peer_shut ≡ false) }
         ensures { MatchBool result (self.new ≡ self.old) (IsUnsent self.old self.new) }
     {
         let stays = !self.word.peer_is_shut();
@@ -247,10 +229,10 @@ impl ChannelEnd {
         tag: u16,
         blocks: ArrayVec<u16, MAX_BLOCKS>,
     ) -> Result<u64, Unsent>
-        requires { self.old.has_contract ≡ false }
-        ensures put { PutsAs self.old self.new tag blocks result }
+        requires { is_some self.old.contract ≡ false }
+        ensures put { EndpointPuts self.old self.new tag blocks result }
         ensures last { IfOk result (λ no. no ≤ MAX_MESSAGES) }
-        ensures refused { OnErr result (Unpushed self.old self.new (message (suc self.old.counts.put) tag blocks)) }
+        ensures kept { OnErr result (Unpushed self.old self.new (message (suc (length self.old.sent)) tag blocks)) }
     {
         let back = copy_of(&blocks);
         let no = self.push(rt, tag, blocks)?;
@@ -262,9 +244,9 @@ impl ChannelEnd {
 
     /// Looks at the peer's word, and then pops.
     pub fn take_from_queue<R: Wait>(&mut self, rt: &R) -> Result<Message, Refused>
-        requires { self.old.has_contract ≡ false }
-        ensures taken { TakesAs self.old self.new result }
-        ensures refused { OnErr result (KeepsItsMessages self.old self.new) }
+        requires { is_some self.old.contract ≡ false }
+        ensures taken { EndpointTakes self.old self.new result }
+        ensures kept { OnErr result (OnlySaw self.old self.new) }
     {
         let closed = self.word.peer_is_shut();
         match self.receiver.pop(rt) {
@@ -276,6 +258,27 @@ impl ChannelEnd {
         }
     }
 
+    // A put on the line.
+    fn put_on_line<R: Wait>(
+        &mut self,
+        rt: &R,
+        tag: u16,
+        blocks: ArrayVec<u16, MAX_BLOCKS>,
+    ) -> Result<u64, Unsent>
+        requires { is_some self.old.contract ≡ true }
+        ensures put { EndpointPuts self.old self.new tag blocks result }
+        ensures last { IfOk result (λ no. no ≤ MAX_MESSAGES) }
+        ensures refused { OnErr result (OnlySaw self.old self.new) }
+    {
+        match self.line.put(rt, tag, blocks) {
+            Ok(no) => {
+                self.put = no;
+                Ok(no)
+            }
+            Err(unsent) => Err(unsent),
+        }
+    }
+
     /// A put on the queue, or on the line where the channel has a contract.
     pub fn put<R: Wait>(
         &mut self,
@@ -283,14 +286,12 @@ impl ChannelEnd {
         tag: u16,
         blocks: ArrayVec<u16, MAX_BLOCKS>,
     ) -> Result<u64, Unsent>
-        ensures put { PutsAs self.old self.new tag blocks result }
+        ensures put { EndpointPuts self.old self.new tag blocks result }
         ensures last { IfOk result (λ no. no ≤ MAX_MESSAGES) }
-        ensures back { IfErr result (λ u. given_back u ≡ blocks) }
-        ensures kept { OnErr result (Unpushed self.old self.new (message (suc self.old.counts.put) tag blocks)) }
-        ensures same { IsSameEnd self.old self.new }
+        ensures kept { OnErr result (Unpushed self.old self.new (message (suc (length self.old.sent)) tag blocks)) }
     {
         if self.has_contract {
-            self.line.put(rt, tag, blocks)
+            self.put_on_line(rt, tag, blocks)
         } else {
             self.put_on_queue(rt, tag, blocks)
         }
@@ -298,9 +299,8 @@ impl ChannelEnd {
 
     /// Takes from the queue, or from the line where the channel has a contract.
     pub fn take<R: Wait>(&mut self, rt: &R) -> Result<Message, Refused>
-        ensures taken { TakesAs self.old self.new result }
-        ensures kept { OnErr result (KeepsItsMessages self.old self.new) }
-        ensures same { IsSameEnd self.old self.new }
+        ensures taken { EndpointTakes self.old self.new result }
+        ensures kept { OnErr result (OnlySaw self.old self.new) }
     {
         if self.has_contract {
             self.line.take(rt)
@@ -311,17 +311,12 @@ impl ChannelEnd {
 
     /// The shut of its word, or of its side of the line where the channel has a contract.
     pub fn shut<R: Wait>(&mut self, rt: &R)
-        ensures { ShutsAs self.old self.new }
+        ensures { EndpointShuts self.old self.new }
     {
         if self.has_contract {
             self.line.shut(rt);
         } else {
             self.word.shut();
         }
-    }
-
-    /// Who waits at its channel.
-    pub fn signal(&self) -> &Signal {
-        &self.signal
     }
 }

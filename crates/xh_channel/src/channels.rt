@@ -1,13 +1,12 @@
 //! All channels of a heap.
-ghost use Rattle.std.specs.Prelude.{◌≡◌, ℕ, ◌+◌, ◌*◌, ◌<◌, ◌≤◌, ◌⊎◌, suc, true, false, length, IfOk, IfErr, OnErr};
+ghost use Rattle.std.specs.Prelude.{◌≡◌, ℕ, ◌+◌, ◌*◌, ◌<◌, ◌≤◌, ◌⊎◌, suc, true, false, is_some, length, IfOk, IfErr, OnErr, None, Some};
 ghost use Rattle.xh_model.specs.Rows.{row_at};
 ghost use Rattle.xh_model.specs.declared.limits.TheConstants.{CHANNELS, MAX_DEPTH, MAX_MESSAGES, PLACES};
-ghost use Rattle.xh_channel.specs.Ends.{given_back};
+ghost use Rattle.xh_channel.specs.Calls.{EndpointPuts, EndpointShuts, EndpointTakes, OnlySaw, Unpushed};
 ghost use Rattle.xh_channel.specs.inner.FreeNumbers.{StandAtTheirNumbers, at_place, has_depth};
 ghost use Rattle.xh_channel.specs.Numbers.{message};
 ghost use Rattle.xh_channel.specs.Pairs.{IsPair};
-ghost use Rattle.xh_channel.specs.QueueEnds.{IsNewDirection};
-ghost use Rattle.xh_channel.specs.Queues.{IsSameEnd, KeepsItsMessages, PutsAs, ShutsAs, TakesAs, Unpushed};
+ghost use Rattle.xh_channel.specs.Queues.{IsNewDirection};
 ghost use Rattle.xh_channel.specs.declared.refused.Refused.TheVariants.{OutOfMemory, BadSize, NoChannel};
 
 use crate::channel_end::{self, ChannelEnd};
@@ -63,7 +62,7 @@ fn pair(
     signal: &OwnSignal,
 ) -> Result<FreePair, AllocError>
     requires { (0 < depth) × (channel < CHANNELS) × (words.old.next ≡ 2 * channel) }
-    ensures { IfOk result (λ p. (p.low.channel ≡ channel) × (p.low.depth ≡ depth) × (words.new.next ≡ 2 * channel + 2)) }
+    ensures { IfOk result (λ p. (p.low.spot.channel ≡ channel) × (p.low.depth ≡ depth) × (words.new.next ≡ 2 * channel + 2)) }
 {
     let words = words.both();
     let queues = queues(alloc, depth);
@@ -143,7 +142,7 @@ impl Channels {
     /// Both ends of the lowest channel that is free, side 0 first, with nothing put, nothing taken and
     /// neither shut. NoChannel where none is free.
     pub fn open<R: Wait>(&self, rt: &R) -> Result<(Endpoint, Endpoint), Refused>
-        ensures ok { IfOk result (λ ends. IsPair ends.0 ends.1 × (ends.0.depth ≡ self.now.depth) × (ends.0.has_contract ≡ false)) }
+        ensures ok { IfOk result (λ ends. IsPair ends.0 ends.1 × (ends.0.depth ≡ self.now.depth) × (ends.0.contract ≡ None)) }
         ensures err { IfErr result (λ r. r ≡ NoChannel) }
     {
         let own: Result<_, _> = Arc::try_clone(&self.home);
@@ -172,8 +171,8 @@ impl Channels {
         rt: &R,
         contract: Contract,
     ) -> Result<(Endpoint, Endpoint), Refused>
-        ensures ok { IfOk result (λ ends. IsPair ends.0 ends.1 × (ends.0.depth ≡ self.now.depth) × (ends.0.has_contract ≡ true)) }
-        ensures contract { IfOk result (λ ends. (ends.0.rows ≡ contract) × (ends.0.state ≡ (row_at contract 0).state)) }
+        ensures ok { IfOk result (λ ends. IsPair ends.0 ends.1 × (ends.0.depth ≡ self.now.depth)) }
+        ensures contract { IfOk result (λ ends. (ends.0.contract ≡ Some contract) × (ends.0.state ≡ (row_at contract 0).state)) }
         ensures err { IfErr result (λ r. r ≡ NoChannel) }
     {
         let (low, high) = self.open(rt)?;
@@ -214,39 +213,35 @@ impl Channels {
         tag: u16,
         blocks: ArrayVec<u16, MAX_BLOCKS>,
     ) -> Result<u64, Unsent>
-        ensures put { PutsAs end.old end.new tag blocks result }
+        ensures put { EndpointPuts end.old end.new tag blocks result }
         ensures last { IfOk result (λ no. no ≤ MAX_MESSAGES) }
-        ensures back { IfErr result (λ u. given_back u ≡ blocks) }
-        ensures kept { OnErr result (Unpushed end.old end.new (message (suc end.old.counts.put) tag blocks)) }
-        ensures same { IsSameEnd end.old end.new }
+        ensures kept { OnErr result (Unpushed end.old end.new (message (suc (length end.old.sent)) tag blocks)) }
     {
         let no = end.inner.put(rt, tag, blocks)?;
-        end.inner.signal().raise();
+        end.inner.signal.raise();
         Ok(no)
     }
 
     /// Takes the message at the front, which comes next after those that were taken; on a channel with a contract it moves this
     /// end's state. With none, PeerClosed where the peer was seen shut, and else Empty: this end has taken all that it was told
-    /// were put. An end that was shut still takes what is left. On a channel with a contract it is drained once nothing is left: from
-    /// then on it finds none, whatever its peer does, and `compare` of both ends shows that it took all that its peer put.
+    /// were put. An end that was shut still takes what is left.
     pub fn take<R: Wait>(&self, rt: &R, end: &mut Endpoint) -> Result<Message, Refused>
-        ensures taken { TakesAs end.old end.new result }
-        ensures kept { OnErr result (KeepsItsMessages end.old end.new) }
-        ensures same { IsSameEnd end.old end.new }
+        ensures taken { EndpointTakes end.old end.new result }
+        ensures kept { OnErr result (OnlySaw end.old end.new) }
     {
         let taken = end.inner.take(rt);
         if taken.is_ok() {
-            end.inner.signal().tell_room(1 - end.inner.spot().side);
+            end.inner.signal.tell_room(1 - end.inner.spot.side);
         }
         taken
     }
 
-    /// Shuts this end: no later put toward it succeeds. Once drained an end stays so.
+    /// Shuts this end: no later put toward it succeeds.
     pub fn shut<R: Wait>(&self, rt: &R, end: &mut Endpoint)
-        ensures { ShutsAs end.old end.new }
+        ensures { EndpointShuts end.old end.new }
     {
         end.inner.shut(rt);
-        end.inner.signal().rouse();
+        end.inner.signal.rouse();
     }
 
     /// The channel's turn rises by one, and all that wait there look again, for room too. For whoever ends a process

@@ -1,13 +1,13 @@
 //! One end of a channel.
-ghost use Rattle.std.specs.Prelude.{◌≡◌, ◌<◌};
-ghost use Rattle.xh_model.specs.declared.limits.TheConstants.{CHANNELS};
+ghost use Rattle.std.specs.Prelude.{◌≡◌, ◌==◌, is_some, length};
+ghost use Rattle.xh_model.specs.declared.limits.TheConstants.{MAX_MESSAGES};
 ghost use Rattle.xh_channel.specs.Agreement.{AgreesWith, ArePeers, told_all};
 
 use crate::channel_end::{self, ChannelEnd};
 use crate::free_numbers::Home;
-use crate::message::Message;
 use crate::spot::Spot;
 use std::marker::Model;
+use xh_model::limits::MAX_MESSAGES;
 
 /// One end of a channel. It goes from owner to owner, and whoever has it may put, take and shut.
 #[derive(Drop)]
@@ -18,17 +18,16 @@ pub struct Endpoint {
 }
 
 impl Model for Endpoint {
-    ghost use Rattle.xh_channel.specs.Queues.{Posted};
+    ghost use Rattle.xh_channel.specs.Endpoint.{EndpointOf};
 
-    ghost Value = { Posted };
+    ghost Value = { EndpointOf };
 
     ghost view = { λ e. e.inner };
 }
 
 /// Shows, of both ends of a channel, that what each took is a prefix of what the other pushed, each message once, with the numbers 1, 2, .. in order.
 /// It takes both ends and gives them back, each told of all that the other did. What an end was told before is no more
-/// than that. All that an end pushed it also sent, but for a message that met a shut peer. A drained end took all that its peer pushed: nothing waits
-/// for it, and since it stays drained nothing ever will.
+/// than that. All that an end pushed it also sent, but for a message that met a shut peer.
 pub fn compare(one: Endpoint, other: Endpoint) -> (Endpoint, Endpoint)
     requires { ArePeers one other }
     ensures told { (result.0 ≡ told_all one other) × (result.1 ≡ told_all other one) }
@@ -49,15 +48,23 @@ pub fn compare(one: Endpoint, other: Endpoint) -> (Endpoint, Endpoint)
 impl Endpoint {
     /// Its channel, 0 to 63, and its side, 0 or 1.
     pub fn spot(&self) -> Spot
-        ensures { (result.channel ≡ self.now.channel) × (result.side ≡ self.now.side) × (result.channel < CHANNELS) × (result.side < 2) }
+        ensures { result ≡ self.now.spot }
     {
-        self.inner.spot()
+        self.inner.spot
     }
 
     /// Whether its channel has a contract.
     pub fn has_contract(&self) -> bool
-        ensures { result ≡ self.now.has_contract }
+        ensures { result ≡ is_some self.now.contract }
     {
-        self.inner.has_contract()
+        self.inner.has_contract
+    }
+
+    /// Whether it has sent its last message: its direction has carried all of its 2^62 - 1 messages, and a put answers Full for ever,
+    /// where nothing else refuses it first.
+    pub fn is_spent(&self) -> bool
+        ensures { result ≡ (length self.now.sent == MAX_MESSAGES) }
+    {
+        self.inner.put == MAX_MESSAGES
     }
 }

@@ -21,7 +21,7 @@ fn fits(place: &Option<FreePair>, depth: usize) -> bool
     ensures { result ≡ has_depth depth place.now }
 {
     match place {
-        Some(pair) => pair.low.depth() == depth,
+        Some(pair) => pair.low.sender.depth() == depth,
         None => false,
     }
 }
@@ -43,8 +43,8 @@ impl FreeNumbers {
     pub fn open(&mut self, depth: usize) -> Option<FreePair>
         ensures { MatchOption result
             ((self.new.pairs ≡ self.old.pairs) × NoneFree depth self.old.pairs.items)
-            (λ p. (p.low.depth ≡ depth) × (at_place self.old.pairs.items p.low.channel ≡ Some p) × (self.new.pairs.items ≡ slice_set self.old.pairs.items p.low.channel None)
-            × ((j : ℕ) → j < p.low.channel → has_depth depth (at_place self.old.pairs.items j) ≡ false)) }
+            (λ p. (p.low.depth ≡ depth) × (at_place self.old.pairs.items p.low.spot.channel ≡ Some p) × (self.new.pairs.items ≡ slice_set self.old.pairs.items p.low.spot.channel None)
+            × ((j : ℕ) → j < p.low.spot.channel → has_depth depth (at_place self.old.pairs.items j) ≡ false)) }
     {
         let at = self.lowest(depth)?;
         self.pairs[at].take()
@@ -52,9 +52,9 @@ impl FreeNumbers {
 
     /// The number is free again.
     pub fn cancel(&mut self, pair: FreePair)
-        ensures { self.new.pairs.items ≡ slice_set self.old.pairs.items pair.low.channel (Some pair) }
+        ensures { self.new.pairs.items ≡ slice_set self.old.pairs.items pair.low.spot.channel (Some pair) }
     {
-        let channel = pair.low.spot().channel as usize;
+        let channel = pair.low.spot.channel as usize;
         self.pairs[channel] = Some(pair);
     }
 }

@@ -1,5 +1,5 @@
 //! Both ends of a channel whose number is free.
-ghost use Rattle.std.specs.Prelude.{◌≡◌, false};
+ghost use Rattle.std.specs.Prelude.{◌≡◌, None};
 ghost use Rattle.xh_channel.specs.Pairs.{IsPair};
 
 use crate::channel_end::ChannelEnd;
@@ -10,5 +10,5 @@ pub struct FreePair {
     pub low: ChannelEnd,
     pub high: ChannelEnd,
     ghost fresh: { IsPair low high },
-    ghost plain: { low.has_contract ≡ false },
+    ghost plain: { low.contract ≡ None },
 }

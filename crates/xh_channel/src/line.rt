@@ -2,7 +2,7 @@
 ghost use Rattle.std.specs.Prelude.{◌≡◌, ◌-◌, ◌<◌, ◌≤◌, length, IfOk, OnErr};
 ghost use Rattle.xh_model.specs.Rows.{IsValid};
 ghost use Rattle.xh_model.specs.declared.limits.TheConstants.{MAX_DEPTH, MAX_MESSAGES};
-ghost use Rattle.xh_channel.specs.Lines.{AreInStep, Follows, IsNewLine, IsOrderly, PutsBetween, PutsOn, Shuts, TakesBetween, TakesOn, waiting};
+ghost use Rattle.xh_channel.specs.Lines.{AreInStep, Follows, IsNewLine, IsOrderly, LinePuts, LineShuts, LineTakes, PutsBetween, TakesBetween, waiting};
 
 use crate::line_end::LineEnd;
 use crate::message::Message;
@@ -127,7 +127,7 @@ impl Line {
         blocks: ArrayVec<u16, MAX_BLOCKS>,
     ) -> Result<u64, Unsent>
         requires { side < 2 }
-        ensures put { PutsOn self.old self.new side tag blocks result }
+        ensures put { LinePuts self.old self.new side tag blocks result }
         ensures last { IfOk result (λ no. no ≤ MAX_MESSAGES) }
         ensures refused { OnErr result (self.new ≡ self.old) }
         ensures orderly { IsOrderly self.new }
@@ -160,7 +160,7 @@ impl Line {
     /// if the peer is shut, else Empty; both change nothing.
     pub fn take(&mut self, side: u8) -> Result<Message, Refused>
         requires { side < 2 }
-        ensures taken { TakesOn self.old self.new side result }
+        ensures taken { LineTakes self.old self.new side result }
         ensures last { IfOk result (λ m. m.no ≤ MAX_MESSAGES) }
         ensures refused { OnErr result (self.new ≡ self.old) }
         ensures orderly { IsOrderly self.new }
@@ -175,7 +175,7 @@ impl Line {
     /// No later put toward this side succeeds.
     pub fn shut(&mut self, side: u8)
         requires { side < 2 }
-        ensures shut { Shuts self.old self.new side }
+        ensures shut { LineShuts self.old self.new side }
         ensures orderly { IsOrderly self.new }
     {
         if side == 0 {

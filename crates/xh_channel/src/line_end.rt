@@ -1,7 +1,6 @@
 //! One end of a channel with a contract.
 ghost use Rattle.std.specs.Prelude.{◌≡◌, []};
-ghost use Rattle.xh_channel.specs.Ends.{no_counts};
-ghost use Rattle.xh_channel.specs.Lines.{waiting};
+ghost use Rattle.xh_channel.specs.Lines.{no_counts, waiting};
 
 use crate::counts::Counts;
 use crate::message::Message;

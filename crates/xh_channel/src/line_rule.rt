@@ -7,8 +7,7 @@ use std::alloc::Global;
 use std::collections::LinkedList;
 use xh_model::Row;
 
-/// What a side did: the contract's rows and the depth that it goes by, its state, what it put and took, whether it was shut, and
-/// whether nothing comes to it any more: it was shut, and nothing waits for it.
+/// What a side did: the contract's rows and the depth that it goes by, its state, what it put and took, and whether it was shut.
 pub struct Account {
     pub rows: LinkedList<Row>,
     pub depth: u64,
@@ -16,7 +15,6 @@ pub struct Account {
     pub sent: LinkedList<Message>,
     pub got: LinkedList<Message>,
     pub shut: bool,
-    pub drained: bool,
 }
 
 /// What a seat knows. It owns the account of its side, or that of both sides, and knows its peer's while it holds the line.

@@ -1,7 +1,10 @@
 //! An end's seat at the line of its channel.
 ghost use Rattle.std.specs.Prelude.{◌≡◌, ◌+◌, ◌<◌, ◌≤◌, IfOk, OnErr};
 ghost use Rattle.xh_model.specs.declared.limits.TheConstants.{MAX_DEPTH, MAX_MESSAGES};
-ghost use Rattle.xh_channel.specs.LineSeats.{AreAcross, IsBegun, IsBlank, IsDelivered, IsLessTold, OnlySaw, PutsBy, ShutsBy, TakesBy, TookAllOf, begun, told_all};
+ghost use Rattle.xh_channel.specs.Agreement.{AgreesWith};
+ghost use Rattle.xh_channel.specs.Calls.{EndpointPuts, EndpointShuts, EndpointTakes, OnlySaw};
+ghost use Rattle.xh_channel.specs.Endpoint.{EndpointOf};
+ghost use Rattle.xh_channel.specs.LineSeats.{AreAcross, IsBegun, IsBlank, SeatDoes, begun, on_line, told_across};
 ghost use Rattle.std.specs.Arc.{arc_value};
 ghost use Rattle.xh_channel.specs.inner.LineRule.{IsWhole, high_side, line_view, low_side};
 
@@ -84,14 +87,11 @@ fn join(low: LineSeat, high: LineSeat) -> (OwnTable, OwnTable, Token)
     (table, also, token)
 }
 
-/// Shows, of both seats of a line, that what each took is a prefix of what the other sent, and all of it where it is drained, and tells
-/// each all that the other did.
+/// Shows, of both seats of a line, that what each took is a prefix of what the other sent, and tells each all that the other did.
 pub fn compare(low: LineSeat, high: LineSeat) -> (LineSeat, LineSeat)
     requires { AreAcross low high }
-    ensures told { (result.0 ≡ told_all low high) × (result.1 ≡ told_all high low) }
-    ensures grows { IsLessTold low high × IsLessTold high low }
-    ensures delivered { IsDelivered low high × IsDelivered high low }
-    ensures drained { TookAllOf low high × TookAllOf high low }
+    ensures told { (result.0 ≡ told_across low high) × (result.1 ≡ told_across high low) }
+    ensures agree { (e f : EndpointOf) → AgreesWith (on_line e low) (on_line f high) × AgreesWith (on_line f high) (on_line e low) }
 {
     let (low, high, mut token) = join(low, high);
     low.shared.load::<Compares>(&mut token, 0);
@@ -137,9 +137,9 @@ impl LineSeat {
         blocks: ArrayVec<u16, MAX_BLOCKS>,
     ) -> Result<u64, Unsent>
         requires { IsBegun self.old }
-        ensures put { PutsBy self.old self.new tag blocks result }
+        ensures put { SeatDoes self.old self.new (λ e e'. EndpointPuts e e' tag blocks result × OnErr result (OnlySaw e e')) }
+        ensures same { (self.new.side ≡ self.old.side) × (self.new.depth ≡ self.old.depth) }
         ensures last { IfOk result (λ no. no ≤ MAX_MESSAGES) }
-        ensures refused { OnErr result (OnlySaw self.old self.new) }
     {
         let board = &self.table.shared;
         hold(rt, board, &mut self.seat);
@@ -151,12 +151,11 @@ impl LineSeat {
         put
     }
 
-    /// The message that comes next. Where none waits, PeerClosed if the peer is shut, else Empty, and if it was shut itself it is drained.
+    /// The message that comes next. Where none waits, PeerClosed if the peer is shut, else Empty.
     pub fn take<R: Wait>(&mut self, rt: &R) -> Result<Message, Refused>
         requires { IsBegun self.old }
-        ensures taken { TakesBy self.old self.new result }
-        ensures last { IfOk result (λ m. m.no ≤ MAX_MESSAGES) }
-        ensures refused { OnErr result (OnlySaw self.old self.new) }
+        ensures taken { SeatDoes self.old self.new (λ e e'. EndpointTakes e e' result × OnErr result (OnlySaw e e')) }
+        ensures same { (self.new.side ≡ self.old.side) × (self.new.depth ≡ self.old.depth) }
     {
         let board = &self.table.shared;
         hold(rt, board, &mut self.seat);
@@ -171,7 +170,8 @@ impl LineSeat {
     /// No later put of its peer succeeds.
     pub fn shut<R: Wait>(&mut self, rt: &R)
         requires { IsBegun self.old }
-        ensures { ShutsBy self.old self.new }
+        ensures shut { SeatDoes self.old self.new EndpointShuts }
+        ensures same { (self.new.side ≡ self.old.side) × (self.new.depth ≡ self.old.depth) }
     {
         let board = &self.table.shared;
         hold(rt, board, &mut self.seat);

@@ -1,11 +1,11 @@
 // The ends of a direction's queue. An endpoint has the sending end of one, and the receiving end of the other.
 ghost use Rattle.std.specs.Prelude.{◌≡◌, ◌<◌, ◌≤◌, ◌+◌, suc, true, false, List, [], length, MatchOption, MatchResult, IfOk};
-ghost use Rattle.xh_channel.specs.QueueEnds.{IsNewDirection, sending, getting};
+ghost use Rattle.xh_channel.specs.Queues.{IsNewDirection, sending, getting};
 ghost use Rattle.xh_channel.specs.Directions.{WaitsAfter, role};
 ghost use Rattle.xh_channel.specs.Numbers.{Numbered};
 
-use crate::direction::{Gets, Halves, Port, Queue, Sends, Together, Total};
 use crate::message::Message;
+use crate::queue_rule::{Gets, Halves, Port, Queue, Sends, Together, Total};
 use std::alloc::{AllocError, Global};
 use std::marker::Model;
 use std::sync::{Arc, Wait};
@@ -19,7 +19,7 @@ pub struct QueueEnd {
 
 impl Model for QueueEnd {
     ghost use Rattle.std.specs.Prelude.{◌≡◌, true};
-    ghost use Rattle.xh_channel.specs.QueueEnds.{IsRole, QueueView};
+    ghost use Rattle.xh_channel.specs.Queues.{IsRole, QueueView};
 
     ghost Value = { QueueView };
 

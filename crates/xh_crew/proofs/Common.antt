@@ -1,16 +1,16 @@
 -- The names that most proofs cite, passed on from one place. Declares nothing.
-pub use Rattle.std.proofs.Common.{Bool, Global, List, MatchResult, None, [], add-one, ap, append-nil, append_assoc, arith, drop, drop-cons, drop_of_length-le, eq-or-lt_of_le, false, filter}
-pub use Rattle.std.proofs.Common.{get_or, get_or-set_other, if◌then◌else◌, inl, inr, length, length-set, map, refl, remove, replicate, rules, set, subst, suc, sym, true, zero, ℕ, ◌++◌, ◌+◌, ◌<◌}
+pub use Rattle.std.proofs.Common.{Bool, List, MatchResult, None, [], add-one, ap, append-nil, append_assoc, arith, drop, drop-cons, drop_of_length-le, false, filter}
+pub use Rattle.std.proofs.Common.{get_or, if◌then◌else◌, length, map, refl, remove, replicate, rules, set, subst, suc, sym, true, zero, ℕ, ◌++◌, ◌+◌, ◌<◌}
 pub use Rattle.std.proofs.Common.{◌==◌, ◌∙◌, ◌∷◌, ◌≡◌, ◌≤◌}
 pub use Rattle.std.proofs.lemmas.Bool.Decides.{nat_tests}
-pub use Rattle.std.proofs.lemmas.List.{get_or-map, get_or_append_left, get_or_push, length-map, length_push, map-set, map_push, nil_from_length}
+pub use Rattle.std.proofs.lemmas.List.{length-map, nil_from_length}
 pub use Rattle.std.specs.Vec.Iter.{into_iter_items, into_iter_len}
 pub use Rattle.xh_crew.specs.Plays.{AreAnswersTo, ArePlayed, Does, DoesAmong, LAST, Plays, began, part, part_of, told}
-pub use Rattle.xh_crew.specs.inner.Jobs.{Deals, Fits, HavePlayed, IsHand, Joins, Left, PlaceIsDone, queue_at, queues_of, replies_of}
+pub use Rattle.xh_crew.specs.inner.Jobs.{IsHand, Joins, Left, PlaceIsDone}
 pub use Rattle.xh_model.specs.declared.limits.TheConstants.{PLACES}
 pub use Rattle.xh_script.specs.declared.command.Line.{Line}
 pub use Rattle.xh_script.specs.declared.replies.Answered.{Answered}
 pub use Rattle.xh_script.specs.declared.replies.Reply.{Reply}
-pub use Rattle.xh_session.specs.Bindings.{Bindings, names_by_place, no_bindings, number_of, process_at}
+pub use Rattle.xh_session.specs.Bindings.{Bindings, no_bindings, number_of, process_at}
 pub use Rattle.xh_session.specs.Plans.{World}
 pub use Rattle.xh_session.specs.Worlds.{world_of}

@@ -1,9 +1,10 @@
 -- Lemmas on how lines are played, and on which reply is whose.
-use Rattle.xh_crew.proofs.Common.{Answered, AreAnswersTo, Bindings, Bool, Deals, Fits, LAST, Line, List, Plays, Reply, World, [], add-one, ap, append-nil, append_assoc, arith, drop, drop-cons}
-use Rattle.xh_crew.proofs.Common.{drop_of_length-le, false, filter, get_or, get_or-set_other, if◌then◌else◌, length, length-set, map, nat_tests, nil_from_length, part_of, queue_at, refl, set}
-use Rattle.xh_crew.proofs.Common.{subst, suc, sym, told, true, ℕ, ◌++◌, ◌+◌, ◌<◌, ◌==◌, ◌∙◌, ◌∷◌, ◌≡◌, ◌≤◌}
-use Rattle.std.proofs.lemmas.Grind.{common_steps, get_or-set_at}
-use Rattle.xh_crew.specs.Plays.{AllZipFrom, names_after, numbers_after, replies_in}
+use Rattle.xh_crew.proofs.Common.{Answered, AreAnswersTo, Bindings, Bool, Line, List, Plays, Reply, World, [], add-one, ap, append-nil, append_assoc, arith, drop, drop-cons, drop_of_length-le, false}
+use Rattle.xh_crew.proofs.Common.{filter, get_or, if◌then◌else◌, length, length-map, map, nat_tests, nil_from_length, part, part_of, refl, set, subst, suc, sym, true, zero, ℕ, ◌++◌, ◌+◌, ◌<◌, ◌==◌}
+use Rattle.xh_crew.proofs.Common.{◌∙◌, ◌∷◌, ◌≡◌, ◌≤◌}
+use Rattle.std.proofs.Common.{take}
+use Rattle.xh_crew.specs.inner.Jobs.{behind, filled, next_of}
+use Rattle.xh_crew.specs.Plays.{AllZipFrom, replies_in}
 
 -- ---- a loop that plays those of the lines that pass a test
 
@@ -82,62 +83,61 @@ left_more f ys more x rest later all e r h =
 
 -- ---- which reply is whose
 
-pub part_within : (b : Bindings) (line : Line) → part_of b line ≤ LAST
-part_within b line = grind (arith, nat_tests)
+-- there are as many answers as lines
+pub as_long : (lines : List Line) (answers : List Answered) → AreAnswersTo lines answers → length answers ≡ length lines
+as_long lines answers same = sym (length-map answers (λ a. a.line)) ∙ ap length same ∙ length-map lines (λ l. l.number)
 
--- once a line got the next reply of its part, that part has one less, and the others as many
-fits_at : (p k : ℕ) (queues : List (List Reply)) (reply : Reply) (rest : List Reply) (own : Line → Bool) (line : Line) (lines : List Line) → own line ≡ (p == k) → p < length queues
-    → queue_at queues p ≡ reply ∷ rest → length (queue_at queues k) ≡ length (filter own (line ∷ lines)) → length (queue_at (set queues p rest) k) ≡ length (filter own lines)
-fits_at p k queues reply rest own line lines is below q f = grind (arith, common_steps, nat_tests, get_or-set_at queues p k rest [], get_or-set_other queues p k rest [], is, f, ap length q)
+pub set_lines : (answers : List Answered) (i : ℕ) (a : Answered) (reply : Reply) → map (λ x. x.line) (set answers i (record (get_or answers i a) { reply = reply })) ≡ map (λ x. x.line) answers
+set_lines [] i a reply = refl
+set_lines (x ∷ answers) zero a reply = refl
+set_lines (x ∷ answers) (suc i) a reply = ap (λ ns. x.line ∷ ns) (set_lines answers i a reply)
 
--- and what each part had is what its lines got
-dealt_at : (p k : ℕ) (queues : List (List Reply)) (a : Reply) (rest later : List Reply) → p < length queues → queue_at queues p ≡ a ∷ rest
-    → queue_at (set queues p rest) k ≡ later → queue_at queues k ≡ (if p == k then a ∷ later else later)
-dealt_at p k queues a rest later below q h = grind (arith, nat_tests, get_or-set_at queues p k rest [], get_or-set_other queues p k rest [], h, q)
+module _ (b : Bindings) (k : ℕ) where
+  pub fill_own : (lines : List Line) (answers : List Answered) (i : ℕ) (line : Line) (a : Answered) (replies : List Reply) → i < length lines → length answers ≡ length lines
+      → (part_of b (get_or lines i line) == k) ≡ true
+      → take i answers ++ filled b k (drop i lines) (drop i answers) replies
+      ≡ take (suc i) (set answers i (record (get_or answers i a) { reply = next_of replies }))
+      ++ filled b k (drop (suc i) lines) (drop (suc i) (set answers i (record (get_or answers i a) { reply = next_of replies }))) (behind replies)
+  fill_own [] answers i line a replies below long own = absurd (omega arith)
+  fill_own (l ∷ lines) [] i line a replies below long own = absurd (omega arith)
+  fill_own (l ∷ lines) (x ∷ answers) zero line a replies below long own = rw own refl
+  fill_own (l ∷ lines) (x ∷ answers) (suc i) line a replies below long own = ap (λ rest. x ∷ rest) (fill_own lines answers i line a replies (omega arith) (omega arith) own)
 
-pub fits_more : (b : Bindings) (line : Line) (lines : List Line) (queues : List (List Reply)) (reply : Reply) (rest : List Reply)
-    → queue_at queues (part_of b line) ≡ reply ∷ rest → Fits b (line ∷ lines) queues → Fits b lines (set queues (part_of b line) rest)
-fits_more b line lines queues reply rest q (count, f) = (
-  length-set queues (part_of b line) rest ∙ count,
-  λ k within. fits_at (part_of b line) k queues reply rest (λ l. part_of b l == k) line lines refl (omega (arith, count, part_within b line)) q (f k within),
-)
+  pub fill_other : (lines : List Line) (answers : List Answered) (i : ℕ) (line : Line) (replies : List Reply) → i < length lines → length answers ≡ length lines
+      → (part_of b (get_or lines i line) == k) ≡ false
+      → take i answers ++ filled b k (drop i lines) (drop i answers) replies ≡ take (suc i) answers ++ filled b k (drop (suc i) lines) (drop (suc i) answers) replies
+  fill_other [] answers i line replies below long other = absurd (omega arith)
+  fill_other (l ∷ lines) [] i line replies below long other = absurd (omega arith)
+  fill_other (l ∷ lines) (x ∷ answers) zero line replies below long other = rw other refl
+  fill_other (l ∷ lines) (x ∷ answers) (suc i) line replies below long other = ap (λ rest. x ∷ rest) (fill_other lines answers i line replies (omega arith) (omega arith) other)
 
--- where replies fit to lines of which one is the first, its part has one
-pub fits_some : (b : Bindings) (line : Line) (lines : List Line) (queues : List (List Reply)) → Fits b (line ∷ lines) queues
-    → (part_of b line < length queues) × (0 < length (queue_at queues (part_of b line)))
-fits_some b line lines queues (count, f) = let within = part_within b line in
-    (omega (arith, count, within), more (part_of b line) (λ l. part_of b l == part_of b line) refl (f (part_of b line) within))
-  where
-    more : (p : ℕ) (own : Line → Bool) → own line ≡ (p == p) → length (queue_at queues p) ≡ length (filter own (line ∷ lines)) → 0 < length (queue_at queues p)
-    more p own is f = grind (arith, nat_tests, is, f)
+  -- the numbers of the lines stay
+  pub filled_lines : (lines : List Line) (answers : List Answered) (replies : List Reply) → map (λ a. a.line) (filled b k lines answers replies) ≡ map (λ a. a.line) answers
+  filled_lines [] answers replies = refl
+  filled_lines (line ∷ lines) [] replies = refl
+  filled_lines (line ∷ lines) (a ∷ answers) replies = at (part_of b line == k) (filled_lines lines answers) where
+    at : (own : Bool) → ((rs : List Reply) → map (λ x. x.line) (filled b k lines answers rs) ≡ map (λ x. x.line) answers)
+        → map (λ x. x.line) (if own then record a { reply = next_of replies } ∷ filled b k lines answers (behind replies) else a ∷ filled b k lines answers replies)
+        ≡ a.line ∷ map (λ x. x.line) answers
+    at true same = ap (λ ns. a.line ∷ ns) (same (behind replies))
+    at false same = ap (λ ns. a.line ∷ ns) (same replies)
 
--- the replies of a part are those that its lines got
-pub dealt : (b : Bindings) (lines : List Line) (queues : List (List Reply)) (answers : List Answered) → Fits b lines queues → Deals b lines queues answers
-    → (k : ℕ) → k ≤ LAST → queue_at queues k ≡ replies_in b k lines answers
-dealt b [] queues [] (count, f) d k within = nil_from_length _ (f k within)
-dealt b [] queues (a ∷ answers) f d k within = absurd d
-dealt b (line ∷ lines) queues [] f d k within = absurd d
-dealt b (line ∷ lines) queues (a ∷ answers) f (rest, number, q, d) k within =
-    dealt_at (part_of b line) k queues a.reply rest _ (fits_some b line lines queues f).0 q
-    (dealt b lines (set queues (part_of b line) rest) answers (fits_more b line lines queues a.reply rest q f) d k within)
+  -- the part has these replies then
+  pub filled_own : (lines : List Line) (answers : List Answered) (replies : List Reply) → length answers ≡ length lines → length replies ≡ length (part b k lines)
+      → replies_in b k lines (filled b k lines answers replies) ≡ replies
+  filled_own [] answers replies long enough = sym (nil_from_length replies enough)
+  filled_own (line ∷ lines) [] replies long enough = absurd (omega arith)
+  filled_own (line ∷ lines) (a ∷ answers) replies long enough = at (part_of b line == k) refl replies enough (λ rs e. filled_own lines answers rs (omega arith) e) where
+    at : (own : Bool) → (part_of b line == k) ≡ own → (rs : List Reply) → length rs ≡ length (part b k (line ∷ lines))
+        → ((rs : List Reply) → length rs ≡ length (part b k lines) → replies_in b k lines (filled b k lines answers rs) ≡ rs)
+        → replies_in b k (line ∷ lines) (filled b k (line ∷ lines) (a ∷ answers) rs) ≡ rs
+    at true own [] e same = let f = rw own at e in absurd (omega (arith, f))
+    at true own (r ∷ rs) e same = let f = rw own at e in rw (own, own) (ap (λ l. r ∷ l) (same rs (omega (arith, f))))
+    at false own rs e same = let f = rw own at e in rw (own, own) (same rs f)
 
-pub deals_lines : (b : Bindings) (lines : List Line) (queues : List (List Reply)) (answers : List Answered) → Deals b lines queues answers → AreAnswersTo lines answers
-deals_lines b [] queues [] d = refl
-deals_lines b [] queues (a ∷ answers) d = absurd d
-deals_lines b (line ∷ lines) queues [] d = absurd d
-deals_lines b (line ∷ lines) queues (a ∷ answers) (rest, number, q, d) = rw (number, deals_lines b lines (set queues (part_of b line) rest) answers d) refl
-
--- one more line gets its reply
-pub deals_more : (b : Bindings) (lines : List Line) (i : ℕ) (line : Line) (a : Answered) (rest : List Reply) (queues old : List (List Reply)) (so_far : List Answered)
-    → i < length lines → get_or lines i line ≡ line → a.line ≡ line.number → queue_at queues (part_of b line) ≡ a.reply ∷ rest
-    → ((later : List Answered) → Deals b (drop i lines) queues later → Deals b lines old (so_far ++ later))
-    → (later : List Answered) → Deals b (drop (i + 1) lines) (set queues (part_of b line) rest) later → Deals b lines old ((so_far ++ a ∷ []) ++ later)
-deals_more b lines i line a rest queues old so_far below e number q h later d =
-    subst (Deals b lines old) (sym (append_assoc so_far (a ∷ []) later))
-    (h (a ∷ later) (subst (λ ls. Deals b ls queues (a ∷ later)) (sym (drop_at lines i line below e)) (rest, number, q, d)))
-
-pub told_more : (lines : List Line) (i : ℕ) (line : Line) (a : Answered) (numbers : List ℕ) (b : Bindings) (all : List Answered → Bindings) (so_far : List Answered)
-    → i < length lines → get_or lines i line ≡ line → ((later : List Answered) → told numbers b (drop i lines) later ≡ all (so_far ++ later))
-    → (later : List Answered) → told (numbers_after numbers a.reply) (names_after numbers b line a.reply) (drop (i + 1) lines) later ≡ all ((so_far ++ a ∷ []) ++ later)
-told_more lines i line a numbers b all so_far below e h later =
-    ap (λ ls. told numbers b ls (a ∷ later)) (sym (drop_at lines i line below e)) ∙ h (a ∷ later) ∙ ap all (sym (append_assoc so_far (a ∷ []) later))
+  -- and each other part those that it had
+  pub filled_other : (j : ℕ) (lines : List Line) (answers : List Answered) (replies : List Reply) → (j == k) ≡ false
+      → replies_in b j lines (filled b k lines answers replies) ≡ replies_in b j lines answers
+  filled_other j [] answers replies apart = refl
+  filled_other j (line ∷ lines) [] replies apart = refl
+  filled_other j (line ∷ lines) (a ∷ answers) replies apart = grind (arith, nat_tests, filled_other j lines answers (behind replies) apart, filled_other j lines answers replies apart, apart)

@@ -1,18 +1,21 @@
 -- Lemmas on whole runs: what all have played is what the answers tell.
-use Rattle.xh_crew.proofs.Common.{Answered, ArePlayed, Bindings, Bool, Does, DoesAmong, Fits, HavePlayed, IsHand, Joins, LAST, Left, Line, List, None, PLACES, PlaceIsDone, Plays, World, [], ap}
-use Rattle.xh_crew.proofs.Common.{arith, began, eq-or-lt_of_le, false, get_or, get_or_append_left, get_or_push, if◌then◌else◌, inl, inr, length, length-map, length_push, map, nat_tests, number_of}
-use Rattle.xh_crew.proofs.Common.{part, process_at, queue_at, queues_of, refl, replies_of, subst, suc, sym, true, world_of, zero, ℕ, ◌++◌, ◌+◌, ◌<◌, ◌==◌, ◌∙◌, ◌∷◌, ◌≡◌, ◌≤◌}
+use Rattle.xh_crew.proofs.Common.{Answered, AreAnswersTo, ArePlayed, Bindings, Bool, Does, DoesAmong, IsHand, Joins, LAST, Left, Line, List, None, PLACES, PlaceIsDone, Plays, Reply}
+use Rattle.xh_crew.proofs.Common.{ap, arith, began, false, if◌then◌else◌, length, length-map, map, nat_tests, number_of, part, process_at, refl, subst, suc, sym, true, world_of, ℕ, ◌+◌}
+use Rattle.xh_crew.proofs.Common.{World, [], ◌<◌, ◌==◌, ◌∙◌, ◌∷◌, ◌≡◌, ◌≤◌}
 use Rattle.std.proofs.Math.Dec.{eqb-suc-zero}
 use Rattle.xh_model.specs.declared.row.Row.{Row}
-use Rattle.xh_crew.proofs.Plays.{plays_length, zips_count}
+use Rattle.xh_crew.proofs.Plays.{as_long, filled_lines, filled_other, filled_own, plays_length, zips_count}
+use Rattle.xh_crew.specs.inner.Jobs.{filled, filled_all}
 use Rattle.xh_crew.specs.declared.crew.Hand.{Hand}
 use Rattle.xh_crew.specs.declared.crew.Hand.TheVariants.{Idle, Works}
 use Rattle.xh_crew.specs.declared.job.Done.{Done}
 use Rattle.xh_crew.specs.declared.job.Shared.{Shared}
-use Rattle.xh_crew.specs.declared.run.Played.{Played}
 use Rattle.xh_crew.specs.Plays.{AllZipFrom, PlayAll, PlaysPlace, is_placed, process_of, replies_in}
 use Rattle.xh_script.specs.Forms.{is_head}
 use Rattle.xh_session.specs.Questions.{Answer, Question}
+
+same_length : (xs ys : List Answered) → map (λ a. a.line) ys ≡ map (λ a. a.line) xs → length ys ≡ length xs
+same_length xs ys e = sym (length-map ys (λ a. a.line)) ∙ ap length e ∙ length-map xs (λ a. a.line)
 
 -- ---- the head
 
@@ -53,79 +56,65 @@ module _ {M S : Type 0} (state : M → S) (did : S → (q : Question) → Answer
   )
 
   module _ (lines : List Line) (ready : World S) where
-    places_fit : (k : ℕ) (olds : List M) (dones : List (Done M)) → AllZipFrom (PlaceIsDone state did ready lines) k olds dones
-        → (j i : ℕ) → i ≡ k + j → j < length dones → length (get_or (replies_of dones) j []) ≡ length (part ready.names (suc i) lines)
-    places_fit k [] [] p j i e below = absurd (omega (arith, below))
-    places_fit k [] (done ∷ dones) p j i e below = absurd p
-    places_fit k (old ∷ olds) [] p j i e below = absurd p
-    places_fit k (old ∷ olds) (done ∷ dones) (p, ps) zero i e below =
-        let same : k ≡ i = omega (arith, e) in
-        subst (λ x. length done.replies.items ≡ length (part ready.names (suc x) lines)) same (plays_length (DoesAmong did lines) _ _ _ _ p.1)
-    places_fit k (old ∷ olds) (done ∷ dones) (p, ps) (suc j) i e below = places_fit (suc k) olds dones ps j i (omega (arith, e)) (omega (arith, below))
+    abbrev AreDone : ℕ → List M → List (Done M) → Type 0
+    AreDone = AllZipFrom (PlaceIsDone state did ready lines)
 
-    module _ (contracts : List (List Row)) (answers : List Answered) where
-      places_played : (k : ℕ) (olds : List M) (dones : List (Done M)) → AllZipFrom (PlaceIsDone state did ready lines) k olds dones
-          → ((j i : ℕ) → i ≡ k + j → j < length dones → get_or (replies_of dones) j [] ≡ replies_in ready.names (suc i) lines answers)
-          → AllZipFrom (PlaysPlace did contracts lines answers ready) k (map state olds) (map state (map (λ done. done.machine) dones))
-      places_played k [] [] p q = tt
-      places_played k [] (done ∷ dones) p q = absurd p
-      places_played k (old ∷ olds) [] p q = absurd p
-      places_played k (old ∷ olds) (done ∷ dones) (p, ps) q = (
-        (p.0, subst (λ rs. Plays (DoesAmong did lines) (record ready { machine = state old }) (part ready.names (suc k) lines) rs p.0) (q 0 k (omega arith) (omega arith)) p.1, p.2),
-        places_played (suc k) olds dones ps (λ j i e below. q (suc j) i (omega (arith, e)) (omega (arith, below))),
-      )
+    -- filling in the places from k on changes no earlier part
+    all_lines : (k : ℕ) (answers : List Answered) (dones : List (Done M)) → map (λ a. a.line) (filled_all ready.names k lines answers dones) ≡ map (λ a. a.line) answers
+    all_lines k answers [] = refl
+    all_lines k answers (done ∷ dones) = all_lines (suc k) (filled ready.names (suc k) lines answers done.replies.items) dones ∙ filled_lines ready.names (suc k) lines answers done.replies.items
 
--- ---- all that was played
+    all_other : (j k : ℕ) (answers : List Answered) (dones : List (Done M)) → j ≤ k
+        → replies_in ready.names j lines (filled_all ready.names k lines answers dones) ≡ replies_in ready.names j lines answers
+    all_other j k answers [] before = refl
+    all_other j k answers (done ∷ dones) before = all_other j (suc k) (filled ready.names (suc k) lines answers done.replies.items) dones (omega arith)
+        ∙ filled_other ready.names (suc k) j lines answers done.replies.items (grind (arith, nat_tests))
 
-module _ {M S : Type 0} (state : M → S) (did : S → (q : Question) → Answer q → S → Type 0) (lines : List Line) (first : World S) (olds : List M) (last : S) (p : Played M)
-    (h : HavePlayed state did lines first olds last p) where
-  dones_count : length (replies_of p.dones.items) ≡ PLACES
-  dones_count = length-map p.dones.items (λ d. d.replies.items) ∙ zips_count (PlaceIsDone state did h.ready lines) 0 olds p.dones.items h.places ∙ h.count
+    -- and each place has its replies
+    module _ (contracts : List (List Row)) (last : List Answered) where
+      places_played : (k : ℕ) (olds : List M) (dones : List (Done M)) (answers : List Answered) → length answers ≡ length lines → k + length dones ≡ PLACES
+          → ((j : ℕ) → j ≤ PLACES → replies_in ready.names j lines last ≡ replies_in ready.names j lines (filled_all ready.names k lines answers dones)) → AreDone k olds dones
+          → AllZipFrom (PlaysPlace did contracts lines last ready) k (map state olds) (map state (map (λ done. done.machine) dones))
+      places_played k [] [] answers long count same p = tt
+      places_played k [] (done ∷ dones) answers long count same p = absurd p
+      places_played k (old ∷ olds) [] answers long count same p = absurd p
+      places_played k (old ∷ olds) (done ∷ dones) answers long count same (p, ps) =
+          let now_ = filled ready.names (suc k) lines answers done.replies.items in
+          let own = sym (same (suc k) (omega arith) ∙ all_other (suc k) (suc k) now_ dones (omega arith)
+          ∙ filled_own ready.names (suc k) lines answers done.replies.items long (plays_length (DoesAmong did lines) _ _ _ _ p.1)) in (
+            (p.0, subst (λ rs. Plays (DoesAmong did lines) (record ready { machine = state old }) (part ready.names (suc k) lines) rs p.0) own p.1, p.2),
+            places_played (suc k) olds dones now_ (same_length answers now_ (filled_lines ready.names (suc k) lines answers done.replies.items) ∙ long) (omega arith) same ps,
+          )
 
-  queue_inside : (j : ℕ) → j < PLACES → get_or (replies_of p.dones.items ++ p.rest.items ∷ []) j [] ≡ get_or (replies_of p.dones.items) j []
-  queue_inside j below = get_or_append_left (replies_of p.dones.items) (p.rest.items ∷ []) [] j (omega (arith, below, dones_count))
+    -- all that was played
+    module _ (contracts : List (List Row)) (blank : List Answered) (heads rests : List Reply) (dones : List (Done M)) (answer_all : AreAnswersTo lines blank) where
+      abbrev headed : List Answered
+      headed = filled ready.names 0 lines blank heads
 
-  queue_end : get_or (replies_of p.dones.items ++ p.rest.items ∷ []) PLACES [] ≡ p.rest.items
-  queue_end = get_or_push (replies_of p.dones.items) p.rest.items [] PLACES dones_count
+      abbrev placed : List Answered
+      placed = filled_all ready.names 0 lines headed dones
 
-  below_dones : (j : ℕ) → j < PLACES → j < length p.dones.items
-  below_dones j below = omega (arith, below, dones_count, length-map p.dones.items (λ d. d.replies.items))
+      headed_lines : AreAnswersTo lines headed
+      headed_lines = filled_lines ready.names 0 lines blank heads ∙ answer_all
 
-  fits_after : (j : ℕ) → j ≤ PLACES → length (get_or (replies_of p.dones.items ++ p.rest.items ∷ []) j []) ≡ length (part h.ready.names (suc j) lines)
-  fits_after j within = elim (eq-or-lt_of_le within) [
-    | inr below ↦ ap length (queue_inside j below) ∙ places_fit state did lines h.ready 0 olds p.dones.items h.places j j (omega arith) (below_dones j below)
-    | inl same ↦ subst (λ x. length (get_or (replies_of p.dones.items ++ p.rest.items ∷ []) x []) ≡ length (part h.ready.names (suc x) lines)) (sym same)
-        (ap length queue_end ∙ plays_length (Does did) _ _ _ _ h.rest)
-  ]
+      before_last : (j : ℕ) → j ≤ PLACES → replies_in ready.names j lines (filled ready.names LAST lines placed rests) ≡ replies_in ready.names j lines placed
+      before_last j before = filled_other ready.names LAST j lines placed rests (grind (arith, nat_tests))
 
-  fits_ready : (k : ℕ) → k ≤ LAST → length (queue_at (queues_of p) k) ≡ length (part h.ready.names k lines)
-  fits_ready zero within = plays_length (Does did) _ _ _ _ h.head
-  fits_ready (suc j) within = fits_after j (omega (arith, within))
-
-  pub fits_all : Fits p.ready lines (queues_of p)
-  fits_all = (
-    ap suc (length_push (replies_of p.dones.items) p.rest.items) ∙ omega (arith, dones_count),
-    subst (λ b. (k : ℕ) → k ≤ LAST → length (queue_at (queues_of p) k) ≡ length (part b k lines)) (sym h.names) fits_ready,
-  )
-
-  module _ (contracts : List (List Row)) (answers : List Answered) (begins : first ≡ began first.machine contracts)
-      (q : (k : ℕ) → k ≤ LAST → queue_at (queues_of p) k ≡ replies_in p.ready k lines answers) where
-    got : (k : ℕ) → k ≤ LAST → queue_at (queues_of p) k ≡ replies_in h.ready.names k lines answers
-    got = subst (λ b. (k : ℕ) → k ≤ LAST → queue_at (queues_of p) k ≡ replies_in b k lines answers) h.names q
-
-    pub all_played : PlayAll did contracts lines answers first.machine (map state olds) last (map state (map (λ done. done.machine) p.dones.items))
-    all_played = record {
-      ready = h.ready;
-      end = h.end;
-      head = subst (λ w. Plays (Does did) w (part h.ready.names 0 lines) (replies_in h.ready.names 0 lines answers) h.ready) begins
-          (subst (λ rs. Plays (Does did) first (part h.ready.names 0 lines) rs h.ready) (got 0 (omega arith)) h.head);
-      places = places_played state did lines h.ready contracts answers 0 olds p.dones.items h.places
-          (λ j i e below. sym (queue_inside j (omega (arith, below, dones_count, length-map p.dones.items (λ d. d.replies.items))))
-          ∙ subst (λ x. get_or (replies_of p.dones.items ++ p.rest.items ∷ []) j [] ≡ replies_in h.ready.names (suc x) lines answers) (sym (e ∙ omega arith))
-          (got (suc j) (omega (arith, below, dones_count, length-map p.dones.items (λ d. d.replies.items)))));
-      rest = subst (λ rs. Plays (Does did) h.ready (part h.ready.names LAST lines) rs h.end) (sym queue_end ∙ got LAST (omega arith)) h.rest;
-      left = h.left;
-    }
+      pub all_played : (first last : S) (end : World S) (olds : List M) → length olds ≡ PLACES → Plays (Does did) (began first contracts) (part ready.names 0 lines) heads ready
+          → AreDone 0 olds dones → Plays (Does did) ready (part ready.names LAST lines) rests end → end.machine ≡ last
+          → PlayAll did contracts lines (filled ready.names LAST lines placed rests) first (map state olds) last (map state (map (λ done. done.machine) dones))
+      all_played first last end olds count head places rest left = record {
+        ready = ready;
+        end = end;
+        head = subst (λ rs. Plays (Does did) (began first contracts) (part ready.names 0 lines) rs ready)
+            (sym (before_last 0 (omega arith) ∙ all_other 0 0 headed dones (omega arith)
+            ∙ filled_own ready.names 0 lines blank heads (as_long lines blank answer_all) (plays_length (Does did) _ _ _ _ head))) head;
+        places = places_played contracts (filled ready.names LAST lines placed rests) 0 olds dones headed (as_long lines headed headed_lines)
+            (omega (arith, zips_count (PlaceIsDone state did ready lines) 0 olds dones places, count)) before_last places;
+        rest = subst (λ rs. Plays (Does did) ready (part ready.names LAST lines) rs end)
+            (sym (filled_own ready.names LAST lines placed rests (as_long lines placed (all_lines 0 headed dones ∙ headed_lines)) (plays_length (Does did) _ _ _ _ rest))) rest;
+        left = left;
+      }
 
 -- as many machines are left
 pub played_count : {S : Type 0} (did : S → (q : Question) → Answer q → S → Type 0) (contracts : List (List Row)) (lines : List Line) (answers : List Answered) (olds news : List S)

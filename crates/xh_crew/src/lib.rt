@@ -3,7 +3,6 @@
 
 mod crew;
 mod job;
-mod latest;
 mod play;
 mod replies;
 mod run;

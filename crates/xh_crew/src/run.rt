@@ -1,20 +1,19 @@
 //! The run itself: the head, the workers, and what they leave.
-ghost use Rattle.std.specs.Prelude.{◌≡◌, ◌≤◌, ◌∷◌, ◌++◌, [], List, IfErr, IfOk, MatchResult, length, map, vec_len};
-ghost use Rattle.std.specs.Vec.Iter.{into_iter_items};
+ghost use Rattle.std.specs.Prelude.{◌≡◌, ◌≤◌, IfErr, IfOk, MatchResult, OnOk, length, map, vec_len};
 ghost use Rattle.xh_model.specs.declared.limits.TheConstants.{MAX_WORKERS, PLACES};
-ghost use Rattle.xh_crew.specs.Plays.{AllZipFrom, AreAnswersTo, ArePlayed, Does, HasNames, Plays, began, part};
-ghost use Rattle.xh_crew.specs.inner.Jobs.{HavePlayed, PlaceIsDone, replies_of};
+ghost use Rattle.xh_crew.specs.Plays.{AllZipFrom, AreAnswersTo, ArePlayed, Does, HasNames, PlayAll, Plays, part};
+ghost use Rattle.xh_crew.specs.inner.Jobs.{PlaceIsDone};
+ghost use Rattle.xh_session.specs.Bindings.{no_bindings};
 ghost use Rattle.xh_crew.specs.Stops.{Stops};
 ghost use Rattle.xh_session.specs.Worlds.{world_of};
 
 use crate::crew::work_all;
 use crate::job::{Done, Shared};
 use crate::play::is_in;
-use crate::replies::answered;
+use crate::replies::{answers_to, fill, fill_all, latest};
 use std::alloc::{AllocError, Global};
 use std::sync::{Mutex, Wait};
 use std::thread::Threads;
-use std::vec::IntoIter;
 use xh_model::limits::{MAX_WORKERS, PLACES};
 use xh_place::Gate;
 use xh_script::{Answered, Fault, Line, Name, Reply, Script};
@@ -26,16 +25,6 @@ pub struct Outcome<M> {
     pub machines: Vec<M>,
     pub answers: Vec<Answered>,
     pub names: Vec<Name>,
-}
-
-// What all have played: the replies of the head, what the workers of the places leave, the replies of the last part,
-// and what the names stood for after the head.
-#[derive(Drop)]
-struct Played<M> {
-    head: Vec<Reply>,
-    dones: Vec<Done<M>>,
-    rest: Vec<Reply>,
-    ready: Bindings,
 }
 
 // Does the lines of a part in order.
@@ -55,18 +44,6 @@ fn run_part<'a, M: Machine>(
         }
     }
     Ok(replies)
-}
-
-// Does the head lines in order.
-fn run_head<'a, M: Machine>(
-    alloc: Global,
-    head: &mut Session<'a, M>,
-    lines: &[Line],
-) -> Result<Vec<Reply>, AllocError>
-    ensures { IfOk result (λ replies. Plays (Does M.did) (world_of M.state head.old) (part head.old.names 0 lines.now) replies.items (world_of M.state head.new)) }
-{
-    let names = head.names.copy(alloc)?;
-    run_part(alloc, head, &names, lines, 0)
 }
 
 // Does the commands of the processes that have a place, each by a machine: what the workers leave.
@@ -92,7 +69,7 @@ fn work<'a, M: Machine + Send, R: Threads + Wait + Sync, G: Gate + Sync>(
     work_all(rt, alloc, machines, &shared)
 }
 
-// Plays all lines, with a machine for each place and the head's.
+// Plays all lines, with the head's machine and one for each place: the machines of the places, and the answers.
 fn play_all<M: Machine + Send, R: Threads + Wait + Sync, G: Gate + Sync>(
     rt: &R,
     alloc: Global,
@@ -100,74 +77,25 @@ fn play_all<M: Machine + Send, R: Threads + Wait + Sync, G: Gate + Sync>(
     head: &mut Session<'_, M>,
     lines: &[Line],
     gate: &G,
-) -> Result<Played<M>, Fault>
-    requires { vec_len machines ≡ PLACES }
-    ensures played { IfOk result (HavePlayed M.state M.did lines.now (world_of M.state head.old) machines.items (M.state head.new.machine)) }
+    answers: &mut [Answered],
+) -> Result<Vec<M>, Fault>
+    requires count { vec_len machines ≡ PLACES }
+    requires names { head.old.names ≡ no_bindings }
+    requires answers { AreAnswersTo lines.now answers.old }
+    ensures played { IfOk result (λ r. PlayAll M.did head.old.contracts.now lines.now answers.new
+        (M.state head.old.machine) (map M.state machines.items) (M.state head.new.machine) (map M.state r.items)) }
+    ensures answers { OnOk result (AreAnswersTo lines.now answers.new) }
     ensures stopped { IfErr result (Stops G.always) }
 {
-    let replies = run_head(alloc, head, lines)?;
-    let dones = work(rt, alloc, machines, head, lines, gate)?;
+    let names = Bindings::new(alloc)?;
+    let first = run_part(alloc, head, &names, lines, 0)?;
     let ready = head.names.copy(alloc)?;
-    let rest = run_part(alloc, head, &ready, lines, 1 + PLACES)?;
-    Ok(Played {
-        head: replies,
-        dones,
-        rest,
-        ready,
-    })
-}
-
-// The machines, and the replies of the parts.
-fn gather<M: Machine>(
-    alloc: Global,
-    machine: M,
-    head: Vec<Reply>,
-    dones: Vec<Done<M>>,
-    rest: Vec<Reply>,
-) -> Result<(Vec<M>, Vec<IntoIter<Reply>>), AllocError>
-    ensures machines { IfOk result (λ r. r.0.items ≡ machine ∷ map (λ done. done.machine) dones.items) }
-    ensures queues { IfOk result (λ r. map into_iter_items r.1.items ≡ head.items ∷ (replies_of dones.items ++ rest.items ∷ [])) }
-{
-    let mut machines = Vec::with_capacity(alloc, usize::from(MAX_WORKERS))?;
-    let mut queues = Vec::with_capacity(alloc, usize::from(MAX_WORKERS) + 1)?;
-    machines.push(machine)?;
-    queues.push(head.into_iter())?;
-    for done in dones {
-        let Done { machine, replies } = done;
-        machines.push(machine)?;
-        queues.push(replies.into_iter())?;
-    }
-    queues.push(rest.into_iter())?;
-    Ok((machines, queues))
-}
-
-// What the run says.
-fn conclude<M: Machine>(
-    alloc: Global,
-    machine: M,
-    played: Played<M>,
-    script: &Script,
-) -> Result<Outcome<M>, AllocError>
-    requires { (first : M.State) × (olds : List M) × HavePlayed M.state M.did script.now.lines.items (began first script.now.contracts.items) olds (M.state machine) played }
-    ensures played { IfOk result (λ o. (first : M.State) (olds : List M) → HavePlayed M.state M.did script.now.lines.items (began first script.now.contracts.items) olds (M.state machine) played
-        → ArePlayed M.did script.now.contracts.items script.now.lines.items o.answers.items (first ∷ map M.state olds) (map M.state o.machines.items)) }
-    ensures answers { IfOk result (λ o. AreAnswersTo script.now.lines.items o.answers.items) }
-    ensures names { IfOk result (λ o. HasNames script.now.processes.items script.now.lines.items o.answers.items o.names.items × (length o.names.items ≡ PLACES)) }
-{
-    let Played {
-        head,
-        dones,
-        rest,
-        ready,
-    } = played;
-    let (machines, queues) = gather(alloc, machine, head, dones, rest)?;
-    let (answers, names) = answered(alloc, &ready, &script.lines, queues)?;
-    let names = names.by_place(alloc, &script.processes)?;
-    Ok(Outcome {
-        machines,
-        answers,
-        names,
-    })
+    fill(&ready, lines, 0, first, answers);
+    let dones = work(rt, alloc, machines, head, lines, gate)?;
+    let machines = fill_all(alloc, &ready, lines, dones, answers)?;
+    let last = run_part(alloc, head, &ready, lines, 1 + PLACES)?;
+    fill(&ready, lines, 1 + PLACES, last, answers);
+    Ok(machines)
 }
 
 /// Runs a script with the first machine for the head and, at the end, for the processes without a place, and the others
@@ -193,11 +121,22 @@ pub fn run_on<M: Machine + Send, R: Threads + Wait + Sync, G: Gate + Sync>(
         names: Bindings::new(alloc)?,
         contracts: &script.contracts,
     };
-    let played = play_all(rt, alloc, machines, &mut head, &script.lines, gate);
+    let lines = script.lines.as_slice();
+    let mut answers = answers_to(alloc, lines)?;
+    let answered = answers.as_mut_slice();
+    let played = play_all(rt, alloc, machines, &mut head, lines, gate, answered);
     let Session {
         machine,
         names: _,
         contracts: _,
     } = head;
-    Ok(conclude(alloc, machine, played?, script)?)
+    let mut machines = played?;
+    machines.insert(0, machine)?;
+    let names = latest(alloc, lines, answers.as_slice())?;
+    let names = names.by_place(alloc, &script.processes)?;
+    Ok(Outcome {
+        machines,
+        answers,
+        names,
+    })
 }

@@ -2,7 +2,8 @@
 ghost use Rattle.std.specs.Prelude.{◌≡◌, ◌≢◌, ◌<◌, ℕ, [], Err, IfErr, IfOk, None, Ok, OnErr, Some, length};
 ghost use Rattle.xh_calls.specs.declared.call.Call.TheVariants as call;
 ghost use Rattle.xh_calls.specs.Leading.{Leading};
-ghost use Rattle.xh_calls.specs.Messages.{Gives, Takes};
+ghost use Rattle.xh_calls.specs.Places.{status_at};
+ghost use Rattle.xh_place.specs.Messages.{Gives, TakesAt};
 ghost use Rattle.xh_calls.specs.Parts.{PartsOf};
 ghost use Rattle.xh_calls.specs.Several.{TakesAny};
 ghost use Rattle.xh_core.specs.declared.refused.Refused.TheVariants as refused;
@@ -10,8 +11,8 @@ ghost use Rattle.xh_heap.specs.Handles.{Acts, HandleOf};
 ghost use Rattle.xh_kernel.specs.Accounts.{AccountOf};
 ghost use Rattle.xh_kernel.specs.Endings.{Exits, Kills};
 ghost use Rattle.xh_kernel.specs.Histories.{Did};
-ghost use Rattle.xh_kernel.specs.Lends.{Lends, LendsMut};
-ghost use Rattle.xh_kernel.specs.Waits.{AtLast, SpawnsAt, no_room};
+ghost use Rattle.xh_kernel.specs.Lends.{LendsAll, LendsAllMut};
+ghost use Rattle.xh_kernel.specs.Waits.{AtLast, IsLastGive, SpawnsAt, no_room};
 ghost use Rattle.xh_kernel.specs.Wires.{OpensBoth, Wires};
 ghost use Rattle.xh_model.specs.declared.limits.TheConstants.{MAX_BUDGET};
 ghost use Rattle.xh_model.specs.Words.{place_of};
@@ -91,7 +92,7 @@ pub trait Process: Drop {
     /// NotOwned; NotData. `f` isn't called then.
     fn with_bytes<A, F: FnMut(&[u8]) -> A>(&mut self, block: u16, f: F) -> Result<A, Refused>
         requires { F.IsAlwaysCallable f }
-        ensures { Acts (λ p old new. (after : F) × Lends parts leads F.FnMut p block f after old new result) (handle self.old) (handle self.new) };
+        ensures { Acts (λ p old new. (after : F) × LendsAll parts leads F.FnMut p block f after old new result) (handle self.old) (handle self.new) };
 
     /// As `with_bytes`; `f` may change the bytes.
     fn with_bytes_mut<A, F: FnMut(&mut [u8]) -> A>(
@@ -100,7 +101,7 @@ pub trait Process: Drop {
         f: F,
     ) -> Result<A, Refused>
         requires { F.IsAlwaysCallable f }
-        ensures { Acts (λ p old new. (after : F) × LendsMut parts leads F.FnMut p block f after old new result) (handle self.old) (handle self.new) };
+        ensures { Acts (λ p old new. (after : F) × LendsAllMut parts leads F.FnMut p block f after old new result) (handle self.old) (handle self.new) };
 
     /// A block's bytes go back, and its record is free. It answers how many bytes. NotOwned; NotData.
     fn free(&mut self, block: u16) -> Result<u32, Refused>
@@ -150,11 +151,11 @@ pub trait Process: Drop {
         ensures { Acts (λ p. Did parts leads p (call.Give p end tag blocks.now result)) (handle self.old) (handle self.new) };
 
     /// As `give`; where as many messages wait as may, it waits until the peer takes, without a lock, and gives again. It is refused
-    /// Full only with fewer blocks than were given.
+    /// Full only with fewer blocks than were given, or where the direction has carried its last message, 2^62 - 1.
     fn give_wait(&mut self, end: u16, tag: u16, blocks: &[u16]) -> Result<u64, Refused>
-        ensures call { Acts (λ p. AtLast leads (place_of p) (call.Give p end tag blocks.now) (λ answer from to. Gives p end tag blocks.now from to answer) (no_room blocks.now) result)
+        ensures call { Acts (λ p. AtLast leads (place_of p) (call.Give p end tag blocks.now) (λ answer from to. Gives (status_at p from.place) end tag blocks.now from to answer) (no_room blocks.now) result)
             (handle self.old) (handle self.new) }
-        ensures waits { result ≢ no_room blocks.now };
+        ensures waits { result ≡ no_room blocks.now → Acts (λ p _ new. IsLastGive leads p end tag blocks.now result new) (handle self.old) (handle self.new) };
 
     /// As `give_wait`; once the time is past, or the clock can't be read, it is refused Full.
     fn give_wait_until(
@@ -164,7 +165,7 @@ pub trait Process: Drop {
         blocks: &[u16],
         deadline: Instant,
     ) -> Result<u64, Refused>
-        ensures { Acts (λ p. AtLast leads (place_of p) (call.Give p end tag blocks.now) (λ answer from to. Gives p end tag blocks.now from to answer) (no_room blocks.now) result)
+        ensures { Acts (λ p. AtLast leads (place_of p) (call.Give p end tag blocks.now) (λ answer from to. Gives (status_at p from.place) end tag blocks.now from to answer) (no_room blocks.now) result)
             (handle self.old) (handle self.new) };
 
     /// Takes the message that waits longest at an endpoint. Its blocks are this process's.
@@ -175,12 +176,12 @@ pub trait Process: Drop {
 
     /// As `take`; where no message waits and the peer is open, it waits, without a lock.
     fn take_wait(&mut self, end: u16) -> Result<Taken, Refused>
-        ensures call { Acts (λ p. AtLast leads (place_of p) (call.Take p end) (λ answer from to. Takes p end from to answer) (Err refused.Empty) result) (handle self.old) (handle self.new) }
+        ensures call { Acts (λ p. AtLast leads (place_of p) (call.Take p end) (λ answer from to. TakesAt (status_at p from.place) end from to answer) (Err refused.Empty) result) (handle self.old) (handle self.new) }
         ensures waits { IfErr result (λ why. why ≢ refused.Empty) };
 
     /// As `take_wait`; once the time is past, or the clock can't be read, it is refused Empty.
     fn take_wait_until(&mut self, end: u16, deadline: Instant) -> Result<Taken, Refused>
-        ensures { Acts (λ p. AtLast leads (place_of p) (call.Take p end) (λ answer from to. Takes p end from to answer) (Err refused.Empty) result) (handle self.old) (handle self.new) };
+        ensures { Acts (λ p. AtLast leads (place_of p) (call.Take p end) (λ answer from to. TakesAt (status_at p from.place) end from to answer) (Err refused.Empty) result) (handle self.old) (handle self.new) };
 
     /// Looks at up to 64 endpoints in their order, and takes at the first that has a message: its index, and what `take` answers
     /// there. Where none has one, PeerClosed at the first whose peer is closed.

@@ -141,12 +141,12 @@ fn run_named<N: Names + Send + Sync, R: Threads + Wait + Clock + Sync, J: Job + 
 {
     let (kernel, mut accounts, looks) = Kernel::<N>::new(alloc, parts)?;
     let worked = work_on(rt, alloc, &kernel, &mut accounts, count, job);
-    let books = close_kernel(alloc, kernel, accounts, looks);
+    let (worked, books) = close_kernel(alloc, kernel, Ok::<_, Refused>((worked, accounts, looks)))?;
     let (plan, answers) = worked?;
     Ok(Closed {
         plan,
         answers,
-        books: books?,
+        books,
     })
 }
 
@@ -163,7 +163,8 @@ pub fn run<R: Threads + Wait + Clock + Sync, J: Job + Sync>(
 ) -> Result<Closed<J::Plan, J::Answer>, Refused>
     ensures balanced { IfOk result (λ c. IsBalanced c.books.ledger) }
     ensures lines { IfOk result (λ c. AreFlightLines c.books.ledger.flight c.books.flight.items) }
-    ensures closed { IfOk result (λ c. (parts : PartsOf) × (accounts : List AccountOf) × (looks : List (LookOf Entry)) × AreMadeBy config MAX_WORKERS parts × IsClosed parts accounts looks c.books.ledger c.books.flight.items) }
+    ensures closed { IfOk result (λ c. (parts : PartsOf) × (accounts : List AccountOf) × (looks : List (LookOf Entry))
+        × AreMadeBy config MAX_WORKERS parts × IsClosed parts accounts looks c.books.ledger c.books.flight.items) }
 {
     if count == 0 || count > PLACES {
         return Err(Refused::BadSize);

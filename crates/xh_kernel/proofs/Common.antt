@@ -1,5 +1,6 @@
 -- The names that most proofs cite, passed on from one place. Declares nothing.
-pub use Rattle.std.proofs.Common.{All, Err, IfErr, List, MatchResult, Ok, OnOk, Result, Some, [], add-zero, ap, append-nil, append_assoc, arith, drop, get_or, get_or-set_other, inl, length, refl, rules}
+pub use Rattle.std.proofs.Common.{All, Err, IfErr, List, MatchResult, Ok, OnOk, Result, Some, [], add-zero}
+pub use Rattle.std.proofs.Common.{ap, append-nil, append_assoc, arith, drop, false, get_or, get_or-set_other, inl, length, refl, rules}
 pub use Rattle.std.proofs.Common.{set, slice_index_or, slice_set, subst, suc, sym, take, true, vec_len, zero, ℕ, ◌*◌, ◌++◌, ◌+◌, ◌-◌, ◌<◌, ◌∙◌, ◌∷◌, ◌≡◌, ◌≤◌}
 pub use Rattle.std.proofs.lemmas.List.{get_or-map, get_or_default, map-set, set-get_or}
 pub use Rattle.std.proofs.lemmas.List.Elements.{All-cons, All-tail}
@@ -13,21 +14,22 @@ pub use Rattle.xh_core.specs.declared.glance.Glance.{Glance}
 pub use Rattle.xh_core.specs.declared.refused.Refused.TheVariants.{Empty}
 pub use Rattle.xh_history.specs.Histories.{FrontOf, LookOf, PenOf, fresh_front, fresh_pen, last_of}
 pub use Rattle.xh_calls.specs.Leading.{Leading}
-pub use Rattle.xh_calls.specs.Messages.{Takes}
+pub use Rattle.xh_calls.specs.Places.{status_at}
 pub use Rattle.xh_calls.specs.Several.{TakesAny}
 pub use Rattle.xh_place.proofs.Seeing.{starts_same}
 pub use Rattle.xh_kernel.specs.Accounts.{AccountOf, AreFresh, IsUnmoved, seen_of}
 pub use Rattle.xh_kernel.specs.Calls.{Calls, Noted, Steps}
-pub use Rattle.xh_kernel.specs.Finished.{AreInOrder, AreSeen, HasLooked, histories_of, tallies_of}
-pub use Rattle.xh_kernel.specs.Histories.{Does, Goes, IsHistoryOf, IsLaw, IsUnused, Leads, LeadsTo}
+pub use Rattle.xh_kernel.specs.Finished.{AreInOrder, AreSeen, LookHasSeen, histories_of, tallies_of}
+pub use Rattle.xh_kernel.specs.Histories.{Does, Goes, IsHistoryOf, IsLaw, IsUnowned, Leads, LeadsTo}
 pub use Rattle.xh_kernel.specs.Kept.{AreKept, IsKept}
 pub use Rattle.xh_kernel.specs.Places.{IsFound, last_glance, places_of}
 pub use Rattle.xh_kernel.specs.Waits.{Repeats}
 pub use Rattle.xh_calls.specs.declared.call.Call.{Call}
 pub use Rattle.xh_calls.specs.declared.call.Entry.{Entry}
 pub use Rattle.xh_calls.specs.declared.call.Call.TheVariants.{Close, CloseAgain, Receive, Stop, Take, TakeAny}
-pub use Rattle.xh_kernel.specs.inner.Making.{IsSeatAt}
+pub use Rattle.xh_kernel.specs.inner.Making.{IsFirstSeat}
 pub use Rattle.xh_model.specs.declared.limits.TheConstants.{END_BYTES, PLACES}
 pub use Rattle.xh_place.specs.Ending.{HasGivenBack, back_of, but_back}
+pub use Rattle.xh_place.specs.Messages.{TakesAt}
 pub use Rattle.xh_place.specs.Places.{IsPlaceOf, glance_of, total_of}
 pub use Rattle.xh_place.specs.Seen.{PlaceSeen, Stays}

@@ -1,5 +1,5 @@
 -- The last call of a history, by its word; and what is kept of each place.
-use Rattle.xh_kernel.proofs.Common.{All, All-cons, AreKept, Entry, Glance, IsHistoryOf, IsKept, IsPlaceOf, IsUnused, List, PartsOf, PenOf, PlaceSeen, Some, [], add-zero, ap, arith, fresh_pen}
+use Rattle.xh_kernel.proofs.Common.{All, All-cons, AreKept, Entry, Glance, IsHistoryOf, IsKept, IsPlaceOf, IsUnowned, List, PartsOf, PenOf, PlaceSeen, Some, [], add-zero, ap, arith, fresh_pen}
 use Rattle.xh_kernel.proofs.Common.{last_glance, last_of, places_of, refl, starts_same, subst, sym, ℕ, ◌++◌, ◌∙◌, ◌∷◌, ◌≡◌}
 use Rattle.std.specs.Prelude.{MatchOption, None, Option, option_map, unwrap_or}
 use Rattle.xh_core.specs.declared.status.Status.TheVariants.{Vacant}
@@ -19,7 +19,7 @@ pub glance_push : (k : ℕ) (h : History Entry) (n : ℕ) (e : Entry) → last_g
 glance_push k h n e = ap (λ (o : Option (ℕ × Entry)). unwrap_or (option_map (λ c. c.1.glance) o) (vacant k)) (last_push shows h (n, e))
 
 -- a place that nobody has had yet, whose history has no call
-pub history_first : (parts : PartsOf) (p : PlaceSeen) (pen : PenOf Entry) (k : ℕ) → IsUnused parts k p.place → pen ≡ fresh_pen parts.histories k → IsHistoryOf parts pen.number pen.history p
+pub history_first : (parts : PartsOf) (p : PlaceSeen) (pen : PenOf Entry) (k : ℕ) → IsUnowned parts k p.place → pen ≡ fresh_pen parts.histories k → IsHistoryOf parts pen.number pen.history p
 history_first parts p pen k unused is =
     let first : IsHistoryOf parts k [] p = ∣ (p, unused, (refl, starts_same refl)) ∣₁ in subst (λ (z : PenOf Entry). IsHistoryOf parts z.number z.history p) (sym is) first
 

@@ -8,11 +8,10 @@ use Rattle.std.proofs.lemmas.List.{drop_all, take_all}
 use Rattle.std.specs.Borrow.{Bor, MutBor}
 use Rattle.std.specs.Fn.{CalledAt, CalledAtMut, Mut}
 use Rattle.std.specs.Prelude.{Bool, None, Option, cond, drop, false, option_map, unwrap_or}
-use Rattle.xh_calls.specs.Calls.{Lends as LendsAt, LendsMut as LendsMutAt, Reads, Writes}
-use Rattle.xh_calls.specs.Places.{start}
+use Rattle.xh_calls.specs.Places.{status_at}
 use Rattle.xh_calls.specs.declared.call.Call.TheVariants.{Read, Write}
 use Rattle.xh_core.proofs.Firsts.{first_append, first_later}
-use Rattle.xh_core.specs.Calls.{range_tests}
+use Rattle.xh_core.specs.Calls.{range_tests, start}
 use Rattle.xh_core.specs.Refusing.{Tests, first_refusal}
 use Rattle.xh_core.specs.declared.glance.Glance.{Glance}
 use Rattle.xh_core.specs.declared.header.Header.{Header}
@@ -20,12 +19,13 @@ use Rattle.xh_core.specs.declared.refused.Refused.{Refused}
 use Rattle.xh_core.specs.declared.refused.Refused.TheVariants.{BadRange}
 use Rattle.xh_history.specs.Histories.{History, at}
 use Rattle.xh_kernel.specs.Calls.{Moves}
-use Rattle.xh_kernel.specs.Lends.{Lends, LendsMut}
+use Rattle.xh_kernel.specs.Lends.{LendsAll, LendsAllMut}
 use Rattle.xh_model.proofs.Keyed.{put_at}
 use Rattle.xh_model.specs.Keyed.{put, value_at}
 use Rattle.xh_model.specs.Words.{place_of}
 use Rattle.xh_place.specs.Bodies.{bytes, patched}
-use Rattle.xh_place.specs.Calls.{HasBytes, bytes_in, made_of}
+use Rattle.xh_place.specs.Calls.{HasBytes, Lends, LendsMut, Reads, Writes, bytes_in, made_of}
+use Rattle.xh_place.specs.Seen.{IsSamePlace, Stays}
 use Rattle.xh_place.specs.Places.{Item, PlaceOf, found, header_of, with_blocks}
 
 -- the bytes of the block of a record; none of an endpoint, and none where there is no block
@@ -61,21 +61,29 @@ passes tests xs n o is le fine =
     first_later tests (range_tests o 0 n) (none_first tests (range_tests o 0 0) fine) ∙ ap (λ (z : Option Header). first_refusal (range_tests z 0 n)) is
     ∙ ap (λ (b : Bool). cond b (Some BadRange) None) (in_range (length xs) n le)
 
-is_read : (p r : ℕ) (place : PlaceOf) (xs : List ℕ) → HasBytes r place xs → first_refusal (start p place ++ range_tests (found place r) 0 0) ≡ None → Reads p r 0 place xs (Ok tt)
-is_read p r place xs has fine = let le : length xs ≤ length xs = omega arith in
-    (passes (start p place) xs (length xs) (found place r) (ap (option_map header_of) has) le fine, (made_of xs, has, sym (take_all (length xs) xs le)))
+is_read : (p r : ℕ) (old new : PlaceSeen) (xs : List ℕ) → Stays old new → HasBytes r old.place xs → first_refusal (start (status_at p old.place) ++ range_tests (found old.place r) 0 0) ≡ None
+    → Reads (status_at p old.place) r 0 xs old new (Ok tt)
+is_read p r old new xs same has fine = let le : length xs ≤ length xs = omega arith in record {
+  same = same;
+  read = (
+    passes (start (status_at p old.place)) xs (length xs) (found old.place r) (ap (option_map header_of) has) le fine,
+    (made_of xs, has, sym (take_all (length xs) xs le)),
+  );
+}
 
 all_over : (xs ys : List ℕ) → length ys ≡ length xs → made_of ys ≡ record { len = length xs; content = patched 0 ys (bytes xs) }
 all_over xs ys long =
     let none : drop (0 + length ys) xs ≡ [] = drop_all (0 + length ys) xs (omega arith) in
     let same : ys ≡ ys ++ drop (0 + length ys) xs = sym (ap (λ (z : List ℕ). ys ++ z) none ∙ append-nil ys) in (λ i. record { len = long i; content = bytes (same i) })
 
-is_write : (p r : ℕ) (old new : PlaceOf) (xs ys : List ℕ) → HasBytes r old xs → length ys ≡ length xs → first_refusal (start p old ++ range_tests (found old r) 0 0) ≡ None
-    → new ≡ with_blocks old (put r (made_of ys) old.blocks) → Writes p r 0 ys old new (Ok tt)
-is_write p r old new xs ys has long fine is = let le : length ys ≤ length xs = omega arith in record {
+is_write : (p r : ℕ) (old new : PlaceSeen) (xs ys : List ℕ) → IsSamePlace old new → HasBytes r old.place xs → length ys ≡ length xs
+    → first_refusal (start (status_at p old.place) ++ range_tests (found old.place r) 0 0) ≡ None
+    → new.place ≡ with_blocks old.place (put r (made_of ys) old.place.blocks) → Writes (status_at p old.place) r 0 ys old new (Ok tt)
+is_write p r old new xs ys same has long fine is = let le : length ys ≤ length xs = omega arith in record {
+  place = same;
   written = (
-    passes (start p old) xs (length ys) (found old r) (ap (option_map header_of) has) le fine,
-    (made_of xs, has, is ∙ ap (λ (x : Item). with_blocks old (put r x old.blocks)) (all_over xs ys long)),
+    passes (start (status_at p old.place)) xs (length ys) (found old.place r) (ap (option_map header_of) has) le fine,
+    (made_of xs, has, is ∙ ap (λ (x : Item). with_blocks old.place (put r x old.place.blocks)) (all_over xs ys long)),
   );
   refused = tt;
 }
@@ -85,19 +93,20 @@ has_left r old new xs ys has is = ap (λ (q : PlaceOf). value_at r q.blocks) is 
 
 -- ---- what the notes say is what was done
 
-module _ {F A : Type 0} (g : Mut F (Bor (List ℕ) × Unit {0}) A) (parts : PartsOf) (p r : ℕ) (f f' : F) (old new : PlaceSeen) (same : new.place ≡ old.place) where
-  pub has_shown : (a : A) → LendsAt g p r f f' old.place (Ok a) → HasBytes r new.place (bytes_at r new.place) × CalledAt g f (bytes_at r new.place) a f'
+module _ {F A : Type 0} (g : Mut F (Bor (List ℕ) × Unit {0}) A) (parts : PartsOf) (p r : ℕ) (f f' : F) (old new : PlaceSeen) where
+  pub has_shown : (a : A) → Lends g (status_at p old.place) r f f' old new (Ok a) → HasBytes r new.place (bytes_at r new.place) × CalledAt g f (bytes_at r new.place) a f'
   has_shown a h =
-      let has : HasBytes r new.place h.lent.1.0 = ap (λ (q : PlaceOf). value_at r q.blocks) same ∙ h.lent.1.1 in let is = sym (bytes_are r new.place h.lent.1.0 has) in
+      let has : HasBytes r new.place h.lent.1.0 = ap (λ (q : PlaceOf). value_at r q.blocks) h.same.0 ∙ h.lent.1.1 in let is = sym (bytes_are r new.place h.lent.1.0 has) in
       (subst (HasBytes r new.place) is has, subst (λ (xs : List ℕ). CalledAt g f xs a f') is h.lent.1.2)
 
-  pub did_read : (result : Result A Refused) → LendsAt g p r f f' old.place result → Does parts (read_of p r new.place result) old new
-  did_read (Ok a) h = let has : HasBytes r old.place (bytes_at r new.place) = ap (λ (q : PlaceOf). value_at r q.blocks) (sym same) ∙ (has_shown a h).0 in
-      (same, is_read p r old.place (bytes_at r new.place) has h.lent.0)
-  did_read (Err why) h = (same, h.lent)
+  pub did_read : (result : Result A Refused) → Lends g (status_at p old.place) r f f' old new result → Does parts (read_of p r new.place result) old new
+  did_read (Ok a) h =
+      let has : HasBytes r old.place (bytes_at r new.place) = ap (λ (q : PlaceOf). value_at r q.blocks) (sym h.same.0) ∙ (has_shown a h).0 in
+      is_read p r old new (bytes_at r new.place) h.same has h.lent.0
+  did_read (Err why) h = record { same = h.same; read = h.lent }
 
 module _ {F A : Type 0} (g : Mut F (MutBor (List ℕ) × Unit {0}) (A × (MutBor (List ℕ) × Unit {0}))) (parts : PartsOf) (p r : ℕ) (f f' : F) (old new : PlaceSeen) where
-  pub has_changed : (a : A) (shown : List ℕ) → HasBytes r old.place shown → LendsMutAt g p r f f' old.place new.place (Ok a)
+  pub has_changed : (a : A) (shown : List ℕ) → HasBytes r old.place shown → LendsMut g (status_at p old.place) r f f' old new (Ok a)
       → HasBytes r new.place (bytes_at r new.place) × CalledAtMut g f shown a f' (bytes_at r new.place)
   has_changed a shown had h =
       let d = h.lent.1 in let now : HasBytes r new.place d.1 = has_left r old.place new.place d.0 d.1 d.2 d.5 in
@@ -106,11 +115,11 @@ module _ {F A : Type 0} (g : Mut F (MutBor (List ℕ) × Unit {0}) (A × (MutBor
       let called : CalledAtMut g f shown a f' d.1 = subst (λ (zs : List ℕ). CalledAtMut g f zs a f' d.1) first d.3 in
       (subst (HasBytes r new.place) left now, subst (λ (zs : List ℕ). CalledAtMut g f shown a f' zs) left called)
 
-  pub did_write : (result : Result A Refused) → LendsMutAt g p r f f' old.place new.place result → Does parts (write_of p r new.place result) old new
+  pub did_write : (result : Result A Refused) → LendsMut g (status_at p old.place) r f f' old new result → Does parts (write_of p r new.place result) old new
   did_write (Ok a) h =
       let d = h.lent.1 in let left : d.1 ≡ bytes_at r new.place = sym (bytes_are r new.place d.1 (has_left r old.place new.place d.0 d.1 d.2 d.5)) in
-      subst (λ (zs : List ℕ). Writes p r 0 zs old.place new.place (Ok tt)) left (is_write p r old.place new.place d.0 d.1 d.2 d.4 h.lent.0 d.5)
-  did_write (Err why) h = (h.refused, h.lent)
+      subst (λ (zs : List ℕ). Writes (status_at p old.place) r 0 zs old new (Ok tt)) left (is_write p r old new d.0 d.1 h.place d.2 d.4 h.lent.0 d.5)
+  did_write (Err why) h = record { same = (h.refused, h.place.3); read = h.lent }
 
 -- ---- one note, and what is so of the place before and after it
 
@@ -135,47 +144,47 @@ module _ (parts : PartsOf) (leads : Leading) (law : IsLaw parts leads) where
 
   -- a note of the bytes that a function had
   pub lends : {F A : Type 0} (g : Mut F (Bor (List ℕ) × Unit {0}) A) (p r k : ℕ) (f f' : F) (glance : Glance) (before after : History Entry) (old new : PlaceSeen) (from to : AccountOf)
-      (result : Result A Refused) → k ≡ place_of p → new.place ≡ old.place → LendsAt g p r f f' old.place result → Noted k (read_of p r new.place result) from.number from.fronts to.fronts
+      (result : Result A Refused) → k ≡ place_of p → Lends g (status_at p old.place) r f f' old new result → Noted k (read_of p r new.place result) from.number from.fronts to.fronts
       → IsUnmoved from to → IsHistoryOf parts k before old → IsHistoryOf parts k after new
-      → after ≡ before ++ (from.number, record { call = read_of p r new.place result; glance = glance }) ∷ [] → at to.fronts k ≡ after → Lends parts leads g p r f f' from to result
-  lends g p r k f f' glance before after old new from to (Ok a) is same h noted unmoved was now more whole =
-      let xs : List ℕ = bytes_at r new.place in let e : Call = Read p r 0 xs (Ok tt) in let s = has_shown g parts p r f f' old new same a h in (
+      → after ≡ before ++ (from.number, record { call = read_of p r new.place result; glance = glance }) ∷ [] → at to.fronts k ≡ after → LendsAll parts leads g p r f f' from to result
+  lends g p r k f f' glance before after old new from to (Ok a) is h noted unmoved was now more whole =
+      let xs : List ℕ = bytes_at r new.place in let e : Call = Read p r 0 xs (Ok tt) in let s = has_shown g parts p r f f' old new a h in (
         xs,
         did k (place_of p) is e glance before after old new from to (λ x y. Does parts e x y × HasBytes r y.place xs) noted unmoved was now more whole
-            (did_read g parts p r f f' old new same (Ok a) h, s.0),
+            (did_read g parts p r f f' old new (Ok a) h, s.0),
         s.1,
       )
-  lends g p r k f f' glance before after old new from to (Err why) is same h noted unmoved was now more whole = (
+  lends g p r k f f' glance before after old new from to (Err why) is h noted unmoved was now more whole = (
     did k (place_of p) is (Read p r 0 [] (Err why)) glance before after old new from to (Does parts (Read p r 0 [] (Err why))) noted unmoved was now more whole
-        (did_read g parts p r f f' old new same (Err why) h),
+        (did_read g parts p r f f' old new (Err why) h),
     h.uncalled,
   )
 
   -- the same, and then a note of what one left
   pub lends_mut : {F G A : Type 0} (read : Mut G (Bor (List ℕ) × Unit {0}) (Unit {0})) (write : Mut F (MutBor (List ℕ) × Unit {0}) (A × (MutBor (List ℕ) × Unit {0}))) (p r k : ℕ)
       (l l' : G) (f f' : F) (first second : Glance) (h0 h1 h2 : History Entry) (old was new : PlaceSeen) (from mid to : AccountOf) (answer : Result (Unit {0}) Refused)
-      (result : Result A Refused) → answer ≡ Ok tt → k ≡ place_of p → was.place ≡ old.place
-      → LendsAt read p r l l' old.place answer → LendsMutAt write p r f f' was.place new.place result
+      (result : Result A Refused) → answer ≡ Ok tt → k ≡ place_of p
+      → Lends read (status_at p old.place) r l l' old was answer → LendsMut write (status_at p was.place) r f f' was new result
       → Noted k (read_of p r was.place answer) from.number from.fronts mid.fronts → Noted k (write_of p r new.place result) mid.number mid.fronts to.fronts
       → IsUnmoved from mid → IsUnmoved mid to → IsHistoryOf parts k h0 old → IsHistoryOf parts k h1 was → IsHistoryOf parts k h2 new
       → h1 ≡ h0 ++ (from.number, record { call = read_of p r was.place answer; glance = first }) ∷ []
       → h2 ≡ h1 ++ (mid.number, record { call = write_of p r new.place result; glance = second }) ∷ [] → at mid.fronts k ≡ h1 → at to.fronts k ≡ h2
-      → LendsMut parts leads write p r f f' from to result
-  lends_mut read write p r k l l' f f' first second h0 h1 h2 old was new from mid to (Ok x) (Ok a) so is same had h noted also unmoved still led then there more most whole all =
+      → LendsAllMut parts leads write p r f f' from to result
+  lends_mut read write p r k l l' f f' first second h0 h1 h2 old was new from mid to (Ok x) (Ok a) so is had h noted also unmoved still led then there more most whole all =
       let xs : List ℕ = bytes_at r was.place in let ys : List ℕ = bytes_at r new.place in
       let one : Call = Read p r 0 xs (Ok tt) in let two : Call = Write p r 0 ys (Ok tt) in
-      let s = has_shown read parts p r l l' old was same x had in let w = has_changed write parts p r f f' was new a xs s.0 h in
+      let s = has_shown read parts p r l l' old was x had in let w = has_changed write parts p r f f' was new a xs s.0 h in
       let entry : ℕ × Entry = (mid.number, record { call = two; glance = second }) in (
         mid,
         xs,
         ys,
         did k (place_of p) is one first h0 h1 old was from mid (λ x y. Does parts one x y × HasBytes r y.place xs) noted unmoved led then more whole
-            (did_read read parts p r l l' old was same (Ok x) had, s.0),
+            (did_read read parts p r l l' old was (Ok x) had, s.0),
         w.1,
         did k (place_of p) is two second h1 h2 was new mid to (λ x y. Does parts two x y × HasBytes r y.place ys) also still then there most all
             (did_write write parts p r f f' was new (Ok a) h, w.0),
         (second, subst (λ (j : ℕ). at to.fronts j ≡ at mid.fronts j ++ entry ∷ []) is (all ∙ most ∙ ap (λ (x : History Entry). x ++ entry ∷ []) (sym whole))),
       )
-  lends_mut read write p r k l l' f f' first second h0 h1 h2 old was new from mid to (Ok x) (Err why) so is same had h noted also unmoved still led then there more most whole all =
-      let fails : Some why ≡ None = sym h.lent ∙ ap (λ (q : PlaceOf). first_refusal (start p q ++ range_tests (found q r) 0 0)) same ∙ had.lent.0 in absurd (cc)
-  lends_mut read write p r k l l' f f' first second h0 h1 h2 old was new from mid to (Err why) result so is same had h noted also unmoved still led then there more most whole all = absurd (cc)
+  lends_mut read write p r k l l' f f' first second h0 h1 h2 old was new from mid to (Ok x) (Err why) so is had h noted also unmoved still led then there more most whole all =
+      let fails : Some why ≡ None = sym h.lent ∙ ap (λ (q : PlaceOf). first_refusal (start (status_at p q) ++ range_tests (found q r) 0 0)) had.same.0 ∙ had.lent.0 in absurd (cc)
+  lends_mut read write p r k l l' f f' first second h0 h1 h2 old was new from mid to (Err why) result so is had h noted also unmoved still led then there more most whole all = absurd (cc)

@@ -26,14 +26,14 @@ abbrev pub AreSeen : AccountOf → List (History Entry) → Type 0
 AreSeen a hs = (length hs ≡ PLACES) × ((p : ℕ) → p < PLACES → HasSeen a.number (at a.fronts p) (at hs p))
 
 -- of each place the look has seen a beginning of its history
-abbrev pub HasLooked : List (History Entry) → LookOf Entry → Type 0
-HasLooked hs look = (p : ℕ) → p < PLACES → StartsWith (at hs p) (at look.fronts p)
+abbrev pub LookHasSeen : List (History Entry) → LookOf Entry → Type 0
+LookHasSeen hs look = (p : ℕ) → p < PLACES → StartsWith (at hs p) (at look.fronts p)
 
 -- each account has seen a beginning of each place's history, in which all its calls stand, and each look a beginning
 pub record HaveSeen (accounts : List AccountOf) (looks : List (LookOf Entry)) (pens : List (PenOf Entry)) : Type 0 where
   pub in_order : AreInOrder pens
   pub seen : All (λ a. AreSeen a (histories_of pens)) accounts
-  pub looked : All (HasLooked (histories_of pens)) looks
+  pub looked : All (LookHasSeen (histories_of pens)) looks
 
 -- the locks kept lawful histories, which led to these places, and the accounts and looks have seen them
 abbrev pub WereSeen : PartsOf → List PlaceSeen → List AccountOf → List (LookOf Entry) → Type 0

@@ -2,12 +2,11 @@
 use Rattle.std.specs.Prelude.{◌≡◌, ◌<◌, ℕ, [], ◌∷◌}
 use Rattle.xh_core.specs.declared.status.Status.TheVariants.{Vacant}
 use Rattle.xh_history.specs.Histories.{History}
-use Rattle.xh_calls.specs.Calls.{Allocates, Frees, Looks, Reads, Spawns, Splits, Writes}
-use Rattle.xh_calls.specs.Channels.{Opens}
-use Rattle.xh_calls.specs.Endings.{Closes, Stops}
+use Rattle.xh_calls.specs.Calls.{Looks, Spawns, space_of}
+use Rattle.xh_calls.specs.Channels.{OpensChannel}
 use Rattle.xh_calls.specs.Leading.{Leading}
-use Rattle.xh_calls.specs.Messages.{Gives, Takes}
 use Rattle.xh_calls.specs.Parts.{PartsOf}
+use Rattle.xh_calls.specs.Places.{status_at}
 use Rattle.xh_calls.specs.Several.{TakesAny}
 use Rattle.xh_calls.specs.Wires.{ClosesAgain, OpensToward, ReceivesOr, toward_high}
 use Rattle.xh_calls.specs.declared.call.Call.{Call}
@@ -17,6 +16,8 @@ use Rattle.xh_kernel.specs.Accounts.{AccountOf}
 use Rattle.xh_kernel.specs.Calls.{Calls}
 use Rattle.xh_kernel.specs.Places.{IsFound}
 use Rattle.xh_model.specs.Words.{place_of}
+use Rattle.xh_place.specs.Calls.{Allocates, Closes, FreesBlock, Reads, Splits, Stops, Writes}
+use Rattle.xh_place.specs.Messages.{Gives, TakesAt}
 use Rattle.xh_place.specs.Places.{IsPlaceOf, PlaceOf, glance_of}
 use Rattle.xh_records.specs.History.{StartsWith}
 use Rattle.xh_place.specs.Seen.{PlaceSeen, Stays}
@@ -27,20 +28,20 @@ use Rattle.xh_place.specs.Seen.{PlaceSeen, Stays}
 abbrev pub Does : PartsOf → Call → PlaceSeen → PlaceSeen → Type 0
 Does parts (call.Spawn result) old new = Spawns old.place new.place result
 Does parts (call.Look p result) old new = Looks p old.place new.place result
-Does parts (call.Alloc p n arena result) old new = Allocates parts p n arena old new result
-Does parts (call.Split p r k result) old new = Splits p r k old new result
-Does parts (call.Read p r i shown result) old new = (new.place ≡ old.place) × Reads p r i old.place shown result
-Does parts (call.Write p r i xs result) old new = Writes p r i xs old.place new.place result
-Does parts (call.Free p r result) old new = Frees p r old.place new.place result
-Does parts (call.Open p arena contract result) old new = Opens parts p arena contract old new result
+Does parts (call.Alloc p n arena result) old new = Allocates (status_at p old.place) (space_of parts) n arena old new result
+Does parts (call.Split p r k result) old new = Splits (status_at p old.place) r k old new result
+Does parts (call.Read p r i shown result) old new = Reads (status_at p old.place) r i shown old new result
+Does parts (call.Write p r i xs result) old new = Writes (status_at p old.place) r i xs old new result
+Does parts (call.Free p r result) old new = FreesBlock (status_at p old.place) r old new result
+Does parts (call.Open p arena contract result) old new = OpensChannel parts p arena contract old new result
 Does parts (call.OpenToward p arena contract result) old new = OpensToward parts p arena contract old new result
 Does parts (call.Receive q r channel bytes result) old new = ReceivesOr q (toward_high channel) r bytes old new result
 Does parts (call.CloseAgain p r channel bytes) old new = ClosesAgain p channel r old new bytes
-Does parts (call.Give p e tag given result) old new = Gives p e tag given old new result
-Does parts (call.Take p e result) old new = Takes p e old new result
+Does parts (call.Give p e tag given result) old new = Gives (status_at p old.place) e tag given old new result
+Does parts (call.Take p e result) old new = TakesAt (status_at p old.place) e old new result
 Does parts (call.TakeAny p ends result) old new = TakesAny p ends old new result
-Does parts (call.Close p e bytes result) old new = Closes p e bytes old new result
-Does parts (call.Stop p budget bytes result) old new = Stops p budget bytes old new result
+Does parts (call.Close p e bytes result) old new = Closes (status_at p old.place) e bytes old new result
+Does parts (call.Stop p budget bytes result) old new = Stops (status_at p old.place) budget bytes old new result
 
 -- one call of a worker of the kernel, from a place to a lawful one, which it looks like afterwards
 pub record Goes (parts : PartsOf) (c : ℕ × Entry) (old new : PlaceSeen) : Type 0 where
@@ -58,7 +59,7 @@ Leads parts old [] new = Stays old new
 Leads parts old (c ∷ cs) new = (from : PlaceSeen) × (mid : PlaceSeen) × Stays old from × Goes parts c from mid × Leads parts mid cs new
 
 -- the place k, while nobody has had it
-pub record IsUnused (parts : PartsOf) (k : ℕ) (p : PlaceOf) : Type 0 where
+pub record IsUnowned (parts : PartsOf) (k : ℕ) (p : PlaceOf) : Type 0 where
   pub own : IsPlaceOf parts.records p
   pub process : p.process ≡ k
   pub state : p.state ≡ Vacant
@@ -66,7 +67,7 @@ pub record IsUnused (parts : PartsOf) (k : ℕ) (p : PlaceOf) : Type 0 where
 
 -- the law of histories: the calls of the place k lead to the place from the one that nobody has had, each by what such a call does and answers
 abbrev pub LeadsTo : PartsOf → Leading
-LeadsTo parts k h place = (first : PlaceSeen) × IsUnused parts k first.place × Leads parts first h place
+LeadsTo parts k h place = (first : PlaceSeen) × IsUnowned parts k first.place × Leads parts first h place
 
 abbrev pub IsHistoryOf : PartsOf → Leading
 IsHistoryOf parts k h place = ∥ LeadsTo parts k h place ∥₁

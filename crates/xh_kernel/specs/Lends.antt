@@ -24,14 +24,14 @@ abbrev pub IsNext : ℕ → Call → AccountOf → AccountOf → Type 0
 IsNext k e old new = (glance : Glance) × (at new.fronts k ≡ at old.fronts k ++ (old.number, record { call = e; glance = glance }) ∷ [])
 
 -- the worker read the whole block, and one call of the function had these bytes; or the refusal of a read of no bytes
-abbrev pub Lends : {F A : Type 0} → PartsOf → Leading → Mut F (Bor (List ℕ) × Unit {0}) A → ℕ → ℕ → F → F → AccountOf → AccountOf → Result A Refused → Type 0
-Lends parts leads g p r f f' old new result = MatchResult result
+abbrev pub LendsAll : {F A : Type 0} → PartsOf → Leading → Mut F (Bor (List ℕ) × Unit {0}) A → ℕ → ℕ → F → F → AccountOf → AccountOf → Result A Refused → Type 0
+LendsAll parts leads g p r f f' old new result = MatchResult result
     (λ a. (shown : List ℕ) × DidAll parts leads p r shown (call.Read p r 0 shown (Ok tt)) old new × CalledAt g f shown a f')
     (λ why. Did parts leads p (call.Read p r 0 [] (Err why)) old new × (f' ≡ f))
 
 -- it read the whole block, one call of the function had these bytes and left others, and the next call of the place is the worker's write of those over the whole block; or the refusal
-abbrev pub LendsMut : {F A : Type 0} → PartsOf → Leading → Mut F (MutBor (List ℕ) × Unit {0}) (A × (MutBor (List ℕ) × Unit {0})) → ℕ → ℕ → F → F → AccountOf → AccountOf → Result A Refused → Type 0
-LendsMut parts leads g p r f f' old new result = MatchResult result
+abbrev pub LendsAllMut : {F A : Type 0} → PartsOf → Leading → Mut F (MutBor (List ℕ) × Unit {0}) (A × (MutBor (List ℕ) × Unit {0})) → ℕ → ℕ → F → F → AccountOf → AccountOf → Result A Refused → Type 0
+LendsAllMut parts leads g p r f f' old new result = MatchResult result
     (λ a. (mid : AccountOf) × (shown : List ℕ) × (left : List ℕ) × DidAll parts leads p r shown (call.Read p r 0 shown (Ok tt)) old mid × CalledAtMut g f shown a f' left
     × DidAll parts leads p r left (call.Write p r 0 left (Ok tt)) mid new × IsNext (place_of p) (call.Write p r 0 left (Ok tt)) mid new)
     (λ why. Did parts leads p (call.Read p r 0 [] (Err why)) old new × (f' ≡ f))

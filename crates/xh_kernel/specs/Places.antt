@@ -12,14 +12,14 @@ use Rattle.xh_place.specs.Seen.{PlaceSeen}
 use Rattle.xh_calls.specs.Parts.{PartsOf}
 
 -- its process is one of 128 there, each record stands once in its list, each block is whole, and it has none where its process is over
-pub record IsLawful (p : PlaceOf) : Type 0 where
+pub record IsSoundPlace (p : PlaceOf) : Type 0 where
   pub process : generation_of p.process < GENERATIONS
   pub blocks : AreBlocks p.blocks
   pub none : is_over p.state ≡ true → length p.blocks ≡ 0
 
 -- a lawful place of these parts
 abbrev pub IsFound : PartsOf → PlaceOf → Type 0
-IsFound parts p = IsPlaceOf parts.records p × IsLawful p
+IsFound parts p = IsPlaceOf parts.records p × IsSoundPlace p
 
 -- what the place k is after the last call of its history, to those who look
 abbrev pub last_glance : ℕ → History Entry → Glance

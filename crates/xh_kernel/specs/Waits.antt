@@ -6,9 +6,13 @@ use Rattle.xh_calls.specs.Calls.{Spawns}
 use Rattle.xh_calls.specs.declared.call.Call.{Call}
 use Rattle.xh_calls.specs.declared.call.Call.TheVariants.{Spawn}
 use Rattle.xh_calls.specs.Leading.{Leading}
+use Rattle.xh_calls.specs.Places.{status_at}
+use Rattle.xh_history.specs.Histories.{at}
 use Rattle.xh_kernel.specs.Accounts.{AccountOf}
-use Rattle.xh_kernel.specs.Calls.{Calls}
+use Rattle.xh_kernel.specs.Calls.{Calls, Steps}
 use Rattle.xh_model.specs.declared.limits.TheConstants.{PLACES}
+use Rattle.xh_model.specs.Words.{place_of}
+use Rattle.xh_place.specs.Messages.{Gives, IsSpent}
 use Rattle.xh_place.specs.Seen.{PlaceSeen}
 
 -- ---- spawn
@@ -38,3 +42,8 @@ AtLast leads k e R vain result old new = (n : ℕ) × (mid : AccountOf) × Repea
 -- what a give in vain is answered: there is no room, and all blocks came back, in the order given
 abbrev pub no_room : List ℕ → Result ℕ Refused
 no_room given = Err (Full (record { items = given }))
+
+-- the last call that the worker has seen of the process's place is this give, and after it the endpoint had sent its last message: no room comes any more
+abbrev pub IsLastGive : Leading → ℕ → ℕ → ℕ → List ℕ → Result ℕ Refused → AccountOf → Type 0
+IsLastGive leads p e tag given result account = Steps leads (place_of p) (at account.fronts (place_of p))
+    (λ old new. Gives (status_at p old.place) e tag given old new result × IsSpent e new.place)

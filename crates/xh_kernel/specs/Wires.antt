@@ -6,7 +6,7 @@ use Rattle.xh_core.specs.declared.refused.Refused.TheVariants.{Ended}
 use Rattle.xh_model.specs.declared.limits.TheConstants.{END_BYTES}
 use Rattle.xh_model.specs.declared.row.Row.{Row}
 use Rattle.xh_model.specs.Words.{place_of}
-use Rattle.xh_calls.specs.Channels.{Opens}
+use Rattle.xh_calls.specs.Channels.{OpensChannel}
 use Rattle.xh_calls.specs.declared.call.Call.TheVariants as call
 use Rattle.xh_calls.specs.declared.wired.Wired.{Wired}
 use Rattle.xh_calls.specs.Leading.{Leading}
@@ -19,7 +19,7 @@ use Rattle.xh_kernel.specs.Endings.{LooksFirst}
 -- the process opened a channel, or was refused, for want of space by the vault of the arena
 abbrev pub OpensBoth : PartsOf → Leading → ℕ → ℕ → Option (List Row) → AccountOf → AccountOf → Result (Block × Block) Refused → Type 0
 OpensBoth parts leads p arena contract old new result =
-    Calls leads (place_of p) (call.Open p arena contract result) (λ from to. Opens parts p arena contract from to result) old new
+    Calls leads (place_of p) (call.Open p arena contract result) (λ from to. OpensChannel parts p arena contract from to result) old new
     × VaultRefuses parts arena (2 * END_BYTES) old new result
 
 -- side 1 came to q; or it was turned away, and then p closed side 0 again where it still could

@@ -1,7 +1,7 @@
 //! What is left of a kernel whose workers are done, and what they have seen.
 ghost use Rattle.std.specs.Prelude.{◌≡◌, ◌↔◌, All, IfErr, IfOk, true, vec_len};
 ghost use Rattle.xh_kernel.specs.Accounts.{IsUnmoved};
-ghost use Rattle.xh_kernel.specs.Finished.{AreInOrder, AreSeen, HasLooked, HaveSeen, histories_of, tallies_of};
+ghost use Rattle.xh_kernel.specs.Finished.{AreInOrder, AreSeen, LookHasSeen, HaveSeen, histories_of, tallies_of};
 
 use crate::account::Account;
 use crate::parts::Look;
@@ -76,7 +76,7 @@ fn compare_look(histories: &Histories<Entry, Glances>, pens: &mut [Pen<Entry>], 
     requires pens { All (λ p. p.table ≡ histories.now) pens.old × AreInOrder pens.old }
     requires look { look.old.table ≡ histories.now }
     ensures same { (pens.new ≡ pens.old) × (look.new ≡ look.old) }
-    ensures looked { HasLooked (histories_of pens.old) look.old }
+    ensures looked { LookHasSeen (histories_of pens.old) look.old }
 {
     for place in 0..pens.len() {
         histories.compare_look(&mut pens[place], look);
@@ -87,7 +87,7 @@ fn compare_look(histories: &Histories<Entry, Glances>, pens: &mut [Pen<Entry>], 
 fn compare_looks(histories: &Histories<Entry, Glances>, pens: &mut [Pen<Entry>], looks: Vec<Look>)
     requires pens { All (λ p. p.table ≡ histories.now) pens.old × AreInOrder pens.old }
     requires looks { All (λ l. l.table ≡ histories.now) looks.items }
-    ensures looked { All (HasLooked (histories_of pens.old)) looks.items }
+    ensures looked { All (LookHasSeen (histories_of pens.old)) looks.items }
 {
     for mut look in looks {
         compare_look(histories, pens, &mut look);

@@ -4,7 +4,7 @@ ghost use Rattle.std.proofs.Props.{props};
 ghost use Rattle.xh_kernel.specs.inner.Lawful.{Distinct-prop, Fits-prop};
 ghost use Rattle.xh_kernel.specs.Histories.{IsHistoryOf};
 ghost use Rattle.xh_kernel.specs.Kept.{IsKept};
-ghost use Rattle.xh_kernel.specs.Places.{IsLawful, IsTold};
+ghost use Rattle.xh_kernel.specs.Places.{IsSoundPlace, IsTold};
 ghost use Rattle.xh_place.specs.Places.{IsPlaceOf};
 
 use crate::looking::Waits;
@@ -25,7 +25,7 @@ pub(crate) struct Held<N: Names> {
     ghost named: { IsPlaceOf N.parts.records place.place },
     ghost own: { scribe.pen.table ≡ N.parts.histories },
     ghost told: { IsTold place.place scribe.pen },
-    ghost lawful: { IsLawful place.place } by { Prim.hlevel (props, Distinct-prop, Fits-prop) },
+    ghost lawful: { IsSoundPlace place.place } by { Prim.hlevel (props, Distinct-prop, Fits-prop) },
     ghost history: { IsHistoryOf N.parts scribe.pen.number scribe.pen.history place },
 }
 

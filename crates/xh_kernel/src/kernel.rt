@@ -85,7 +85,7 @@ fn lock_place<N: Names>(
     Ok(CachePadded::new(Mutex::new(Held {
         scribe: Scribe::new(pen, &place),
         place,
-        waits: Waits::Nowhere,
+        waits: Waits::nowhere(),
         of: PhantomData,
     })))
 }

@@ -1,7 +1,8 @@
 //! Looks for a message, and where a process waits.
 ghost use Rattle.std.specs.Prelude.{◌≡◌, ◌<◌, IfErr, MatchOption, None};
-ghost use Rattle.xh_calls.specs.Messages.{Takes};
-ghost use Rattle.xh_calls.specs.Places.{start};
+ghost use Rattle.xh_calls.specs.Places.{status_at};
+ghost use Rattle.xh_place.specs.Messages.{TakesAt};
+ghost use Rattle.xh_core.specs.Calls.{start};
 ghost use Rattle.xh_calls.specs.Several.{TakesAny};
 ghost use Rattle.xh_core.specs.Refusing.{first_refusal};
 ghost use Rattle.xh_calls.specs.declared.call.Call.TheVariants.{Take, TakeAny};
@@ -19,12 +20,21 @@ use xh_core::Refused;
 use xh_model::limits::PLACES;
 use xh_place::{Gate, Taken};
 
-/// Where the process of a place waits: for a message at an endpoint; for one at several, or for room, at the bell of its place.
+/// Where the process of a place waits for a message, by the latest of its threads that waits so at one endpoint; and whether one
+/// waits at the bell of the place: for a message at several endpoints, or for room.
 #[derive(Drop)]
-pub(crate) enum Waits {
-    Nowhere,
-    At(Spot),
-    AtBell,
+pub(crate) struct Waits {
+    pub(crate) at: Option<Spot>,
+    pub(crate) bell: bool,
+}
+
+impl Waits {
+    pub(crate) fn nowhere() -> Waits {
+        Waits {
+            at: None,
+            bell: false,
+        }
+    }
 }
 
 /// What a look for a message found: the answer, or that none waits yet, and where to wait for it, and
@@ -55,12 +65,13 @@ impl<N: Names> Held<N> {
     pub(crate) fn wake<R: Wait>(&mut self, rt: &R, shared: &Shared<N>)
         ensures { (self.new.place ≡ self.old.place) × (self.new.scribe ≡ self.old.scribe) }
     {
-        match self.waits {
-            Waits::Nowhere => (),
-            Waits::At(spot) => shared.heap.channels.rouse(rt, spot),
-            Waits::AtBell => shared.heap.channels.ring(rt, bell_of(self.place.process())),
+        if let Some(spot) = self.waits.at {
+            shared.heap.channels.rouse(rt, spot);
         }
-        self.waits = Waits::Nowhere;
+        if self.waits.bell {
+            shared.heap.channels.ring(rt, bell_of(self.place.process()));
+        }
+        self.waits = Waits::nowhere();
     }
 
     // A message of the endpoint.
@@ -73,7 +84,7 @@ impl<N: Names> Held<N> {
         account: &mut Account<N>,
         gate: &G,
     ) -> Result<Taken, Refused>
-        ensures call { Calls N.leads self.old.scribe.pen.number (Take p e result) (λ old new. Takes p e old new result) account.old account.new }
+        ensures call { Calls N.leads self.old.scribe.pen.number (Take p e result) (λ old new. TakesAt (status_at p old.place) e old new result) account.old account.new }
         ensures empty { IfErr result (λ why. why ≡ Refused.Empty → CanTake p e self.old.place.place) }
     {
         let answer = shared.heap.take(rt, &mut self.place, p, e, gate);
@@ -89,7 +100,7 @@ impl<N: Names> Held<N> {
         ensures none { MatchOption result (CanTake p e self.old.place.place → ⊥) (λ _. Unit {0}) }
     {
         check_start(&self.place, p).ok()?;
-        self.waits = Waits::Nowhere;
+        self.waits.at = None;
         self.place.spot(&shared.heap.records, e)
     }
 
@@ -129,7 +140,7 @@ impl<N: Names> Held<N> {
         let seen = shared.heap.channels.turn(rt, spot);
         match self.take(rt, shared, p, e, account, gate) {
             Err(Refused::Empty) => {
-                self.waits = Waits::At(spot);
+                self.waits.at = Some(spot);
                 Look::Later { spot, seen }
             }
             answer => Look::Done(answer),
@@ -147,7 +158,7 @@ impl<N: Names> Held<N> {
         gate: &G,
     ) -> Result<Answered, Refused>
         ensures call { Calls N.leads self.old.scribe.pen.number (TakeAny p ends.now result) (λ old new. TakesAny p ends.now old new result) account.old account.new }
-        ensures empty { IfErr result (λ why. why ≡ Refused.Empty → first_refusal (start p self.old.place.place) ≡ None) }
+        ensures empty { IfErr result (λ why. why ≡ Refused.Empty → first_refusal (start (status_at p self.old.place.place)) ≡ None) }
     {
         let answer = shared.heap.take_any(rt, &mut self.place, p, ends, gate);
         self.scribe.note(shared, &self.place, &mut account.front, &(p, ends, &answer));
@@ -187,13 +198,10 @@ impl<N: Names> Held<N> {
         let seen = shared.heap.channels.bell(rt, bell_of(p));
         match self.take_any(rt, shared, p, ends, account, gate) {
             Err(Refused::Empty) => {
-                self.waits = Waits::AtBell;
+                self.waits.bell = true;
                 Search::Later { seen }
             }
-            answer => {
-                self.waits = Waits::Nowhere;
-                Search::Done(answer)
-            }
+            answer => Search::Done(answer),
         }
     }
 }

@@ -5,7 +5,7 @@ ghost use Rattle.xh_core.specs.Statuses.{is_over};
 ghost use Rattle.xh_history.specs.Histories.{at};
 ghost use Rattle.xh_kernel.specs.Calls.{Noted, Steps};
 ghost use Rattle.xh_kernel.specs.Histories.{Does, IsHistoryOf};
-ghost use Rattle.xh_kernel.specs.Places.{IsLawful, IsTold, last_glance};
+ghost use Rattle.xh_kernel.specs.Places.{IsSoundPlace, IsTold, last_glance};
 ghost use Rattle.xh_kernel.specs.Words.{IsPackable};
 ghost use Rattle.xh_model.specs.declared.limits.TheConstants.{GENERATIONS};
 ghost use Rattle.xh_model.specs.Words.{generation_of, place_of};
@@ -43,7 +43,7 @@ fn shown(place: &Place) -> Glance
     requires { generation_of place.now.place.process < GENERATIONS }
     ensures shown { result ≡ glance_of place.now.place }
     ensures bounds { IsPackable result }
-    ensures lawful { IsLawful place.now.place }
+    ensures lawful { IsSoundPlace place.now.place }
 {
     Glance {
         process: place.process(),
@@ -69,7 +69,7 @@ impl Scribe {
         requires told { IsTold place.now.place pen }
         requires process { generation_of place.now.place.process < GENERATIONS }
         ensures same { result.pen ≡ pen }
-        ensures lawful { IsLawful place.now.place }
+        ensures lawful { IsSoundPlace place.now.place }
     {
         let last = shown(place);
         Scribe { pen, last }
@@ -93,7 +93,7 @@ impl Scribe {
             × Does N.parts call from place.now × StartsWith place.now.front from.front }
         ensures pen { (self.new.pen.table ≡ N.parts.histories) × (self.new.pen.number ≡ self.old.pen.number) }
         ensures told { IsTold place.now.place self.new.pen }
-        ensures lawful { IsLawful place.now.place }
+        ensures lawful { IsSoundPlace place.now.place }
         ensures history { IsHistoryOf N.parts self.new.pen.number self.new.pen.history place.now }
         ensures one_more { self.new.pen.history ≡ self.old.pen.history ++ (front.old.number, record { call = call; glance = glance_of place.now.place }) ∷ [] }
         ensures whole { at front.new.fronts self.old.pen.number ≡ self.new.pen.history }

@@ -1,6 +1,7 @@
 //! Looks for room for a message.
-ghost use Rattle.std.specs.Prelude.{◌≡◌, ◌≢◌, MatchBool};
-ghost use Rattle.xh_calls.specs.Messages.{Gives};
+ghost use Rattle.std.specs.Prelude.{◌≡◌, ◌≢◌, MatchBool, false, true};
+ghost use Rattle.xh_calls.specs.Places.{status_at};
+ghost use Rattle.xh_place.specs.Messages.{Gives, IsSpent};
 ghost use Rattle.xh_calls.specs.declared.call.Call.TheVariants.{Give};
 ghost use Rattle.xh_kernel.specs.Calls.{Calls};
 ghost use Rattle.xh_kernel.specs.Waits.{no_room};
@@ -8,7 +9,7 @@ ghost use Rattle.xh_kernel.specs.inner.Looking.{Sends};
 
 use crate::account::Account;
 use crate::held::Held;
-use crate::looking::{Waits, bell_of};
+use crate::looking::bell_of;
 use crate::shared::Shared;
 use std::sync::Wait;
 use xh_calls::Names;
@@ -26,8 +27,26 @@ fn is_in_vain(answer: &Result<u64, Refused>, given: &[u16]) -> bool
 }
 
 impl<N: Names> Held<N> {
-    // Blocks of the process, by the endpoint.
-    fn give<R: Wait, G: Gate>(
+    // Whether a give is to be tried again: there was no room, all blocks came back, and the endpoint hasn't sent its last message.
+    fn is_to_wait(
+        &mut self,
+        shared: &Shared<N>,
+        e: u16,
+        answer: &Result<u64, Refused>,
+        given: &[u16],
+    ) -> bool
+        ensures same { (self.new.place.place ≡ self.old.place.place) × (self.new.scribe ≡ self.old.scribe) }
+        ensures vain { result ≡ true → answer.now ≡ no_room given.now }
+        ensures spent { result ≡ false → answer.now ≡ no_room given.now → IsSpent e self.old.place.place }
+    {
+        if !is_in_vain(answer, given) {
+            return false;
+        }
+        !self.place.is_spent(&shared.heap.records, e)
+    }
+
+    // Blocks of the process, by the endpoint. With the answer goes whether the give is to be tried again.
+    pub(crate) fn give<R: Wait, G: Gate>(
         &mut self,
         rt: &R,
         shared: &Shared<N>,
@@ -37,8 +56,10 @@ impl<N: Names> Held<N> {
         blocks: &[u16],
         account: &mut Account<N>,
         gate: &G,
-    ) -> Result<u64, Refused>
-        ensures { Calls N.leads self.old.scribe.pen.number (Give p e tag blocks.now result) (λ old new. Gives p e tag blocks.now old new result) account.old account.new }
+    ) -> (Result<u64, Refused>, bool)
+        ensures call { Calls N.leads self.old.scribe.pen.number (Give p e tag blocks.now result.0) (λ old new. Gives (status_at p old.place) e tag blocks.now old new result.0
+            × (result.1 ≡ false → result.0 ≡ no_room blocks.now → IsSpent e new.place)) account.old account.new }
+        ensures vain { result.1 ≡ true → result.0 ≡ no_room blocks.now }
     {
         let answer = shared
             .heap
@@ -46,7 +67,8 @@ impl<N: Names> Held<N> {
         let about = (p, e, tag, blocks, &answer);
         self.scribe
             .note(shared, &self.place, &mut account.front, &about);
-        answer
+        let waits = self.is_to_wait(shared, e, &answer, blocks);
+        (answer, waits)
     }
 
     // The place's bell as it is; where it asks, the next take of what the endpoint put rings it after that.
@@ -80,12 +102,12 @@ impl<N: Names> Held<N> {
         ensures { Sends N.leads self.old.scribe.pen.number p e tag blocks.now account.old account.new result.0 result.1 }
     {
         let seen = self.hear(rt, shared, p, e, asks);
-        let answer = self.give(rt, shared, p, e, tag, blocks, account, gate);
-        if !is_in_vain(&answer, blocks) {
+        let (answer, waits) = self.give(rt, shared, p, e, tag, blocks, account, gate);
+        if !waits {
             self.wake(rt, shared);
             return (answer, None);
         }
-        self.waits = Waits::AtBell;
+        self.waits.bell = true;
         (answer, Some(seen))
     }
 }

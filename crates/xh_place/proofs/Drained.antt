@@ -2,69 +2,57 @@
 use Rattle.xh_place.specs.Seen.{Sight, brings}
 use Rattle.xh_place.proofs.Words.{away_in}
 use Rattle.xh_place.proofs.Words.{on_err_weaker, ◌≡◌, ℕ, ◌≤◌, inl, inr, List, [], ◌∷◌, ◌++◌, append_assoc, append-nil, length, refl, sym, ap, ◌∙◌, subst, Some, None, Option, Ok, Err, Result}
-use Rattle.xh_place.proofs.Words.{MatchResult, map-append, Message, Posted, Refused, put, value_at, front_at, put_at, put_same, put_twice, Content, bytes, endpoint, kind_of, toward, Taken, AreGot}
-use Rattle.xh_place.proofs.Words.{AreUnpacked, EndsWith, IsDrained, Shuts, Takes, TakesEach, blocks_of, record_of, EndDoes, end_block, toward_in, Clears, Drains, IsUntaken, Unpacks, IsSent}
+use Rattle.xh_place.proofs.Words.{MatchResult, map-append, Message, EndpointOf, Refused, put, value_at, front_at, put_at, put_same, put_twice, Content, bytes, endpoint, kind_of, toward, Taken, AreGot}
+use Rattle.xh_place.proofs.Words.{AreUnpacked, EndsWith, IsDrained, EndpointShuts, Takes, TakesEach, blocks_of, record_of, EndDoes, end_block, toward_in, Clears, Drains, IsUntaken, Unpacks, IsSent}
 use Rattle.xh_place.proofs.Words.{IsTaken, Item, PlaceOf, with_blocks, with_more, IsSeen, PlaceSeen, Stays}
-use Rattle.xh_place.proofs.Words.{true, false, ⊎_elim, ◌+◌, arith}
-use Rattle.std.proofs.Common.{true≢false}
+use Rattle.xh_place.proofs.Words.{true, false, ◌+◌, arith}
+use Rattle.std.proofs.Common.{is_some, length-append}
 use Rattle.std.proofs.lemmas.Bool.{false_from_ne_true}
-use Rattle.xh_channel.specs.declared.counts.Counts.{Counts}
-use Rattle.xh_channel.specs.declared.refused.Refused.{Refused as NoMessage}
 use Rattle.xh_model.specs.declared.limits.TheConstants.{MAX_MESSAGES}
 use Rattle.xh_place.proofs.Listing.{put_front}
-use Rattle.xh_place.proofs.Ends.{found_none, way_shut, way_taken}
+use Rattle.xh_place.proofs.Ends.{way_shut, way_taken}
 use Rattle.xh_place.proofs.Seeing.{got_both, all_got_as, unpacked_as, seen_wide, starts_more, starts_same}
 use Rattle.xh_place.proofs.Events.{more_none, more_twice}
 use Rattle.xh_core.specs.declared.header.Kind.TheVariants as kind
 
 -- ---- one endpoint
 
-abbrev end_of : Posted → Content → Posted
+abbrev end_of : EndpointOf → Content → EndpointOf
 end_of p (bytes xs) = p
 end_of p (endpoint q) = q
 
-abbrev end_in : Posted → Option Item → Posted
+abbrev end_in : EndpointOf → Option Item → EndpointOf
 end_in p None = p
 end_in p (Some x) = end_of p x.content
 
-one_end : (p q : Posted) → Some (end_block p) ≡ Some (end_block q) → p ≡ q
+one_end : (p q : EndpointOf) → Some (end_block p) ≡ Some (end_block q) → p ≡ q
 one_end p q e = ap (end_in p) e
 
-each_more : (ms : List Message) (m : Message) (old mid new : Posted) → TakesEach ms old mid → Takes (Ok m) mid new → TakesEach (ms ++ m ∷ []) old new
-each_more [] m old mid new each one = (new, subst (λ (p : Posted). Takes (Ok m) p new) each one, refl)
+each_more : (ms : List Message) (m : Message) (old mid new : EndpointOf) → TakesEach ms old mid → Takes (Ok m) mid new → TakesEach (ms ++ m ∷ []) old new
+each_more [] m old mid new each one = (new, subst (λ (p : EndpointOf). Takes (Ok m) p new) each one, refl)
 each_more (n ∷ ms) m old mid new each one = (each.0, each.1, each_more ms m each.0 mid new each.2 one)
 
--- it stays what it was
-each_stays : (ms : List Message) (old new : Posted) → TakesEach ms old new → (new.has_contract ≡ old.has_contract) × (new.counts.shut ≡ old.counts.shut)
-each_stays [] old new each = ((λ i. (each i).has_contract), (λ i. (each i).counts.shut))
-each_stays (m ∷ ms) old new each =
-    let later = each_stays ms each.0 new each.2 in
-    (later.0 ∙ each.1.same.has_contract, later.1 ∙ ap (λ (c : Counts). c.shut) each.1.answer.1)
+-- it goes by the contract that it went by
+each_stays : (ms : List Message) (old new : EndpointOf) → TakesEach ms old new → new.contract ≡ old.contract
+each_stays [] old new each = ap (λ (e : EndpointOf). e.contract) each
+each_stays (m ∷ ms) old new each = each_stays ms each.0 new each.2 ∙ ap (λ (e : EndpointOf). e.contract) each.1.answer.1.0
 
 -- no more messages come with a contract than may be numbered
-each_few : (ms : List Message) (old new : Posted) → TakesEach ms old new → old.has_contract ≡ true → 1 ≤ length ms → old.counts.taken + length ms ≤ MAX_MESSAGES
+each_few : (ms : List Message) (old new : EndpointOf) → TakesEach ms old new → is_some old.contract ≡ true → 1 ≤ length ms → length old.got + length ms ≤ MAX_MESSAGES
 each_few [] old new each has some = absurd (omega arith)
-each_few (m ∷ []) old new each has some = let no = each.1.answer.0 in let few = each.1.answer.2.5 has in omega (arith, no, few)
+each_few (m ∷ []) old new each has some = let no = each.1.answer.0 in let few = each.1.answer.4 has in omega (arith, no, few)
 each_few (m ∷ n ∷ ms) old new each has some =
-    let one = ap (λ (c : Counts). c.taken) each.1.answer.1 in
-    let more = each_few (n ∷ ms) each.0 new each.2 (each.1.same.has_contract ∙ has) (omega arith) in
-    omega (arith, one, more)
+    let mid : EndpointOf = each.0 in let took = each.1.answer.1.0 in
+    let one : length mid.got ≡ length (old.got ++ m ∷ []) = ap (λ (e : EndpointOf). length e.got) took in
+    let more = each_few (n ∷ ms) mid new each.2 (ap (λ (e : EndpointOf). is_some e.contract) took ∙ has) (omega arith) in
+    omega (arith, one, length-append old.got (m ∷ []), more)
 
-each_many : (ms : List Message) (old new : Posted) → TakesEach ms old new → 18446744073709551615 ≤ length ms → new.has_contract ≡ false
-each_many ms old new each many = false_from_ne_true new.has_contract (λ has. let few = each_few ms old new each (sym (each_stays ms old new each).0 ∙ has) (omega arith) in
-    absurd (omega (arith, few, many)))
+each_many : (ms : List Message) (old new : EndpointOf) → TakesEach ms old new → 18446744073709551615 ≤ length ms → is_some new.contract ≡ false
+each_many ms old new each many =
+    false_from_ne_true (is_some new.contract) (λ has. let few = each_few ms old new each (ap is_some (sym (each_stays ms old new each)) ∙ has) (omega arith) in absurd (omega (arith, few, many)))
 
-ends_drained : (ms : List Message) (old shut new : Posted) → Shuts old shut → IsDrained ms shut new → old.has_contract ≡ true → new.drained ≡ true
-ends_drained ms old shut new shuts drain has =
-    let last : Posted = drain.0 in let stays = each_stays ms shut last drain.1 in
-    let still : last.has_contract ≡ true = stays.0 ∙ shuts.1.0.0.has_contract ∙ has in
-    ⊎_elim
-    (λ (none : (why : NoMessage) × Takes (Err why) last new). found_none none.0 last new none.1 still (stays.1 ∙ ap (λ (c : Counts). c.shut) shuts.0))
-    (λ (many : (18446744073709551615 ≤ length ms) × (new ≡ last) × (last.has_contract ≡ false)). absurd (true≢false (sym still ∙ many.2)))
-    drain.2
-
-each_way : (ms : List Message) (old new : Posted) → TakesEach ms old new → toward (endpoint new) ≡ toward (endpoint old)
-each_way [] old new each = ap (λ (p : Posted). toward (endpoint p)) each
+each_way : (ms : List Message) (old new : EndpointOf) → TakesEach ms old new → toward (endpoint new) ≡ toward (endpoint old)
+each_way [] old new each = ap (λ (p : EndpointOf). toward (endpoint p)) each
 each_way (m ∷ ms) old new each = each_way ms each.0 new each.2 ∙ way_taken m old each.0 each.1
 
 blocks_more : (ms : List Message) (m : Message) → blocks_of (ms ++ m ∷ []) ≡ blocks_of ms ++ m.blocks.items
@@ -76,7 +64,7 @@ abbrev pub Draining : (ℕ → Sight → Type 0) → ℕ → List Message → Pl
 Draining saw e ms old new = (mid : PlaceOf) × (ys : List (ℕ × Item)) × EndDoes e old mid (TakesEach ms) × AreUnpacked saw (toward_in (value_at e old.blocks)) ms ys
     × (new ≡ with_more (toward_in (value_at e old.blocks)) ys mid)
 
-pub draining_none : (saw : ℕ → Sight → Type 0) (e : ℕ) (p : Posted) (old : PlaceOf) → value_at e old.blocks ≡ Some (end_block p) → put e (end_block p) old.blocks ≡ old.blocks → Draining saw e [] old old
+pub draining_none : (saw : ℕ → Sight → Type 0) (e : ℕ) (p : EndpointOf) (old : PlaceOf) → value_at e old.blocks ≡ Some (end_block p) → put e (end_block p) old.blocks ≡ old.blocks → Draining saw e [] old old
 draining_none saw e p old at same =
     (old, [], (p, p, at, ap (with_blocks old) (sym same), refl), ([], refl, refl), more_none (toward_in (value_at e old.blocks)) old)
 
@@ -107,10 +95,10 @@ module _ (saw : ℕ → Sight → Type 0) (e : ℕ) (ms : List Message) (old mid
   abbrev d : ℕ
   d = toward_in (value_at e old.blocks)
 
-  abbrev before : Posted
+  abbrev before : EndpointOf
   before = is.2.0
 
-  abbrev after : Posted
+  abbrev after : EndpointOf
   after = is.2.1
 
   -- where it is now
@@ -122,7 +110,7 @@ module _ (saw : ℕ → Sight → Type 0) (e : ℕ) (ms : List Message) (old mid
   draining_way = ap toward_in draining_at ∙ each_way ms before after is.2.4 ∙ sym (ap toward_in is.2.2)
 
   -- it is another now
-  draining_put : (p : Posted) → with_blocks mid (put e (end_block p) mid.blocks) ≡ with_more d is.1 (with_blocks old (put e (end_block p) old.blocks))
+  draining_put : (p : EndpointOf) → with_blocks mid (put e (end_block p) mid.blocks) ≡ with_more d is.1 (with_blocks old (put e (end_block p) old.blocks))
   draining_put p =
       let x : Item = end_block after in let y : Item = end_block p in
       let at : value_at e (put e x old.blocks) ≡ Some x = put_at e x (end_block before) old.blocks is.2.2 in
@@ -130,13 +118,13 @@ module _ (saw : ℕ → Sight → Type 0) (e : ℕ) (ms : List Message) (old mid
       put_front e y x (put e x old.blocks) is.1 at ∙ ap (λ (l : List (ℕ × Item)). l ++ is.1) (put_twice e y x old.blocks) in
       ap (λ (q : PlaceOf). with_blocks q (put e y q.blocks)) (is.4 ∙ ap (with_more d is.1) is.2.3) ∙ ap (with_blocks (with_more d is.1 old)) blocks
 
-  same_after : (p : Posted) → value_at e mid.blocks ≡ Some (end_block p) → p ≡ after
+  same_after : (p : EndpointOf) → value_at e mid.blocks ≡ Some (end_block p) → p ≡ after
   same_after p at = one_end p after (sym at ∙ draining_at)
 
   pub draining_more : (new : PlaceOf) (taken : Taken) → (t : TakesOne saw e mid new taken) → Draining saw e (ms ++ t.1 ∷ []) old new
   draining_more new taken t =
-      let does = t.2 in let q : Posted = does.1 in
-      let one : Takes (Ok t.1) after q = subst (λ (p : Posted). Takes (Ok t.1) p q) (same_after does.0 does.2) does.4 in
+      let does = t.2 in let q : EndpointOf = does.1 in
+      let one : Takes (Ok t.1) after q = subst (λ (p : EndpointOf). Takes (Ok t.1) p q) (same_after does.0 does.2) does.4 in
       let base : PlaceOf = with_blocks old (put e (end_block q) old.blocks) in (
         base,
         is.1 ++ t.3.gained,
@@ -151,20 +139,20 @@ module _ (saw : ℕ → Sight → Type 0) (e : ℕ) (ms : List Message) (old mid
 
   pub drained : (new : PlaceOf) (refused : Refused) → IsUntaken e mid new refused → Drains saw e old new
   drained new refused t =
-      let does = t.1 in let q : Posted = does.1 in
-      let one : Takes (Err t.0) after q = subst (λ (p : Posted). Takes (Err t.0) p q) (same_after does.0 does.2) does.4 in
+      let does = t.1 in let q : EndpointOf = does.1 in
+      let one : Takes (Err t.0) after q = subst (λ (p : EndpointOf). Takes (Err t.0) p q) (same_after does.0 does.2) does.4 in
       (with_blocks old (put e (end_block q) old.blocks), is.1, ms, (before, q, is.2.2, refl, (after, is.2.4, inl (t.0, one))), is.3, does.3 ∙ draining_put q)
 
   pub drained_all : 18446744073709551615 ≤ length ms → Drains saw e old mid
   drained_all all = (is.0, is.1, ms, (before, after, is.2.2, is.2.3, (after, is.2.4, inr (all, refl, each_many ms before after is.2.4 all))), is.3, is.4)
 
 -- it was shut before
-pub cleared : (saw : ℕ → Sight → Type 0) (r : ℕ) (old mid new : PlaceOf) → EndDoes r old mid Shuts → Drains saw r mid new → Clears saw r old new
+pub cleared : (saw : ℕ → Sight → Type 0) (r : ℕ) (old mid new : PlaceOf) → EndDoes r old mid EndpointShuts → Drains saw r mid new → Clears saw r old new
 cleared saw r old mid new shut drain =
-    let p : Posted = shut.0 in let s : Posted = shut.1 in let does = drain.3 in let q : Posted = does.1 in let ms : List Message = drain.2 in
+    let p : EndpointOf = shut.0 in let s : EndpointOf = shut.1 in let does = drain.3 in let q : EndpointOf = does.1 in let ms : List Message = drain.2 in
     let at : value_at r mid.blocks ≡ Some (end_block s) = ap (λ (z : PlaceOf). value_at r z.blocks) shut.3 ∙ put_at r (end_block s) (end_block p) old.blocks shut.2 in
     let one : does.0 ≡ s = one_end does.0 s (sym does.2 ∙ at) in
-    let drained' : IsDrained ms s q = subst (λ (z : Posted). IsDrained ms z q) one does.4 in
+    let drained' : IsDrained ms s q = subst (λ (z : EndpointOf). IsDrained ms z q) one does.4 in
     let turned : toward_in (value_at r mid.blocks) ≡ toward (endpoint p) = ap toward_in at ∙ way_shut p s shut.4 in
     let base : drain.0 ≡ with_blocks old (put r (end_block q) old.blocks) =
     does.3 ∙ ap (λ (z : PlaceOf). with_blocks z (put r (end_block q) z.blocks)) shut.3 ∙ ap (with_blocks old) (put_twice r (end_block q) (end_block s) old.blocks) in (
@@ -173,7 +161,7 @@ cleared saw r old mid new shut drain =
       drain.1,
       shut.2,
       refl,
-      (ms, s, q, shut.4, drained', subst (λ (n : ℕ). AreUnpacked saw n ms drain.1) turned drain.4, ends_drained ms p s q shut.4 drained'),
+      (ms, s, q, shut.4, drained', subst (λ (n : ℕ). AreUnpacked saw n ms drain.1) turned drain.4),
       drain.5 ∙ (λ i. with_more (turned i) drain.1 (base i)),
     )
 

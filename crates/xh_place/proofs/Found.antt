@@ -2,13 +2,11 @@
 use Rattle.xh_place.proofs.Words.{◌≡◌, ℕ, List, refl, sym, ap, ◌∙◌, subst, Some, None, Option, LotOf, Status, Among, value_at, put, put_same, Held, IsRecord, IsSeatOf, RecordsOf, with_lots, Body}
 use Rattle.xh_place.proofs.Words.{Item, PlaceOf, option_map, header_of, item_of, IsBlock, IsPlace, IsPlaceOf, ◌≤◌, true, rules, Shape, End, content_of, fits_in, AreBlocks, Fits, IsWhole, Lists}
 use Rattle.xh_place.proofs.Words.{item_at, Bool}
-use Rattle.xh_place.proofs.Words.{⊎_elim, inl, inr, [], ◌∷◌, map, eq-eqb, dite, ℕ_discrete, MatchBool, ◌==◌, Process, keys, index_of, word_of, Knows, owned_by}
-use Rattle.xh_place.proofs.Words.{◌+◌, ◌*◌, ◌%◌, slice_index, HasFound, SawFull, SawTaken}
+use Rattle.xh_place.proofs.Words.{eq-eqb, dite, ℕ_discrete, MatchBool, ◌==◌, Process, keys, word_of, Knows, SawAt, arith}
+use Rattle.xh_place.proofs.Words.{◌+◌, ◌*◌, ◌%◌, slice_index, SawFull, SawTaken}
 use Rattle.xh_core.specs.Headers.{has_end}
 use Rattle.xh_core.specs.declared.header.Header.{Header}
-use Rattle.xh_records.specs.Seats.{view_of as seen_of}
-use Rattle.xh_records.proofs.Elements.{among_map}
-use Rattle.xh_place.proofs.Steps.{listed, lot_of, view_of, count_bound, total_bound, among_index}
+use Rattle.xh_place.proofs.Steps.{listed, lot_of, view_of, count_bound, total_bound}
 use Rattle.xh_place.proofs.Listing.{unequal}
 
 pub record Found (seat : Held Body) (xs : List (ℕ × Item)) (r : ℕ) (x : Item) : Type 0 where
@@ -74,33 +72,19 @@ module _ {seat : Held Body} {xs : List (ℕ × Item)} {room total : ℕ} {state 
 
 -- ---- what a record's word says of whether its seat holds it
 
-owns_key : (p k : ℕ) (ks : List ℕ) → Among (owned_by p ks) (k, p) → Among ks k
-owns_key p k [] a = a
-owns_key p k (x ∷ xs) a = ⊎_elim (λ e. inl (ap (λ (z : ℕ × ℕ). z.0) e)) (λ b. inr (owns_key p k xs b)) a
-
-key_owns : (p k : ℕ) (ks : List ℕ) → Among ks k → Among (owned_by p ks) (k, p)
-key_owns p k [] a = a
-key_owns p k (x ∷ xs) a = ⊎_elim (λ e. inl (ap (λ (z : ℕ). (z, p)) e)) (λ b. inr (key_owns p k xs b)) a
-
-pub word_holds : (seat : Held Body) (r word own : ℕ) → IsRecord seat.shape r → ((q : ℕ) → Among (keys seat.lots) q → IsRecord seat.shape q) → Knows (seen_of seat) (index_of seat.shape.records r) word
-    → own ≡ word_of (Some (Process seat.process)) → MatchBool (word == own) (Among (keys seat.lots) r) (Among (keys seat.lots) r → ⊥)
-word_holds seat r word own is all knows same =
-    let mine = knows.1 seat.process (inl refl) in let k : ℕ = index_of seat.shape.records r in let ks : List ℕ = map (index_of seat.shape.records) (keys seat.lots) in
-    dite (ℕ_discrete word own)
-    (λ e. subst (λ (b : Bool). MatchBool b (Among (keys seat.lots) r) (Among (keys seat.lots) r → ⊥)) (sym (eq-eqb word own e))
-    (among_index seat.shape (keys seat.lots) r all is.1 (owns_key seat.process k ks (mine.0 (e ∙ same)))))
-    (λ n. subst (λ (b : Bool). MatchBool b (Among (keys seat.lots) r) (Among (keys seat.lots) r → ⊥)) (sym (unequal word own n))
-    (λ a. n (mine.1 (key_owns seat.process k ks (among_map (index_of seat.shape.records) (keys seat.lots) r a)) ∙ sym same)))
+pub word_holds : (seat : Held Body) (r word own : ℕ) → Knows seat r word → own ≡ word_of (Some (Process seat.process))
+    → MatchBool (word == own) (Among (keys seat.lots) r) (Among (keys seat.lots) r → ⊥)
+word_holds seat r word own knows same = dite (ℕ_discrete word own)
+    (λ e. subst (λ (b : Bool). MatchBool b (Among (keys seat.lots) r) (Among (keys seat.lots) r → ⊥)) (sym (eq-eqb word own e)) (knows.1.0 (e ∙ same)))
+    (λ n. subst (λ (b : Bool). MatchBool b (Among (keys seat.lots) r) (Among (keys seat.lots) r → ⊥)) (sym (unequal word own n)) (λ a. n (knows.1.1 a ∙ sym same)))
 
 -- a claim found no record free: where a word was the seat's own, the seat holds the record
-pub no_record : (arena : ℕ) (words : List ℕ) (x y : Held Body) → ((q : ℕ) → Among (keys x.lots) q → IsRecord x.shape q) → SawTaken arena words x y
-    → SawFull x.process (keys x.lots) x.shape x.front y.front arena
-no_record arena words x y all h = λ r exists near.
-    let look = h.1 (r % 256) exists.1 in let word : ℕ = slice_index words (r % 256) in let n : ℕ = x.shape.records in
-    let at : arena * n + r % 256 ≡ index_of n r = ap (λ (a : ℕ). a * n + r % 256) (sym near) in
-    let found = subst (λ (k : ℕ). HasFound k word x look.1) at look.4 in (
+pub no_record : (arena : ℕ) (words : List ℕ) (x y : Held Body) → SawTaken arena words x y → SawFull x.process (keys x.lots) x.shape x.front y.front arena
+no_record arena words x y h = λ r exists near.
+    let look = h.1 (r % 256) exists.1 in let word : ℕ = slice_index words (r % 256) in
+    let at : arena * 256 + r % 256 ≡ r = omega (arith, near) in (
       word,
       look.0,
-      (λ own. among_index x.shape (keys x.lots) r all exists.1 (owns_key x.process (index_of n r) (map (index_of n) (keys x.lots)) ((found.0.1 x.process (inl refl)).0 own))),
-      (look.1, look.2, look.3, found.1),
+      (λ own. subst (λ (q : ℕ). Among (keys x.lots) q) at (look.1.1.0 own)),
+      subst (λ (q : ℕ). SawAt x.shape x.front y.front q word) at look.2,
     )

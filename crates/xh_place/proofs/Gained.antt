@@ -46,21 +46,18 @@ one_gone arena also seat mid last r l h near is fresh then =
     )
 
 -- a claim found no record free, and the seat had claimed none in the call, or one, which it then let go of
-pub full_now : (arena most : ℕ) (words : List ℕ) (seat last : Held Body) → ((q : ℕ) → Among (keys seat.lots) q → IsRecord seat.shape q) → SawTaken arena words seat last → HasLooked seat last
+pub full_now : (arena most : ℕ) (words : List ℕ) (seat last : Held Body) → SawTaken arena words seat last → HasLooked seat last
     → SeatFull most seat last arena
-full_now arena most words seat last all taken looked = none_claimed arena
+full_now arena most words seat last taken looked = none_claimed arena
     (λ claims. (length claims ≤ most) × SawFull seat.process (keys seat.lots ++ claims) seat.shape seat.front last.front arena) seat last
-    (omega arith, subst (λ (ks : List ℕ). SawFull seat.process ks seat.shape seat.front last.front arena) (sym (append-nil (keys seat.lots))) (no_record arena words seat last all taken)) looked
+    (omega arith, subst (λ (ks : List ℕ). SawFull seat.process ks seat.shape seat.front last.front arena) (sym (append-nil (keys seat.lots))) (no_record arena words seat last taken)) looked
 
-pub full_after : (arena : ℕ) (words : List ℕ) (seat mid late last : Held Body) (r : ℕ) (l : LotOf Body) → ((q : ℕ) → Among (keys seat.lots) q → IsRecord seat.shape q) → r / 256 ≡ arena
-    → IsRecord seat.shape r → HasNow (did (Claim seat.process r) seat) (seat.lots ++ (r, l) ∷ []) mid → (Among (keys seat.lots) r → ⊥) → StartsWith mid.front seat.front
+pub full_after : (arena : ℕ) (words : List ℕ) (seat mid late last : Held Body) (r : ℕ) (l : LotOf Body) → r / 256 ≡ arena
+    → HasNow (did (Claim seat.process r) seat) (seat.lots ++ (r, l) ∷ []) mid → (Among (keys seat.lots) r → ⊥) → StartsWith mid.front seat.front
     → SawTaken arena words mid late → HasLooked mid late → (v : LotOf Body) → HasLost (Vacate late.process r) v late last → SeatFull 1 seat last arena
-full_after arena words seat mid late last r l all near exists is fresh before taken looked v lost =
+full_after arena words seat mid late last r l near is fresh before taken looked v lost =
     let keyed : keys (seat.lots ++ (r, l) ∷ []) ≡ keys seat.lots ++ r ∷ [] = keys_push seat.lots (r, l) in
-    let there : (q : ℕ) → Among (keys mid.lots) q → IsRecord mid.shape q = subst (λ (z : Held Body). (q : ℕ) → Among (keys z.lots) q → IsRecord z.shape q) (sym is)
-    (λ q a. ⊎_elim (all q) (λ b. ⊎_elim (λ (e : q ≡ r). subst (IsRecord seat.shape) (sym e) exists) (λ z. absurd z) b)
-    (among_either (keys seat.lots) (r ∷ []) q (subst (λ (ks : List ℕ). Among ks q) keyed a))) in
-    let found = subst (λ (z : Held Body). SawFull z.process (keys z.lots) z.shape mid.front late.front arena) is (no_record arena words mid late there taken) in
+    let found = subst (λ (z : Held Body). SawFull z.process (keys z.lots) z.shape mid.front late.front arena) is (no_record arena words mid late taken) in
     let held : List ℕ = keys seat.lots ++ r ∷ [] in
     let full = subst (λ (ks : List ℕ). SawFull seat.process ks seat.shape mid.front late.front arena) keyed found in
     let wide = full_wide seat.process held held seat.shape mid.front late.front seat.front last.front arena (λ q a. a) before (advanced _ late last lost.1) full in

@@ -1,6 +1,6 @@
 -- A block cut in two, and one in which some bytes were overwritten.
 use Rattle.xh_place.proofs.Words.{◌≡◌, ◌≢◌, ℕ, ◌+◌, ◌-◌, ◌/◌, ◌<◌, ◌≤◌, List, [], ◌∷◌, ◌++◌, length, drop, take, true, refl, sym, ap, ◌∙◌, subst, arith, rules, length-take-le, length-drop, Some}
-use Rattle.xh_place.proofs.Words.{None, LotOf, start, Tests, first_refusal, is_running, is_over, Status, Running, Among, keys, value_at, put, at_key, front_at, keys_push, last_put, put_keys}
+use Rattle.xh_place.proofs.Words.{None, LotOf, start, Tests, first_refusal, is_over, Status, Running, Among, keys, value_at, put, at_key, front_at, keys_push, last_put, put_keys}
 use Rattle.xh_place.proofs.Words.{IsLotOf, Held, IsRecord, IsSeatOf, RecordsOf, with_lots, HasNow, IsCut, IsData, bare, Body, Nothing, Data, End, bytes, content_of, fits_in, front, kind_of, rest}
 use Rattle.xh_place.proofs.Words.{Claim, did, Item, item_at, item_of, shown, total_of, IsBlock, IsPlace, length-append, Shape, patched}
 use Rattle.xh_model.specs.Arena.{IsGoodCut}
@@ -8,12 +8,12 @@ use Rattle.xh_place.proofs.Listing.{put_front, shown_keys, total_put}
 use Rattle.xh_place.proofs.Gained.{fits_bytes, has}
 use Rattle.xh_place.proofs.Steps.{IsNow, changes, gains, is_now, quiet_alive, stays, turned}
 use Rattle.xh_core.specs.declared.header.Kind.TheVariants as kind
-use Rattle.std.specs.Prelude.{Bool, Err, Ok, OnErr, Option, Result, Some, cond, is_none, not}
+use Rattle.std.specs.Prelude.{Err, Ok, OnErr, Option, Result, Some, is_none}
 use Rattle.xh_core.specs.Calls.{range_tests}
 use Rattle.xh_core.specs.Refusing.{Tested}
 use Rattle.xh_core.specs.declared.header.Header.{Header}
 use Rattle.xh_core.specs.declared.refused.Refused.{Refused}
-use Rattle.xh_core.specs.declared.refused.Refused.TheVariants.{Ended, NotOwned}
+use Rattle.xh_core.specs.declared.refused.Refused.TheVariants.{NotOwned}
 use Rattle.xh_place.specs.Places.{header_of}
 
 still_fresh : {X : Type 0} (r t : ℕ) (y : X) (xs : List (ℕ × X)) → (Among (keys xs) t → ⊥) → Among (keys (put r y xs)) t → ⊥
@@ -113,8 +113,8 @@ is_cut all seat mid last r t k l l0 h m b c fresh block lot exists held good are
       arena,
     )
 
--- a call that is not refused is by a process that runs
-pub runs : (s : Status) (tests : Tests) → first_refusal (start s ++ tests) ≡ None → is_running s ≡ true
+-- a call that its tests let through is by a process that runs
+pub runs : (s : Status) (tests : Tests) → first_refusal (start s ++ tests) ≡ None → s ≡ Running
 runs Running tests e = refl
 runs s tests e = absurd (cc)
 
@@ -128,7 +128,7 @@ pub tested_range : {A : Type 0} (s : Status) (found : Option Header) (x : Item) 
     → ((a : A) → P a → Q a) → Tested (start s ++ range_tests found at n) result Q
 tested_range s found x at n result {y} fine is same tests gives =
     let e : first_refusal (start s ++ range_tests found at n) ≡ first_refusal (range_tests (Some (header_of y)) at n)
-    = ap (λ (b : Bool). cond (not b) (Some Ended) (first_refusal (range_tests found at n))) (runs s ((is_none found, NotOwned) ∷ []) fine)
+    = ap (λ (z : Status). first_refusal (start z ++ range_tests found at n)) (runs s ((is_none found, NotOwned) ∷ []) fine)
     ∙ ap (λ (o : Option Header). first_refusal (range_tests o at n)) (is ∙ ap (λ (z : Item). Some (header_of z)) (sym same)) in
     weaker (range_tests (Some (header_of y)) at n) (start s ++ range_tests found at n) result e tests gives
 

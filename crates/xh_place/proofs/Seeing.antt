@@ -51,7 +51,7 @@ arrived_wide p from to from' to' r d x before after h = (h.0, h.1, starts_more f
 
 -- a look, as the seat says it
 pub looked : (x y : Held Body) (r word : ℕ) → HasSeen r word x y → SawAt x.shape x.front y.front r word
-looked x y r word h = (y.front, advanced [] x y h.1.1, starts_same refl, h.0.1)
+looked x y r word h = (y.front, advanced [] x y h.2.1, starts_same refl, h.1)
 
 pub saw_wide : (s : Shape) (from to from' to' : List (Deed Body)) (r word : ℕ) → StartsWith from from' → StartsWith to' to → SawAt s from to r word → SawAt s from' to' r word
 saw_wide s from to from' to' r word before after h = (h.0, starts_more from' before h.1, starts_more h.0 h.2 after, h.3)
@@ -67,7 +67,8 @@ pub full_wide : (p : ℕ) (held more : List ℕ) (s : Shape) (from to from' to' 
 full_wide p held more s from to from' to' arena kept before after h = λ r exists near. let look = h r exists near in
     (look.0, look.1, (λ own. kept r (look.2 own)), saw_wide s from to from' to' r look.0 before after look.3)
 
-module _ (old new old' new' : PlaceSeen) (shape : old.place.shape ≡ old'.place.shape) (process : old.place.process ≡ old'.place.process) (before : StartsWith old.front old'.front) (after : StartsWith new'.front new.front) where
+module _ (old new old' new' : PlaceSeen) (shape : old.place.shape ≡ old'.place.shape) (process : old.place.process ≡ old'.place.process)
+    (before : StartsWith old.front old'.front) (after : StartsWith new'.front new.front) where
   pub word_wide : (r word : ℕ) → SawWord old new r word → SawWord old' new' r word
   word_wide r word h = subst (λ (s : Shape). SawAt s old'.front new'.front r word) shape (saw_wide old.place.shape old.front new.front old'.front new'.front r word before after h)
 
@@ -95,7 +96,7 @@ module _ (P Q : ℕ → Sight → Type 0) (f : (r : ℕ) (s : Sight) → P r s �
 
   pub ends_as : (c : Content) (came : List (ℕ × Item)) → EndsWith P c came → EndsWith Q c came
   ends_as (bytes xs) came h = h
-  ends_as (endpoint e) came h = (h.0, h.1, h.2, h.3, h.4, unpacked_as (toward (endpoint e)) h.0 came h.5, h.6)
+  ends_as (endpoint e) came h = (h.0, h.1, h.2, h.3, h.4, unpacked_as (toward (endpoint e)) h.0 came h.5)
 
   ended_as : (p : ℕ) (gone accepted : List (ℕ × Item)) (log : List Event) → AreEnded P p gone accepted log → AreEnded Q p gone accepted log
   ended_as p [] accepted log h = h

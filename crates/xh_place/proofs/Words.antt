@@ -10,7 +10,8 @@ pub use Rattle.std.proofs.lemmas.List.{drop-append-le, drop-drop, drop_at, drop_
 pub use Rattle.std.proofs.lemmas.Result.{on_err_weaker, on_ok_weaker}
 pub use Rattle.std.specs.List.{list_all, list_any}
 pub use Rattle.xh_arena.specs.Views.{LotOf, TallyOf}
-pub use Rattle.xh_channel.specs.Queues.{IsSameEnd, Posted}
+pub use Rattle.xh_channel.specs.Calls.{EndpointShuts}
+pub use Rattle.xh_channel.specs.Endpoint.{EndpointOf}
 pub use Rattle.xh_channel.specs.declared.message.Message.{Message}
 pub use Rattle.xh_core.specs.Calls.{alloc_tests, arena_tests, end_tests, given_tests, reclaimed, split_tests}
 pub use Rattle.xh_core.specs.Refusing.{Tests, first_refusal}
@@ -31,14 +32,14 @@ pub use Rattle.xh_model.specs.declared.limits.TheConstants.{END_BYTES, MAX_BUDGE
 pub use Rattle.xh_place.specs.Bodies.{Content, away, bytes, content_of, endpoint, fits_in, front, kind_of, part, patched, rest, toward}
 pub use Rattle.xh_place.specs.Desk.{IsSameDesk, IsSeatAt}
 pub use Rattle.xh_place.specs.Ending.{AreEnded, HasGivenBack, IsClosed, IsSwept, IsSweptBy, back_of, ending, last}
-pub use Rattle.xh_place.specs.Endpoints.{AreGot, AreUnpacked, EndsWith, IsDrained, IsGot, Puts, Shuts, Takes, TakesEach, blocks_of, record_of}
+pub use Rattle.xh_place.specs.Endpoints.{AreGot, AreUnpacked, EndsWith, IsDrained, IsGot, Puts, Takes, TakesEach, blocks_of, record_of}
 pub use Rattle.xh_place.specs.Ends.{EndDoes, IsTooLate, RefusedOr, away_in, end_block, ending_again, toward_in}
 pub use Rattle.xh_place.specs.Messages.{Answers, IsSent, IsTaken, IsUntaken, Unpacks, is_listed, settle, settled}
 pub use Rattle.xh_place.specs.Events.{accepted_on, let_go, passed_on}
 pub use Rattle.xh_place.specs.Places.{AreBlocks, Fits, IsBlock, IsPlace, IsPlaceOf, IsQuiet, IsWhole, Item, Lists, PlaceOf, found as found_at, header_of, item_at, item_in, item_of, shown}
 pub use Rattle.xh_place.specs.Places.{LetsGo, alone, picked, total_of, with_blocks, with_events, with_freed, with_list, with_more}
-pub use Rattle.xh_place.specs.Seen.{FindsFull, HasLeft, IsElsewhere, IsSamePlace, IsSeen, PlaceSeen, SawAt, SawFull, SawWord, Stays}
-pub use Rattle.xh_place.specs.Starts.{start, stop}
+pub use Rattle.xh_place.specs.Seen.{FindsFull, HasLeft, IsElsewhere, IsSamePlace, IsSeen, PlaceSeen, SawFull, SawWord, Stays}
+pub use Rattle.xh_core.specs.Calls.{start, stop}
 pub use Rattle.xh_place.specs.Tallies.{gave, ids_of, took}
 pub use Rattle.xh_place.specs.declared.body.Body.{Body}
 pub use Rattle.xh_place.specs.declared.body.Body.TheVariants.{Data, End, Nothing}
@@ -48,7 +49,7 @@ pub use Rattle.xh_place.specs.inner.Lists.{AreBack, CameBack, lens, less, less_a
 pub use Rattle.xh_place.specs.inner.Lots.{ArePassed, Came, HasNow, IsCut, IsData, IsEnd, LotDoes, SeatFull, SeatLetsGo, bare, carrying, values, with_done}
 pub use Rattle.xh_place.specs.inner.Reclaiming.{Clears, Drains, IsSweptLate}
 pub use Rattle.xh_records.specs.History.{StartsWith}
-pub use Rattle.xh_records.specs.Seats.{Advances, HasFound, HasLooked, HasLost, HasSeen, Held, IsRecord, IsSeatOf, Knows, RecordsOf, SawTaken, did, owned_by, with_lots}
+pub use Rattle.xh_records.specs.Seats.{Advances, HasLooked, HasLost, HasSeen, Held, IsRecord, IsSeatOf, Knows, RecordsOf, SawAt, SawTaken, did, with_lots}
 pub use Rattle.xh_records.specs.Showing.{IsLotOf}
 pub use Rattle.xh_records.specs.declared.shape.Shape.{Shape}
 pub use mathlib.Core.Logic.{dite}

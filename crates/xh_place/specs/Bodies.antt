@@ -1,6 +1,6 @@
 -- What contracts see of what a block carries.
 use Rattle.std.specs.Prelude.{◌≡◌, ℕ, Bool, ◌==◌, ◌&&◌, nat_le, nat_lt, ◌+◌, ◌-◌, ◌*◌, List, [], ◌++◌, take, drop, length}
-use Rattle.xh_channel.specs.Queues.{Posted}
+use Rattle.xh_channel.specs.Endpoint.{EndpointOf}
 use Rattle.xh_model.specs.declared.limits.TheConstants.{DIRECTIONS, END_BYTES, MAX_BYTES}
 use Rattle.xh_place.specs.declared.body.Body.{Body}
 use Rattle.xh_place.specs.declared.body.Body.TheVariants.{Nothing, Data, End}
@@ -10,7 +10,7 @@ use Rattle.xh_core.specs.declared.header.Kind.TheVariants as kind
 -- bytes, or the end of a channel: all that the channel's contracts see of it
 pub data Content : Type 0 where
   bytes : List ℕ → Content
-  endpoint : Posted → Content
+  endpoint : EndpointOf → Content
 
 abbrev pub content_of : Body → Content
 content_of Nothing = bytes []
@@ -30,16 +30,16 @@ fits_in (End e) n = n == END_BYTES
 -- the direction toward an endpoint, and that toward its peer
 abbrev pub toward : Content → ℕ
 toward (bytes xs) = DIRECTIONS
-toward (endpoint e) = 2 * e.channel + e.side
+toward (endpoint e) = 2 * e.spot.channel + e.spot.side
 
 abbrev pub away : Content → ℕ
 away (bytes xs) = DIRECTIONS
-away (endpoint e) = 2 * e.channel + 1 - e.side
+away (endpoint e) = 2 * e.spot.channel + 1 - e.spot.side
 
 -- an endpoint of this channel and side
 abbrev pub IsEndAt : Content → ℕ → ℕ → Type 0
 IsEndAt (bytes xs) channel side = ⊥
-IsEndAt (endpoint e) channel side = (e.channel ≡ channel) × (e.side ≡ side)
+IsEndAt (endpoint e) channel side = (e.spot.channel ≡ channel) × (e.spot.side ≡ side)
 
 -- its n bytes from `at` on, and what it is with these bytes there
 abbrev pub part : ℕ → ℕ → Content → List ℕ

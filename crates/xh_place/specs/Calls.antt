@@ -1,54 +1,73 @@
--- What the calls on data blocks do to a place and to the tallies of its worker.
+-- What the calls of a process do to its place, and why they are refused. In each relation `status` says how far the process that calls has come: of that are its first tests.
 use Rattle.std.specs.Borrow.{Bor, MutBor}
 use Rattle.std.specs.Fn.{CalledAt, CalledAtMut, Mut}
-use Rattle.std.specs.Prelude.{◌≡◌, ℕ, ◌/◌, ◌≤◌, List, [], ◌∷◌, ◌++◌, length, replicate, Some, Result, IfOk, OnErr, OnOk}
-use Rattle.xh_arena.specs.Views.{TallyOf}
+use Rattle.std.specs.Prelude.{◌≡◌, ℕ, ◌/◌, ◌≤◌, List, [], ◌∷◌, ◌++◌, length, replicate, Some, Result, Err, IfErr, IfOk, MatchOption, OnErr}
+use Rattle.xh_arena.specs.declared.refused.Refused.{Refused as Reason}
+use Rattle.xh_arena.specs.declared.refused.Refused.TheVariants as arena
 use Rattle.xh_core.specs.declared.block.Block.{Block}
 use Rattle.xh_core.specs.declared.refused.Refused.{Refused}
-use Rattle.xh_core.specs.Calls.{range_tests}
-use Rattle.xh_core.specs.Refusing.{Tested}
+use Rattle.xh_core.specs.declared.refused.Refused.TheVariants.{NoRecord, NoSpace, OutOfMemory, Worn}
+use Rattle.xh_core.specs.declared.status.Status.{Status}
+use Rattle.xh_core.specs.Calls.{alloc_tests, data_tests, end_tests, range_tests, split_tests, start, stop}
+use Rattle.xh_core.specs.Headers.{len_in}
+use Rattle.xh_core.specs.Refusing.{Tested, first_refusal}
 use Rattle.xh_core.specs.Space.{rounded}
 use Rattle.xh_model.specs.declared.limits.TheConstants.{MAX_RECORDS}
 use Rattle.xh_model.specs.declared.event.Event.TheVariants.{Claim}
 use Rattle.xh_model.specs.Keyed.{put, value_at}
 use Rattle.xh_place.specs.Bodies.{Content, bytes, endpoint, part, patched}
+use Rattle.xh_place.specs.Ending.{IsClosed, IsStopped}
+use Rattle.xh_place.specs.Ends.{RefusedOr}
 use Rattle.xh_place.specs.Places.{Item, LetsGo, PlaceOf, found, with_blocks, with_events, with_freed}
-use Rattle.xh_place.specs.Seen.{IsSamePlace, PlaceSeen, Stays}
-use Rattle.xh_place.specs.Splitting.{IsSplit}
-use Rattle.xh_place.specs.Starts.{start}
-use Rattle.xh_place.specs.Tallies.{gave, took}
+use Rattle.xh_place.specs.Seen.{FindsFull, IsSamePlace, PlaceSeen, Stays}
+use Rattle.xh_place.specs.Splitting.{IsSplit, IsUncut}
 
--- a data block of n bytes of the arena, rounded up and all of them zero, is the last of the list, and its record was claimed; or a record was claimed in vain, if any. The tallies are as they were
--- then
-pub record Allocates (n arena : ℕ) (old new : PlaceOf) (told tallies : List TallyOf) (result : Result Block Refused) : Type 0 where
-  pub made : IfOk result (λ b. new ≡ with_events (with_blocks old (old.blocks ++ (b.rec, record { len = b.len; content = bytes (replicate b.len 0) }) ∷ [])) (Claim old.process b.rec ∷ []))
+-- ---- alloc
+
+-- how many arenas there are, and of how many bytes; and what it is that an arena's vault refuses to carve so many, for this reason
+pub record SpaceOf : Type 1 where
+  pub arenas : ℕ
+  pub size : ℕ
+  pub refuses : ℕ → ℕ → Reason → Type 0
+
+-- no record was free, as `full` says, or no memory was had; or the vault refused
+abbrev pub IsLack : Type 0 → (Reason → Type 0) → Refused → Type 0
+IsLack full refuses NoRecord = full
+IsLack full refuses OutOfMemory = Unit {0}
+IsLack full refuses NoSpace = refuses arena.NoSpace
+IsLack full refuses Worn = refuses arena.Worn
+IsLack full refuses _ = ⊥
+
+-- a new data block of at least n bytes of the arena, all of them zero, is the last of the list, and its record was claimed; or a record was claimed in vain, if any, and none where a test refused
+pub record Allocates (status : Status) (space : SpaceOf) (n arena : ℕ) (old new : PlaceSeen) (result : Result Block Refused) : Type 0 where
+  pub made : IfOk result (λ b. new.place ≡ with_events (with_blocks old.place (old.place.blocks ++ (b.rec, record { len = b.len; content = bytes (replicate b.len 0) }) ∷ []))
+      (Claim old.place.process b.rec ∷ []))
   pub block : IfOk result (λ b. (b.len ≡ rounded n) × (b.rec / MAX_RECORDS ≡ arena))
-  pub taken : IfOk result (λ b. tallies ≡ took arena b.len told)
-  pub refused : OnErr result (LetsGo (λ claims. length claims ≤ 1) arena old new × (tallies ≡ told))
+  pub refused : OnErr result (LetsGo (λ claims. length claims ≤ 1) arena old.place new.place)
+  pub why : MatchOption (first_refusal (start status ++ alloc_tests arena space.arenas n space.size))
+      (IfErr result (IsLack (FindsFull 0 old new arena) (space.refuses arena (rounded n)))) (λ refused. (result ≡ Err refused) × (new.place ≡ old.place))
 
--- the block is gone, its record was vacated, and as many bytes as the answer were given back; or place and tallies are as they were
-pub record Frees (r : ℕ) (old new : PlaceOf) (told tallies : List TallyOf) (result : Result ℕ Refused) : Type 0 where
-  pub freed : OnOk result (new ≡ with_freed r old)
-  pub back : IfOk result (λ n. tallies ≡ gave (r / MAX_RECORDS) n told)
-  pub refused : OnErr result ((new ≡ old) × (tallies ≡ told))
+-- ---- split
 
--- the block is cut after its first k bytes; or a record was claimed in vain, if any. The tallies are as they were
-pub record Splits (r k : ℕ) (old new : PlaceOf) (told tallies : List TallyOf) (result : Result (Block × Block) Refused) : Type 0 where
-  pub cut : IfOk result (λ ends. IsSplit old new r k ends.0 ends.1)
-  pub refused : OnErr result (LetsGo (λ claims. length claims ≤ 1) (r / MAX_RECORDS) old new)
-  pub unmoved : tallies ≡ told
+-- the block is cut after its first k bytes; or a record was claimed in vain, if any, and none where a test refused
+pub record Splits (status : Status) (r k : ℕ) (old new : PlaceSeen) (result : Result (Block × Block) Refused) : Type 0 where
+  pub cut : IfOk result (λ ends. IsSplit old.place new.place r k ends.0 ends.1)
+  pub refused : OnErr result (LetsGo (λ claims. length claims ≤ 1) (r / MAX_RECORDS) old.place new.place)
+  pub why : MatchOption (first_refusal (start status ++ split_tests (found old.place r) k))
+      (IfErr result (IsUncut (FindsFull 0 old new (r / MAX_RECORDS)))) (λ refused. (result ≡ Err refused) × (new.place ≡ old.place))
 
--- the bytes of the block from `at` on are there now, and the place is as it was
-pub record Reads (r at : ℕ) (old new : PlaceSeen) (before after : List ℕ) (result : Result (Unit {0}) Refused) : Type 0 where
+-- ---- read, write
+
+-- the bytes shown are those of the block from `at` on, and the place is as it was
+pub record Reads (status : Status) (r at : ℕ) (shown : List ℕ) (old new : PlaceSeen) (result : Result (Unit {0}) Refused) : Type 0 where
   pub same : Stays old new
-  pub read : Tested (start old.place.state ++ range_tests (found old.place r) at (length before)) result
-      (λ _. (x : Item) × (value_at r old.place.blocks ≡ Some x) × (after ≡ part at (length before) x.content))
-  pub refused : OnErr result (after ≡ before)
+  pub read : Tested (start status ++ range_tests (found old.place r) at (length shown)) result
+      (λ _. (x : Item) × (value_at r old.place.blocks ≡ Some x) × (shown ≡ part at (length shown) x.content))
 
 -- these bytes stand in the block from `at` on
-pub record Writes (r at : ℕ) (xs : List ℕ) (old new : PlaceSeen) (result : Result (Unit {0}) Refused) : Type 0 where
+pub record Writes (status : Status) (r at : ℕ) (xs : List ℕ) (old new : PlaceSeen) (result : Result (Unit {0}) Refused) : Type 0 where
   pub place : IsSamePlace old new
-  pub written : Tested (start old.place.state ++ range_tests (found old.place r) at (length xs)) result
+  pub written : Tested (start status ++ range_tests (found old.place r) at (length xs)) result
       (λ _. (x : Item) × (value_at r old.place.blocks ≡ Some x) × (new.place ≡ with_blocks old.place (put r (record x { content = patched at xs x.content }) old.place.blocks)))
   pub refused : OnErr result (new.place ≡ old.place)
 
@@ -68,15 +87,37 @@ abbrev pub HasBytes : ℕ → PlaceOf → List ℕ → Type 0
 HasBytes r p xs = value_at r p.blocks ≡ Some (made_of xs)
 
 -- one call of the function had the bytes of the block, all of them, and the place is as it was; or it is refused as a read of no bytes is
-pub record Lends {F A : Type 0} (g : Mut F (Bor (List ℕ) × Unit {0}) A) (r : ℕ) (f f' : F) (old new : PlaceSeen) (result : Result A Refused) : Type 0 where
+pub record Lends {F A : Type 0} (g : Mut F (Bor (List ℕ) × Unit {0}) A) (status : Status) (r : ℕ) (f f' : F) (old new : PlaceSeen) (result : Result A Refused) : Type 0 where
   pub same : Stays old new
-  pub lent : Tested (start old.place.state ++ range_tests (found old.place r) 0 0) result (λ a. (shown : List ℕ) × HasBytes r old.place shown × CalledAt g f shown a f')
+  pub lent : Tested (start status ++ range_tests (found old.place r) 0 0) result (λ a. (shown : List ℕ) × HasBytes r old.place shown × CalledAt g f shown a f')
   pub uncalled : OnErr result (f' ≡ f)
 
 -- the same of a function that may change them: as many as it left stand in the block in their place
-pub record LendsMut {F A : Type 0} (g : Mut F (MutBor (List ℕ) × Unit {0}) (A × (MutBor (List ℕ) × Unit {0}))) (r : ℕ) (f f' : F) (old new : PlaceSeen) (result : Result A Refused) : Type 0 where
+pub record LendsMut {F A : Type 0} (g : Mut F (MutBor (List ℕ) × Unit {0}) (A × (MutBor (List ℕ) × Unit {0}))) (status : Status) (r : ℕ) (f f' : F) (old new : PlaceSeen)
+    (result : Result A Refused) : Type 0 where
   pub place : IsSamePlace old new
-  pub lent : Tested (start old.place.state ++ range_tests (found old.place r) 0 0) result (λ a. (shown : List ℕ) × (left : List ℕ) × HasBytes r old.place shown
+  pub lent : Tested (start status ++ range_tests (found old.place r) 0 0) result (λ a. (shown : List ℕ) × (left : List ℕ) × HasBytes r old.place shown
       × CalledAtMut g f shown a f' left × (length left ≡ length shown) × (new.place ≡ with_blocks old.place (put r (made_of left) old.place.blocks)))
   pub refused : OnErr result (new.place ≡ old.place)
   pub uncalled : OnErr result (f' ≡ f)
+
+-- ---- free
+
+-- the block is gone, its record was vacated, and its length is the answer
+pub record FreesBlock (status : Status) (r : ℕ) (old new : PlaceSeen) (result : Result ℕ Refused) : Type 0 where
+  pub freed : Tested (start status ++ data_tests (found old.place r)) result (λ n. (n ≡ len_in (found old.place r)) × (new.place ≡ with_freed r old.place))
+  pub refused : OnErr result (new.place ≡ old.place)
+
+-- ---- close, stop
+
+-- nothing changed, and nothing came back
+abbrev pub IsUntouched : PlaceSeen → PlaceSeen → ℕ → Type 0
+IsUntouched old new back = (new.place ≡ old.place) × (back ≡ 0)
+
+-- the endpoint is gone, and what was on its way to it; so many bytes came back
+abbrev pub Closes : Status → ℕ → ℕ → PlaceSeen → PlaceSeen → Result ℕ Refused → Type 0
+Closes status e back old new result = RefusedOr (start status ++ end_tests (found old.place e)) result (IsUntouched old new back) (IsClosed e old new back result)
+
+-- the whole list is swept, as far as the budget goes; so many bytes came back
+abbrev pub Stops : Status → ℕ → ℕ → PlaceSeen → PlaceSeen → Result ℕ Refused → Type 0
+Stops status budget back old new result = RefusedOr (stop status) result (IsUntouched old new back) (IsStopped budget old new back result)

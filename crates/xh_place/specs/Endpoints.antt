@@ -1,11 +1,12 @@
 -- What an endpoint of a place does, by what its channel's contracts see of it before and after.
-use Rattle.std.specs.Prelude.{◌≡◌, ◌≢◌, ◌⊎◌, ℕ, suc, ◌+◌, ◌*◌, ◌≤◌, true, false, List, [], ◌∷◌, ◌++◌, length, map, Result, Ok, Err, OnErr}
+use Rattle.std.specs.Prelude.{◌≡◌, ◌≢◌, ◌⊎◌, ℕ, suc, ◌+◌, ◌*◌, ◌≤◌, false, is_some, List, [], ◌∷◌, ◌++◌, length, map, Result, Ok, Err, OnErr}
 use Rattle.arrayvec.specs.ArrayVec.{ArrayVec}
 use Rattle.xh_channel.specs.declared.message.Message.{Message}
 use Rattle.xh_channel.specs.declared.refused.Refused.{Refused}
 use Rattle.xh_channel.specs.declared.unsent.Unsent.{Unsent}
 use Rattle.xh_channel.specs.Numbers.{message}
-use Rattle.xh_channel.specs.Queues.{IsSameEnd, KeepsItsMessages, Posted, PutsAs, ShutsAs, TakesAs, Unpushed}
+use Rattle.xh_channel.specs.Calls.{EndpointPuts, EndpointShuts, EndpointTakes, OnlySaw, Unpushed}
+use Rattle.xh_channel.specs.Endpoint.{EndpointOf}
 use Rattle.xh_place.specs.Bodies.{Content, bytes, endpoint, toward}
 use Rattle.xh_place.specs.declared.got.Got.{Got}
 use Rattle.xh_place.specs.declared.got.Got.TheVariants.{Here, Missing}
@@ -13,30 +14,24 @@ use Rattle.xh_place.specs.Places.{Item}
 use Rattle.xh_place.specs.Seen.{Sight, bears, brings}
 
 -- it puts the blocks with the tag: what the channel's put says
-pub record Puts (tag : ℕ) (blocks : ArrayVec ℕ) (result : Result ℕ Unsent) (old new : Posted) : Type 0 where
-  pub answer : PutsAs old new tag blocks result
-  pub kept : OnErr result (Unpushed old new (message (suc old.counts.put) tag blocks))
-  pub same : IsSameEnd old new
+pub record Puts (tag : ℕ) (blocks : ArrayVec ℕ) (result : Result ℕ Unsent) (old new : EndpointOf) : Type 0 where
+  pub answer : EndpointPuts old new tag blocks result
+  pub kept : OnErr result (Unpushed old new (message (suc (length old.sent)) tag blocks))
 
 -- it takes: what the channel's take says
-pub record Takes (result : Result Message Refused) (old new : Posted) : Type 0 where
-  pub answer : TakesAs old new result
-  pub kept : OnErr result (KeepsItsMessages old new)
-  pub same : IsSameEnd old new
-
--- it shuts: what the channel's shut says
-abbrev pub Shuts : Posted → Posted → Type 0
-Shuts old new = ShutsAs old new
+pub record Takes (result : Result Message Refused) (old new : EndpointOf) : Type 0 where
+  pub answer : EndpointTakes old new result
+  pub kept : OnErr result (OnlySaw old new)
 
 -- it takes these messages, one after another
-abbrev pub TakesEach : List Message → Posted → Posted → Type 0
+abbrev pub TakesEach : List Message → EndpointOf → EndpointOf → Type 0
 TakesEach [] old new = new ≡ old
-TakesEach (m ∷ ms) old new = (mid : Posted) × Takes (Ok m) old mid × TakesEach ms mid new
+TakesEach (m ∷ ms) old new = (mid : EndpointOf) × Takes (Ok m) old mid × TakesEach ms mid new
 
 -- it takes these, and then a take finds none; or there are 2^64 - 1 of them, which isn't so on a channel with a contract
-abbrev pub IsDrained : List Message → Posted → Posted → Type 0
-IsDrained ms old new = (last : Posted) × TakesEach ms old last
-    × (((none : Refused) × Takes (Err none) last new) ⊎ ((18446744073709551615 ≤ length ms) × (new ≡ last) × (last.has_contract ≡ false)))
+abbrev pub IsDrained : List Message → EndpointOf → EndpointOf → Type 0
+IsDrained ms old new = (last : EndpointOf) × TakesEach ms old last
+    × (((none : Refused) × Takes (Err none) last new) ⊎ ((18446744073709551615 ≤ length ms) × (new ≡ last) × (is_some last.contract ≡ false)))
 
 -- ---- the blocks of messages
 
@@ -66,9 +61,7 @@ module _ (saw : ℕ → Sight → Type 0) where
   abbrev pub AreUnpacked : ℕ → List Message → List (ℕ × Item) → Type 0
   AreUnpacked d ms came = (gots : List Got) × (map record_of gots ≡ blocks_of ms) × AreGot d came gots
 
-  -- Bytes, with which nothing came, or an endpoint that was shut and then took all that it found, and the blocks of its messages came.
-  -- With a contract it is drained then: it took all that its peer ever puts, and nothing waits for it from then on
+  -- bytes, with which nothing came, or an endpoint that was shut and then took all that it found, and the blocks of its messages came
   abbrev pub EndsWith : Content → List (ℕ × Item) → Type 0
   EndsWith (bytes xs) came = came ≡ []
-  EndsWith (endpoint e) came = (ms : List Message) × (shut : Posted) × (last : Posted) × Shuts e shut × IsDrained ms shut last × AreUnpacked (toward (endpoint e)) ms came
-      × (e.has_contract ≡ true → last.drained ≡ true)
+  EndsWith (endpoint e) came = (ms : List Message) × (shut : EndpointOf) × (last : EndpointOf) × EndpointShuts e shut × IsDrained ms shut last × AreUnpacked (toward (endpoint e)) ms came

@@ -1,7 +1,7 @@
 -- Endpoints of a place: what opening and handing over do.
 use Rattle.std.specs.Prelude.{◌≡◌, ◌≢◌, ◌⊎◌, ℕ, ◌*◌, ◌/◌, ◌≤◌, ◌==◌, ◌&&◌, Bool, true, false, cond, List, [], ◌∷◌, ◌++◌, length, Option}
 use Rattle.std.specs.Prelude.{Some, None, Result, Err, MatchOption, MatchResult, IfErr, IfOk, OnOk}
-use Rattle.xh_channel.specs.Queues.{Posted}
+use Rattle.xh_channel.specs.Endpoint.{EndpointOf}
 use Rattle.xh_core.specs.declared.block.Block.{Block}
 use Rattle.xh_core.specs.declared.refused.Refused.{Refused}
 use Rattle.xh_core.specs.declared.refused.Refused.TheVariants.{Ended}
@@ -35,12 +35,12 @@ away_in None = DIRECTIONS
 away_in (Some x) = away x.content
 
 -- an endpoint's block
-abbrev pub end_block : Posted → Item
+abbrev pub end_block : EndpointOf → Item
 end_block p = record { len = END_BYTES; content = endpoint p }
 
 -- from p to q, which else are the same place, the endpoint of the record e became another, as `does` says
-abbrev pub EndDoes : ℕ → PlaceOf → PlaceOf → (Posted → Posted → Type 0) → Type 0
-EndDoes e p q does = (before after : Posted) × (value_at e p.blocks ≡ Some (end_block before)) × (q ≡ with_blocks p (put e (end_block after) p.blocks)) × does before after
+abbrev pub EndDoes : ℕ → PlaceOf → PlaceOf → (EndpointOf → EndpointOf → Type 0) → Type 0
+EndDoes e p q does = (before after : EndpointOf) × (value_at e p.blocks ≡ Some (end_block before)) × (q ≡ with_blocks p (put e (end_block after) p.blocks)) × does before after
 
 -- ---- open
 
@@ -49,18 +49,18 @@ abbrev pub IsEndIn : ℕ → Block → Type 0
 IsEndIn arena b = (b.len ≡ END_BYTES) × (b.rec / MAX_RECORDS ≡ arena)
 
 -- both came to the end of the list, once their records were claimed in this order
-abbrev pub with_both : Posted → Posted → Block × Block → PlaceOf → PlaceOf
+abbrev pub with_both : EndpointOf → EndpointOf → Block × Block → PlaceOf → PlaceOf
 with_both low high ends p = with_events (with_blocks p (p.blocks ++ (ends.0.rec, end_block low) ∷ (ends.1.rec, end_block high) ∷ []))
     (Claim p.process ends.0.rec ∷ Claim p.process ends.1.rec ∷ [])
 
 -- both are blocks of the list, and their records exist
-abbrev pub AreListed : Posted → Posted → PlaceOf → Block × Block → Type 0
+abbrev pub AreListed : EndpointOf → EndpointOf → PlaceOf → Block × Block → Type 0
 AreListed low high p ends = (value_at ends.0.rec p.blocks ≡ Some (end_block low)) × IsRecord p.shape ends.0.rec
     × (value_at ends.1.rec p.blocks ≡ Some (end_block high)) × IsRecord p.shape ends.1.rec
 
 -- Both ends are the last blocks of the list, side 0 first, each of 32 bytes of the arena, and their records were claimed in this order; or records were claimed in vain, if any, and the ends are
 -- handed back.
-abbrev pub Opens : ℕ → Posted → Posted → PlaceOf → PlaceOf → List TallyOf → List TallyOf → Result (Block × Block) Unopened → Type 0
+abbrev pub Opens : ℕ → EndpointOf → EndpointOf → PlaceOf → PlaceOf → List TallyOf → List TallyOf → Result (Block × Block) Unopened → Type 0
 Opens arena low high old new tallies left result = MatchResult result
     (λ ends. (new ≡ with_both low high ends old) × IsEndIn arena ends.0 × IsEndIn arena ends.1
     × (left ≡ took arena (2 * END_BYTES) tallies) × AreListed low high new ends)

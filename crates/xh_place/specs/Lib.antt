@@ -5,11 +5,10 @@ pub mod Events
 pub mod Places
 pub mod Seen
 pub mod Desk
-pub mod Starts
 pub mod Tallies
 pub mod Splitting
-pub mod Calls
 pub mod Ending
 pub mod Ends
+pub mod Calls
 pub mod Messages
 pub mod inner

@@ -1,21 +1,25 @@
--- Give and take: what they do to the place.
-use Rattle.std.specs.Prelude.{◌≡◌, ℕ, Bool, List, [], ◌∷◌, ◌++◌, Option, Some, None, is_some, map, Result, Ok, Err, MatchResult, OnErr}
+-- Give and take: what they do to the place, and why they are refused. `status` says how far the process that calls has come.
+use Rattle.std.specs.Prelude.{◌≡◌, ℕ, Bool, List, [], ◌∷◌, ◌++◌, Option, Some, None, is_some, length, map, Result, Ok, Err, MatchResult, OnErr}
 use Rattle.arrayvec.specs.ArrayVec.{ArrayVec}
 use Rattle.xh_channel.specs.declared.message.Message.{Message}
 use Rattle.xh_channel.specs.declared.refused.Refused.{Refused as NoMessage}
 use Rattle.xh_channel.specs.declared.unsent.Unsent.{Unsent}
 use Rattle.xh_channel.specs.declared.unsent.Unsent.TheVariants as unsent
 use Rattle.xh_channel.specs.Refusals.{same_refusal}
+use Rattle.xh_core.specs.Calls.{end_tests, given_tests, start}
 use Rattle.xh_core.specs.declared.refused.Refused.{Refused}
 use Rattle.xh_core.specs.declared.refused.Refused.TheVariants.{Protocol, PeerClosed, Full}
+use Rattle.xh_core.specs.declared.status.Status.{Status}
+use Rattle.xh_model.specs.declared.limits.TheConstants.{MAX_MESSAGES}
 use Rattle.xh_model.specs.Keyed.{Among, keys, put, value_at, without}
+use Rattle.xh_place.specs.Bodies.{Content, bytes, endpoint}
 use Rattle.xh_place.specs.Endpoints.{AreGot, Puts, record_of}
 use Rattle.xh_place.specs.Endpoints.{Takes}
-use Rattle.xh_place.specs.Ends.{EndDoes, away_in, toward_in}
+use Rattle.xh_place.specs.Ends.{EndDoes, RefusedOr, away_in, toward_in}
 use Rattle.xh_place.specs.Events.{accepted_on, passed_on}
 use Rattle.xh_place.specs.declared.got.Taken.{Taken}
-use Rattle.xh_place.specs.Places.{Item, PlaceOf, picked, with_more}
-use Rattle.xh_place.specs.Seen.{HasLeft, IsSeen, PlaceSeen, Sight, brings}
+use Rattle.xh_place.specs.Places.{Item, PlaceOf, found, picked, with_more}
+use Rattle.xh_place.specs.Seen.{HasLeft, IsSeen, PlaceSeen, Sight, Arrived}
 
 -- ---- give
 
@@ -64,10 +68,25 @@ pub record IsSent (e tag : ℕ) (given : List ℕ) (old new : PlaceSeen) (result
   pub all : blocks.items ≡ given
   pub made : EndDoes e old.place mid (Puts tag blocks answered)
   pub moved : GoesOrReturns (away_in (value_at e old.place.blocks)) given back mid new.place
-  pub arrived : (r : ℕ) (x : Item) → Among back (r, x) → IsSeen old new r (brings (away_in (value_at e old.place.blocks)) x)
+  pub arrived : (r : ℕ) (x : Item) → Among back (r, x)
+      → Arrived old.place.process old.front new.front r (away_in (value_at e old.place.blocks)) x
   pub lost : OnErr answered ((r : ℕ) → Among given r → (Among (keys back) r → ⊥)
       → HasLeft old.place.process old.place.shape old.front new.front (away_in (value_at e old.place.blocks)) r)
   pub answer : Answers (keys back) answered result
+
+-- the endpoint put the blocks with the tag; they were passed on the direction away from it, and left the list, or came back from it, and are in their old places
+abbrev pub Gives : Status → ℕ → ℕ → List ℕ → PlaceSeen → PlaceSeen → Result ℕ Refused → Type 0
+Gives status e tag given old new result = RefusedOr (start status ++ end_tests (found old.place e) ++ given_tests (is_listed old.place.blocks) e given) result
+    (new.place ≡ old.place) (IsSent e tag given old new result)
+
+-- its endpoint, where it is one, has sent its last message: its direction carried all that one ever carries
+abbrev pub HasSentAll : Content → Type 0
+HasSentAll (bytes xs) = ⊥
+HasSentAll (endpoint end) = length end.sent ≡ MAX_MESSAGES
+
+-- the endpoint has sent its last message
+abbrev pub IsSpent : ℕ → PlaceOf → Type 0
+IsSpent e p = (x : Item) × (value_at e p.blocks ≡ Some x) × HasSentAll x.content
 
 -- ---- take
 
@@ -88,3 +107,8 @@ IsTaken e old new taken = (mid : PlaceOf) × (m : Message) × EndDoes e old.plac
 -- the endpoint took nothing, and the answer is that of the take
 abbrev pub IsUntaken : ℕ → PlaceOf → PlaceOf → Refused → Type 0
 IsUntaken e old new refused = (none : NoMessage) × EndDoes e old new (Takes (Err none)) × (refused ≡ same_refusal none)
+
+-- the endpoint took a message, and its blocks are the last of the list; or it took none, and the answer is that of its take
+abbrev pub TakesAt : Status → ℕ → PlaceSeen → PlaceSeen → Result Taken Refused → Type 0
+TakesAt status e old new result = RefusedOr (start status ++ end_tests (found old.place e)) result (new.place ≡ old.place)
+    (MatchResult result (IsTaken e old new) (IsUntaken e old.place new.place))

@@ -8,7 +8,7 @@ use Rattle.xh_core.specs.declared.status.Status.{Status}
 use Rattle.xh_core.specs.declared.status.Status.TheVariants.{Vacant, Running, Ending, Ended}
 use Rattle.xh_core.specs.Glances.{line_of}
 use Rattle.xh_model.specs.declared.event.Event.{Event}
-use Rattle.xh_model.specs.declared.event.Event.TheVariants.{Vacate}
+use Rattle.xh_model.specs.declared.event.Event.TheVariants.{Pass, Vacate}
 use Rattle.xh_model.specs.declared.limits.TheConstants.{END_BYTES, MAX_ARENAS, MAX_BYTES, MAX_RECORDS, PLACES}
 use Rattle.xh_records.specs.declared.shape.Shape.{Shape}
 use Rattle.xh_records.specs.Showing.{IsLotOf, IsFull}
@@ -17,7 +17,7 @@ use Rattle.xh_records.specs.Seats.{RecordsOf, Held, IsRecord}
 use Rattle.xh_place.specs.declared.body.Body.{Body}
 use Rattle.xh_core.specs.declared.header.Header.{Header}
 use Rattle.xh_place.specs.Bodies.{Content, bytes, endpoint, content_of, kind_of, fits_in}
-use Rattle.xh_place.specs.Events.{accepted_on, let_go, passed_on}
+use Rattle.xh_place.specs.Events.{accepted_on, let_go}
 
 -- a block: its length, and what it carries
 pub record Item : Type 0 where
@@ -61,7 +61,7 @@ with_more d ys p = record p { blocks = p.blocks ++ ys; events = p.events ++ acce
 
 -- the block of a record left on the direction
 abbrev pub with_less : ℕ → ℕ → PlaceOf → PlaceOf
-with_less d r p = record p { blocks = without r p.blocks; events = p.events ++ passed_on p.process d (r ∷ []); moved = p.moved ++ map (λ x. x.1) (alone r (value_at r p.blocks)) }
+with_less d r p = record p { blocks = without r p.blocks; events = p.events ++ Pass p.process r d ∷ []; moved = p.moved ++ map (λ x. x.1) (alone r (value_at r p.blocks)) }
 
 -- the block of a record is gone, and the record is free
 abbrev pub with_freed : ℕ → PlaceOf → PlaceOf

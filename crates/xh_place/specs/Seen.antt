@@ -5,12 +5,11 @@ use Rattle.xh_model.specs.declared.event.Event.TheVariants.{Accept, Pass}
 use Rattle.xh_model.specs.declared.event.Holder.TheVariants.{Process}
 use Rattle.xh_model.specs.declared.limits.TheConstants.{MAX_RECORDS}
 use Rattle.xh_model.specs.Keyed.{Among, keys}
-use Rattle.xh_model.specs.Slots.{index_of}
 use Rattle.xh_model.specs.Words.{word_of}
 use Rattle.xh_records.specs.declared.shape.Shape.{Shape}
-use Rattle.xh_records.specs.Deeds.{Deed, IsLeft, events}
-use Rattle.xh_records.specs.History.{StartsWith, TellsWord}
-use Rattle.xh_records.specs.Seats.{IsRecord}
+use Rattle.xh_records.specs.Deeds.{Deed, IsLeft}
+use Rattle.xh_records.specs.History.{StartsWith}
+use Rattle.xh_records.specs.Seats.{IsRecord, SawAt}
 use Rattle.xh_place.specs.declared.body.Body.{Body}
 use Rattle.xh_place.specs.Places.{Item, LetsGo, PlaceOf, item_of}
 
@@ -33,10 +32,6 @@ IsSamePlace old new = (new.place.table ≡ old.place.table) × (new.place.shape 
 
 -- ---- looks. Of two fronts the first is a beginning of the second
 
--- from the one front to the other there was a step at which the word of the record r was this: that of the record's holder then
-abbrev pub SawAt : Shape → List (Deed Body) → List (Deed Body) → ℕ → ℕ → Type 0
-SawAt s from to r word = (front : List (Deed Body)) × StartsWith front from × StartsWith to front × TellsWord s.records (events front) (index_of s.records r) word
-
 -- the place saw this word at the record r at a step of this call
 abbrev pub SawWord : PlaceSeen → PlaceSeen → ℕ → ℕ → Type 0
 SawWord old new r word = SawAt old.place.shape old.front new.front r word
@@ -52,7 +47,7 @@ pub data Sight : Type 0 where
 
 -- The place saw this at the record r in this call. Where there is no such record, its word is 0, as of a free one.
 abbrev pub IsSeen : PlaceSeen → PlaceSeen → ℕ → Sight → Type 0
-IsSeen old new r (bears word) = SawWord old new r word ⊎ ((IsRecord old.place.shape r → ⊥) × (word ≡ 0))
+IsSeen old new r (bears word) = SawAt old.place.shape old.front new.front r word ⊎ ((IsRecord old.place.shape r → ⊥) × (word ≡ 0))
 IsSeen old new r (brings d x) = Arrived old.place.process old.front new.front r d x
 
 -- `saw r word` says that this word was seen at the record r. Here it was another one than "in flight on the direction".

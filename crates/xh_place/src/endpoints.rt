@@ -5,7 +5,8 @@ ghost use Rattle.xh_model.specs.Keyed.{value_at, put};
 ghost use Rattle.xh_core.specs.declared.header.Kind.TheVariants as kind;
 ghost use Rattle.xh_model.specs.declared.limits.TheConstants.{DIRECTIONS};
 ghost use Rattle.xh_place.specs.Bodies.{IsEndAt, content_of, fits_in, kind_of, toward};
-ghost use Rattle.xh_place.specs.Endpoints.{Puts, Shuts, Takes};
+ghost use Rattle.xh_channel.specs.Calls.{EndpointShuts};
+ghost use Rattle.xh_place.specs.Endpoints.{Puts, Takes};
 ghost use Rattle.xh_place.specs.declared.body.Body.{Body};
 ghost use Rattle.xh_place.specs.inner.Lots.{IsEnd, LotDoes};
 ghost use Rattle.xh_records.specs.Seats.{IsSeatOf, IsRecord, with_lots};
@@ -120,7 +121,7 @@ pub(crate) fn take_at<R: Wait, V, G>(
 pub(crate) fn shut_at<R: Wait, V, G>(desk: &Desk<'_, R, V, G>, seat: &mut Seat<Body>, e: u16)
     requires own { IsSeatOf desk.now.records.now seat.old × IsRecord desk.now.records.now.shape e }
     requires held { (l : LotOf Body) × (value_at e seat.old.lots ≡ Some l) × IsLotOf seat.old.shape e l × IsEnd l }
-    ensures { (l : LotOf Body) → value_at e seat.old.lots ≡ Some l → (m : LotOf Body) × LotDoes Shuts l m × (seat.new ≡ with_lots seat.old (put e m seat.old.lots)) }
+    ensures { (l : LotOf Body) → value_at e seat.old.lots ≡ Some l → (m : LotOf Body) × LotDoes EndpointShuts l m × (seat.new ≡ with_lots seat.old (put e m seat.old.lots)) }
 {
     let (rt, channels) = (desk.rt, desk.channels);
     desk.records.with_lot(
@@ -128,7 +129,7 @@ pub(crate) fn shut_at<R: Wait, V, G>(desk: &Desk<'_, R, V, G>, seat: &mut Seat<B
         e,
         &mut |lot: &mut Lot<Body>|
             requires { IsEnd lot.old }
-            ensures { LotDoes Shuts lot.old lot.new }
+            ensures { LotDoes EndpointShuts lot.old lot.new }
         {
             let Body::End(end) = lot.body_mut() else {
                 unreachable!()

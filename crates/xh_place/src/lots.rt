@@ -7,14 +7,14 @@ ghost use Rattle.xh_model.specs.declared.limits.TheConstants.{DIRECTIONS, MAX_BY
 ghost use Rattle.xh_place.specs.Bodies.{bytes, front, content_of, fits_in, kind_of};
 ghost use Rattle.xh_place.specs.Desk.{IsSameDesk, IsSeatAt};
 ghost use Rattle.xh_place.specs.Places.{IsBlock, item_of, header_of};
-ghost use Rattle.xh_place.specs.Seen.{Arrived, SawAt};
+ghost use Rattle.xh_place.specs.Seen.{Arrived};
 ghost use Rattle.xh_place.specs.Splitting.{IsUncut};
 ghost use Rattle.xh_place.specs.Tallies.{gave, took};
 ghost use Rattle.xh_place.specs.Vaults.{IsNoBlock, IsRefusedAt};
 ghost use Rattle.xh_place.specs.declared.body.Body.{Body};
 ghost use Rattle.xh_place.specs.inner.Lots.{Came, HasNow, IsCut, IsData, SeatFull, SeatLetsGo, carrying};
 ghost use Rattle.xh_records.specs.History.{StartsWith};
-ghost use Rattle.xh_records.specs.Seats.{IsSeatOf, IsRecord, did, with_lots};
+ghost use Rattle.xh_records.specs.Seats.{IsSeatOf, IsRecord, SawAt, did, with_lots};
 ghost use Rattle.xh_records.specs.Showing.{IsLotOf, IsFull};
 ghost use Rattle.xh_model.specs.declared.event.Event.TheVariants.{Accept, Claim, Pass, Vacate};
 ghost use Rattle.xh_place.specs.inner.Answers.{reason_of};
@@ -141,7 +141,6 @@ pub(crate) fn make_block<R, V: Vaults, G: Gate>(
 ) -> Result<u16, Reason>
     requires at { IsSeatAt V.names desk.old seat.old }
     requires arena { arena < length seat.old.shape.names }
-    requires exist { (q : ℕ) → Among (keys seat.old.lots) q → IsRecord seat.old.shape q }
     requires size { (0 < n) × (n % UNIT ≡ 0) × (n ≤ V.extent desk.old.vaults.now) × (n ≤ MAX_BYTES) }
     ensures same { IsSameDesk V.names V.extent desk.old desk.new }
     ensures arena { IfOk result (λ r. r / MAX_RECORDS ≡ arena) }
@@ -327,7 +326,6 @@ pub(crate) fn cut_block<R, V: Vaults, G: Gate>(
 ) -> Result<u16, Reason>
     requires own { IsSeatOf desk.old.records.now seat.old }
     requires names { V.names desk.old.vaults.now ≡ seat.old.shape.names }
-    requires exist { (q : ℕ) → Among (keys seat.old.lots) q → IsRecord seat.old.shape q }
     requires held { (l : LotOf Body) × (value_at r seat.old.lots ≡ Some l) × IsBlock seat.old.shape r l × IsData l × IsGoodCut k l.len }
     ensures same { IsSameDesk V.names V.extent desk.old desk.new }
     ensures tallies { desk.new.tallies.now ≡ desk.old.tallies.now }

@@ -1,7 +1,7 @@
 // What opening does to the seat: two records get 32 bytes each, and the two ends of a channel.
 ghost use Rattle.std.specs.Prelude.{◌≡◌, ◌≢◌, ℕ, ◌∷◌, [], ◌+◌, ◌*◌, ◌/◌, ◌<◌, ◌≤◌, length, Some, IfOk, IfErr, OnOk, OnErr, MatchOption, slice_get};
 ghost use Rattle.xh_arena.specs.Views.{LotOf};
-ghost use Rattle.xh_channel.specs.Queues.{Posted};
+ghost use Rattle.xh_channel.specs.Endpoint.{EndpointOf};
 ghost use Rattle.xh_model.specs.Keyed.{Among, keys, put, value_at, without};
 ghost use Rattle.xh_model.specs.declared.event.Event.TheVariants.{Vacate};
 ghost use Rattle.xh_model.specs.declared.limits.TheConstants.{END_BYTES, MAX_RECORDS};
@@ -94,7 +94,6 @@ fn claim_two<G: Gate>(
 ) -> Option<(u16, u16)>
     requires own { IsSeatOf records.now seat.old }
     requires arena { arena < length seat.old.shape.names }
-    requires exist { (q : ℕ) → Among (keys seat.old.lots) q → IsRecord seat.old.shape q }
     ensures seen { StartsWith seat.new.front seat.old.front }
     ensures claimed { MatchOption result (SeatFull 1 seat.old seat.new arena) (λ r. (l m : LotOf Body) × AreClaimed arena seat.old seat.new r.0 r.1 l m) }
 {
@@ -123,7 +122,7 @@ fn vacate_two(records: &Records<Body>, seat: &mut Seat<Body>, r: u16, t: u16)
 
 // The endpoint that a body is.
 fn end_in(body: Body) -> Endpoint
-    requires { (p : Posted) × (body ≡ End p) }
+    requires { (p : EndpointOf) × (body ≡ End p) }
     ensures { body ≡ End result }
 {
     match body {
@@ -178,7 +177,6 @@ pub(crate) fn make_ends<R, V: Vaults, G: Gate>(
 ) -> Result<(u16, u16), Unopened>
     requires at { IsSeatAt V.names desk.old seat.old }
     requires arena { arena < length seat.old.shape.names }
-    requires exist { (q : ℕ) → Among (keys seat.old.lots) q → IsRecord seat.old.shape q }
     ensures same { IsSameDesk V.names V.extent desk.old desk.new }
     ensures made { IfOk result (λ r. (l m : LotOf Body) × AreMade arena seat.old seat.new r.0 r.1 l m × (item_of l ≡ end_block low) × (item_of m ≡ end_block high)) }
     ensures taken { OnOk result (desk.new.tallies.now ≡ took arena (2 * END_BYTES) desk.old.tallies.now) }

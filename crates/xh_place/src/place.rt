@@ -1,13 +1,11 @@
 //! A process's place.
-ghost use Rattle.std.specs.Prelude.{map, ◌≡◌, ◌⊎◌, ◌+◌, ◌*◌, ◌<◌, ◌≤◌, [], length, Some, IfOk, IfErr, false, true};
-ghost use Rattle.xh_core.specs.Refusing.{Tested};
+ghost use Rattle.std.specs.Prelude.{map, ◌≡◌, ◌⊎◌, ◌+◌, ◌*◌, ◌<◌, ◌≤◌, [], length, Some, IfOk, IfErr, true};
 ghost use Rattle.xh_core.specs.Statuses.{is_over};
 ghost use Rattle.xh_model.specs.Keyed.{keys, value_at};
 ghost use Rattle.xh_model.specs.declared.limits.TheConstants.{GENERATIONS, MAX_ARENAS, MAX_RECORDS};
 ghost use Rattle.xh_place.specs.Messages.{is_listed};
 ghost use Rattle.xh_place.specs.Places.{AreBlocks, IsPlaceOf, Item, Lists, found, line, line_in, started, total_of, item_of};
 ghost use Rattle.xh_place.specs.Seen.{Stays};
-ghost use Rattle.xh_place.specs.Starts.{start, stop};
 ghost use Rattle.xh_model.specs.Words.{generation_of};
 ghost use Rattle.xh_core.specs.declared.status.Status.TheVariants as status;
 
@@ -21,20 +19,19 @@ use crate::lots::{holds, look};
 use std::alloc::Global;
 use std::marker::Model;
 use xh_core::{Glance, Header, PlaceLine, Refused, Status};
-use xh_records::{Records, Seat};
+use xh_records::{Order, Records, Seat};
 
 /// A place: the seat that holds the lots of its blocks, the numbers of their records in the order
 /// gained, their total and how far its process has come.
 #[derive(Drop)]
 pub struct Place {
     seat: Seat<Body>,
-    list: Vec<u16>,
+    list: Order,
     total: u64,
     state: Status,
 }
 
 impl Model for Place {
-    ghost use Rattle.std.specs.Prelude.{vec_capacity};
     ghost use Rattle.std.specs.Prelude.{map};
     ghost use Rattle.xh_place.specs.Places.{IsPlace, item_of, shown};
     ghost use Rattle.xh_place.specs.Seen.{PlaceSeen};
@@ -54,27 +51,7 @@ impl Model for Place {
       front = p.seat.front;
     } };
 
-    ghost invariant = { λ p. IsPlace p.seat (shown p.seat.lots p.list.items) (vec_capacity p.list) p.total p.state };
-}
-
-// The first test of each call.
-fn check_start(state: Status) -> Result<(), Refused>
-    ensures { Tested (start state) result (λ _. state ≡ status.Running) }
-{
-    match state {
-        Status::Running => Ok(()),
-        Status::Vacant | Status::Ending | Status::Ended => Err(Refused::Ended),
-    }
-}
-
-// The first test of an end.
-fn check_stop(state: Status) -> Result<(), Refused>
-    ensures { Tested (stop state) result (λ _. is_over state ≡ false) }
-{
-    match state {
-        Status::Running | Status::Ending => Ok(()),
-        Status::Vacant | Status::Ended => Err(Refused::Ended),
-    }
+    ghost invariant = { λ p. IsPlace p.seat (shown p.seat.lots p.list.items) p.list.capacity p.total p.state };
 }
 
 impl Place {
@@ -90,7 +67,7 @@ impl Place {
         }) }
         ensures refused { IfErr result (λ e. e ≡ Refused.OutOfMemory) }
     {
-        let list = Vec::with_capacity(alloc, usize::from(room))?;
+        let list = Order::with_capacity(alloc, usize::from(room))?;
         Ok(Place {
             seat,
             list,

@@ -14,14 +14,8 @@ use xh_runner::{Machine, Report, hire, leave_all};
 use xh_script::{Answered, Fault, Name, Script};
 use xh_session::{Names as Bindings, Session};
 
-/// What is left but for the kernel.
-#[derive(Drop)]
-struct Ended<N: Names> {
-    answers: Vec<Answered>,
-    names: Vec<Name>,
-    accounts: Vec<Account<N>>,
-    looks: Vec<Look>,
-}
+// The replies, and the name of the latest process of each place.
+type Told = (Vec<Answered>, Vec<Name>);
 
 /// The machine, the replies, and the name of the latest process of each place.
 #[derive(Drop)]
@@ -37,7 +31,7 @@ fn answer_all<M: Machine>(
     session: &mut Session<'_, M>,
     script: &Script,
     points: &Points,
-) -> Result<(Vec<Answered>, Vec<Name>), AllocError>
+) -> Result<Told, AllocError>
     ensures { IfOk result (λ r. length r.1.items ≡ PLACES) }
 {
     let mut answers = Vec::with_capacity(alloc, script.lines.len())?;
@@ -90,11 +84,11 @@ fn play_by_worker<N: Names, R: Wait>(
     looks: Vec<Look>,
     script: &Script,
     points: &Points,
-) -> Result<Ended<N>, AllocError>
+) -> Result<(Told, Vec<Account<N>>, Vec<Look>), AllocError>
     requires count { (vec_len accounts ≡ 1) × (vec_len looks ≡ 1) }
     requires own { All (λ l. l.table ≡ N.parts.histories) looks.items }
-    ensures count { IfOk result (λ e. (vec_len e.accounts ≡ 1) × (length e.names.items ≡ PLACES)) }
-    ensures own { IfOk result (λ e. All (λ l. l.table ≡ N.parts.histories) e.looks.items) }
+    ensures count { IfOk result (λ r. (vec_len r.1 ≡ 1) × (length r.0.1.items ≡ PLACES)) }
+    ensures own { IfOk result (λ r. All (λ l. l.table ≡ N.parts.histories) r.2.items) }
 {
     let mut workers = hire(rt, alloc, kernel, points, accounts, looks)?;
     let Played {
@@ -104,35 +98,7 @@ fn play_by_worker<N: Names, R: Wait>(
     } = play_on(alloc, workers.remove(0), script, points)?;
     workers.push(machine)?;
     let (accounts, looks) = leave_all(alloc, workers)?;
-    Ok(Ended {
-        answers,
-        names,
-        accounts,
-        looks,
-    })
-}
-
-// Closes the books of the kernel.
-fn report_of<N: Names>(alloc: Global, kernel: Kernel<N>, ended: Ended<N>) -> Result<Report, Fault>
-    requires count { (vec_len ended.accounts ≡ N.parts.workers) × (length ended.names.items ≡ PLACES) }
-    requires looks { All (λ l. l.table ≡ N.parts.histories) ended.looks.items }
-    ensures { IfOk result (λ r. All (λ line. line.place < length r.names.items) r.ledger.places.items) }
-{
-    let Ended {
-        answers,
-        names,
-        accounts,
-        looks,
-    } = ended;
-    match close_kernel(alloc, kernel, accounts, looks) {
-        Ok(books) => Ok(Report {
-            answers,
-            ledger: books.ledger,
-            flight: books.flight,
-            names,
-        }),
-        Err(_refused) => Err(Fault::Memory),
-    }
+    Ok(((answers, names), accounts, looks))
 }
 
 // Plays the script on a kernel of these parts.
@@ -152,10 +118,14 @@ fn play_parts<N: Names, R: Wait>(
         Ok(made) => made,
         Err(_refused) => return Err(Fault::Memory),
     };
-    match play_by_worker(rt, alloc, &kernel, accounts, looks, script, points) {
-        Ok(ended) => report_of(alloc, kernel, ended),
-        Err(_refused) => Err(Fault::Memory),
-    }
+    let played = play_by_worker(rt, alloc, &kernel, accounts, looks, script, points);
+    let ((answers, names), books) = close_kernel(alloc, kernel, played)?;
+    Ok(Report {
+        answers,
+        ledger: books.ledger,
+        flight: books.flight,
+        names,
+    })
 }
 
 /// Plays a script by the calls of the one worker of a new kernel. A line that waits for what no line before it sent

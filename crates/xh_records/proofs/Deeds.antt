@@ -1,7 +1,7 @@
 -- The deeds of the log, as it grows.
 use Rattle.xh_records.proofs.Common.{nat_tests, ◌≡◌, ℕ, ◌≢◌, ◌⊎◌, Bool, List, [], ◌∷◌, ◌++◌, sym, refl, ap, ◌∙◌, subst, inl, inr, arith, cond, eq-eqb, ne_eqb, LotOf, Event, Accept, Pass, Among}
 use Rattle.xh_records.proofs.Common.{among_either}
-use Rattle.xh_records.proofs.Common.{append-nil, append_assoc, carried, carry, place_of, record_of, process_of, Arrives, Deed, Grows, IsLeft, deeds_by, events, tail_of}
+use Rattle.xh_records.proofs.Common.{append-nil, append_assoc, carried, carry, place_of, record_of, process_of, Arrives, Deed, IsLeft, deeds_by, events, tail_of}
 use Rattle.xh_records.proofs.Elements.{either_way, only_one}
 
 module _ {B : Type 0} where
@@ -22,7 +22,10 @@ module _ {B : Type 0} where
   pub deeds_same : (q : ℕ) (log : List (Deed B)) (d : Deed B) → place_of (process_of d.0) ≢ q → deeds_by q (log ++ d ∷ []) ≡ deeds_by q log
   deeds_same q log d n = deeds_append q log (d ∷ []) ∙ ap (λ (b : Bool). deeds_by q log ++ cond b (d ∷ []) []) (ne_eqb (place_of (process_of d.0)) q n) ∙ append-nil (deeds_by q log)
 
-  -- what is known grows
+  -- what is known after a step of the place q: what was known before, then deeds of other places, then those that the step did itself
+  abbrev pub Grows : ℕ → List (Deed B) → List (Deed B) → List (Deed B) → Type 0
+  Grows q own before after = (others : List (Deed B)) × (after ≡ before ++ (others ++ own)) × (deeds_by q others ≡ [])
+
   pub grows_twice : (q : ℕ) (own a b c : List (Deed B)) → Grows q [] a b → Grows q own b c → Grows q own a c
   grows_twice q own a b c x y = (
     x.0 ++ y.0,

@@ -2,18 +2,14 @@
 use Rattle.xh_records.proofs.Common.{nat_tests, ◌≡◌, ℕ, zero, suc, ◌*◌, ◌<◌, map, length-append, mod-lt, Bool, List, [], ◌∷◌, ◌++◌, length, take, get_or, sym, ap, ◌∙◌, subst, arith, rules}
 use Rattle.xh_records.proofs.Common.{length-map, Option, Some, None, slice_get, at_index, some, some-injective, some-ne-none, dite, ℕ_discrete, get_elem?, State, Final, Seen, LotOf, Holder}
 use Rattle.xh_records.proofs.Common.{Process, Direction, index_of, Ownership, IsHeldBy, word_of, place_of, number_of, index_back, Among, Distinct, keys, among_back, among_either, among_front}
-use Rattle.xh_records.proofs.Common.{at_key, Shape, View, IsLotAt, Sits, ViewFits, Shows, Shown, IsSmall, Held, owned_by, indices, lot_in, view_of, Ends, EndsAs, IsAway, IsHomeLot}
+use Rattle.xh_records.proofs.Common.{at_key, Shape, View, IsLotAt, Sits, ViewFits, Shows, Shown, IsSmall, Held, indices, lot_in, view_of, Ends, EndsAs, IsAway, IsHomeLot}
 use Rattle.xh_records.proofs.Common.{spent, slot_at, or_else, IsGathered}
 use Rattle.xh_records.proofs.Common.{Did, carried, deeds_by, events}
 use Rattle.std.specs.Option.{option_or, IsSome}
 use Rattle.xh_records.proofs.Elements.{either_way, in_range, is_there, only_one, elem_slice, slice_elem, nth_is, among_map}
 use Rattle.xh_records.proofs.Keeps.{home_lot, one_holder, same_place, never}
-use Rattle.xh_records.proofs.Lists.{among_owned, none_or_some}
+use Rattle.xh_records.proofs.Lists.{among_owned, among_owned_back, none_or_some}
 use Rattle.xh_records.proofs.Distinct.{process_in, not_twice, distinct_front, covers}
-
-among_owned_back : (q : ℕ) (xs : List ℕ) (r p : ℕ) → Among (owned_by q xs) (r, p) → Among xs r
-among_owned_back q [] r p h = absurd h
-among_owned_back q (x ∷ xs) r p h = grind (arith, nat_tests, among_owned_back q xs r p)
 
 -- one more seat is gathered
 pub gathers : {B : Type 0} (m : ℕ) (seats : List (Held B)) (x : Held B) (v v' : View B) (held held' : List (Option (LotOf B))) → get_elem? seats m ≡ some x → IsGathered (suc m) seats v held

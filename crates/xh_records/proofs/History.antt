@@ -1,7 +1,7 @@
 -- The log of all events, as it grows, and the views' fronts.
 use Rattle.xh_records.proofs.Common.{nat_tests, ◌≡◌, ℕ, ◌<◌, ◌≢◌, List, [], ◌∷◌, ◌++◌, length, set, get_or, sym, refl, ap, ◌∙◌, subst, inl, inr, arith, append_assoc}
 use Rattle.xh_records.proofs.Common.{append-nil, mod-lt, some, get_elem?, at_set, Event, Ownership, IsDone, place_of, Among, among_either, Shape, View, IsInside, IsOneLog, LeadsTo}
-use Rattle.xh_records.proofs.Common.{StartsWith, all_free, process_of, Sits, ViewTells, IsHistory, IsOthers, IsAlone, adds, first_of, front_in, none_yet, own_of, tail_of, Accept, Deed}
+use Rattle.xh_records.proofs.Common.{StartsWith, None, replicate, process_of, Sits, ViewTells, IsHistory, IsOthers, IsAlone, adds, first_of, front_in, none_yet, own_of, tail_of, Accept, Deed}
 use Rattle.xh_records.proofs.Common.{IsLeft, deeds_by, events}
 use Rattle.xh_records.proofs.Deeds.{arrives_more, deeds_append, deeds_more, deeds_same, events_more}
 use Rattle.xh_records.proofs.Elements.{either_way, only_one}
@@ -78,8 +78,8 @@ pub more_history : {B : Type 0} (s : Shape) (o o' : Ownership) (views : List (Vi
     → ((p r n : ℕ) → d.0 ≡ Accept p r n → IsLeft log r n d.1)
     → ((j p : ℕ) (u : View B) → j ≢ id → get_elem? views j ≡ some u → Sits u p → place_of (process_of d.0) ≢ place_of p) → IsHistory s o' (set views id w) (log ++ d ∷ [])
 more_history s o o' views log id w d old done there long inside sits one was apart = record {
-  leads = subst (λ (z : ℕ × List Event). LeadsTo s.records (all_free z.0) z.1 o') (λ i. (sym long i, sym (events_more log d) i))
-      (leads_more s.records (all_free (length o)) o o' (events log) d.0 old.leads done there);
+  leads = subst (λ (z : ℕ × List Event). LeadsTo s.records (replicate z.0 None) z.1 o') (λ i. (sym long i, sym (events_more log d) i))
+      (leads_more s.records (replicate (length o) None) o o' (events log) d.0 old.leads done there);
   theirs = λ x among. either_way (among_either (events log) (d.0 ∷ []) x (subst (λ (z : List Event). Among z x) (events_more log d) among)) (λ a. old.theirs x a)
       (λ b. subst (λ (z : Event). place_of (process_of z) < s.places) (sym (only_one b)) inside);
   tells = λ j u at. either_way (at_set views id j w u at)

@@ -3,8 +3,8 @@ use Rattle.xh_records.proofs.Common.{nat_tests, ◌≡◌, ℕ, ◌%◌, ◌<◌
 use Rattle.xh_records.proofs.Common.{eq-eqb, append-nil, Option, Some, None, none, some, some-injective, dite, ℕ_discrete, get_elem?, State, Me, Act, rest, put_back, takes, gives}
 use Rattle.xh_records.proofs.Common.{keeps, step, stepped, Allows, at_set, set_here, set_else, set_again, at_map, LotOf, Among, Distinct, without, among_back, among_either, among_front, Shape}
 use Rattle.xh_records.proofs.Common.{View, Holder, Process, Direction, Event, index_of, Ownership, IsHeldBy, IsHolder, IsDone, word_of, place_of, number_of, record_of, from_of, to_of}
-use Rattle.xh_records.proofs.Common.{word_injective, index_back, number_inside, LeadsTo, all_free, process_of, Sits, Owns, IsLotAt, HomeFits, ViewFits, ViewTells, IsSmall, Shows, Shown}
-use Rattle.xh_records.proofs.Common.{Knows}
+use Rattle.xh_records.proofs.Common.{word_injective, index_back, number_inside, LeadsTo, replicate, process_of, Sits, Owns, IsLotAt, HomeFits, ViewFits, ViewTells, IsSmall, Shows, Shown}
+use Rattle.xh_records.proofs.Common.{KnowsAt}
 use Rattle.xh_records.proofs.Common.{taking, giving, IsAway, IsHomeLot, IsAlone, first_of, gained, head_of, knowing, lost, SeesMore, took, gave, looked, compared}
 use mathlib.Core.Option as maybe
 use lib.Seq.{map-set}
@@ -207,7 +207,7 @@ module _ {B : Type 0} (fits : B → ℕ → Bool) (s : Shape) where
       )
 
   -- what a seat knows of the word of a record
-  knows_word : (o : Ownership) (v : View B) (r n : ℕ) (h : Option Holder) → ViewFits s o v → IsHeldBy o r h → IsHolder h → n ≡ word_of h → Knows v r n
+  knows_word : (o : Ownership) (v : View B) (r n : ℕ) (h : Option Holder) → ViewFits s o v → IsHeldBy o r h → IsHolder h → n ≡ word_of h → KnowsAt v r n
   knows_word o v r n h fit held good is = grind (arith, nat_tests, sits, word_injective, one_holder)
 
   takes_change : (o : Ownership) (v : View B) (r p : ℕ) (h : Option Holder) (l : LotOf B) (others : List (Deed B)) → ViewFits s o v → IsHeldBy o r h → ((q : ℕ) → h ≡ Some (Process q) → ⊥)
@@ -249,7 +249,7 @@ module _ {B : Type 0} (fits : B → ℕ → Bool) (s : Shape) where
             knows_word o me.0 r n a.holder fit a.held (shown.holders r a.holder a.held) a.found,
             (
               o,
-              subst (λ (z : Shape × List (Deed B)). LeadsTo z.0.records (all_free (length o)) (events z.1) o)
+              subst (λ (z : Shape × List (Deed B)). LeadsTo z.0.records (replicate (length o) None) (events z.1) o)
                   (λ i. (sym (fit.knows p new_to_it.sits) i, sym (ap first_of front) i)) shown.history.leads,
               a.holder,
               a.held,

@@ -34,6 +34,10 @@ pub among_owned : (p : ℕ) (xs : List ℕ) (i : ℕ) → Among xs i → Among (
 among_owned p [] i h = absurd h
 among_owned p (x ∷ xs) i h = ⊎_elim (λ (e : i ≡ x). inl (ap (λ (z : ℕ). (z, p)) e)) (λ (t : Among xs i). inr (among_owned p xs i t)) h
 
+pub among_owned_back : (q : ℕ) (xs : List ℕ) (r p : ℕ) → Among (owned_by q xs) (r, p) → Among xs r
+among_owned_back q [] r p h = absurd h
+among_owned_back q (x ∷ xs) r p h = grind (arith, nat_tests, among_owned_back q xs r p)
+
 -- so many turns bring the back to the front
 pub turns_over : {X : Type 0} (a b : List (ℕ × X)) → turns (length a) (a ++ b) ≡ b ++ a
 turns_over [] b = sym (append-nil b)

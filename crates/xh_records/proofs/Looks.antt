@@ -1,8 +1,8 @@
 -- A seat that looked before it did something.
-use Rattle.xh_records.proofs.Common.{ℕ, List, [], ◌∷◌, ◌++◌, ap, ◌∙◌, subst, LotOf, Deed, Event, place_of, record_of, Grows, StartsWith, IsLotOf, Held, HasFound}
-use Rattle.xh_records.proofs.Common.{HasGained, HasLooked, SawTaken, did}
+use Rattle.xh_records.proofs.Common.{ℕ, List, [], ◌∷◌, ◌++◌, ap, ◌∙◌, subst, LotOf, Deed, Event, place_of, record_of, StartsWith, IsLotOf, Held, HasSeen, Knows, TellsWord, events, index_of}
+use Rattle.xh_records.proofs.Common.{HasGained, HasLooked, MAX_RECORDS, SawTaken, did, get_or, sym, ◌+◌, ◌*◌, ◌<◌}
 use Rattle.xh_records.proofs.Common.{moving, seen, with_lots}
-use Rattle.xh_records.proofs.Deeds.{grows_twice}
+use Rattle.xh_records.proofs.Deeds.{Grows, grows_twice}
 use Rattle.xh_records.proofs.History.{starts_twice}
 
 module _ {B : Type 0} (x y : Held B) (look : HasLooked x y) where
@@ -26,9 +26,19 @@ module _ {B : Type 0} (x y : Held B) (look : HasLooked x y) where
   pub starts_on : (front : List (Deed B)) → StartsWith front y.front → StartsWith front x.front
   starts_on front later = starts_twice x.front y.front front (look.1.0 ++ [], look.1.1) later
 
-  pub found_on : (k word : ℕ) (front : List (Deed B)) → HasFound k word y front → HasFound k word x front
-  found_on k word front found = subst (λ h. HasFound k word h front) look.0 found
+  pub seen_on : (r word : ℕ) (z : Held B) → HasSeen r word y z → HasSeen r word x z
+  seen_on r word z saw = (
+    subst (λ h. Knows h r word) look.0 saw.0,
+    subst (λ h. TellsWord h.shape.records (events z.front) (index_of h.shape.records r) word) look.0 saw.1,
+    looks_on z saw.2,
+  )
 
-  pub saw_on : (arena : ℕ) (words : List ℕ) (z : Held B) → SawTaken arena words y z → SawTaken arena words x z
-  saw_on arena words z saw = let t = subst (λ h. SawTaken arena words h z) look.0 saw in
-      (t.0, λ k inside. let u = t.1 k inside in (u.0, u.1, starts_on u.1 u.2, u.3, u.4))
+  pub taken_on : (arena : ℕ) (words : List ℕ) (z : Held B) → SawTaken arena words y z → SawTaken arena words x z
+  taken_on arena words z saw = (
+    saw.0 ∙ ap (λ h. h.shape.records) look.0,
+    λ k below. let t = saw.1 k (subst (λ (n : ℕ). k < n) (sym (ap (λ h. h.shape.records) look.0)) below) in (
+      t.0,
+      subst (λ h. Knows h (arena * MAX_RECORDS + k) (get_or words k 0)) look.0 t.1,
+      (t.2.0, starts_on t.2.0 t.2.1, t.2.2, subst (λ s. TellsWord s.records (events t.2.0) (index_of s.records (arena * MAX_RECORDS + k)) (get_or words k 0)) (ap (λ h. h.shape) look.0) t.2.3),
+    ),
+  )

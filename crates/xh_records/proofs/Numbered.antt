@@ -1,10 +1,12 @@
 -- A seat's lots by the numbers of their records.
 use Rattle.xh_records.proofs.Common.{nat_tests, arith, ◌≡◌, ℕ, suc, length, ◌%◌, ◌<◌, ◌≤◌, List, [], ◌∷◌, ◌++◌, map, sym, refl, ap, ◌∙◌, subst, Option, Some, None, Me, TableId, LotOf}
 use Rattle.xh_records.proofs.Common.{index_of, Deed, Event, number_of, place_of, number_inside, index_back, number_back, Among, keys, put, value_at, without, Shape, View, IsLotOf, IsLotAt, IsSmall}
-use Rattle.xh_records.proofs.Common.{Holder, Process, Direction, taking, giving, Advances, HasGained, HasLost, HasSeen, Held, Knows, seen, view_of, did, with_lots, IsRecord, adds, front_in}
-use Rattle.xh_records.proofs.Common.{IsOthers, SeesMore, Grows, TellsWord, in_slot, with_lot, numbered, AllLots, IsSeat, carried, deeds_in, events, moving}
+use Rattle.xh_records.proofs.Common.{Holder, Process, Direction, taking, giving, Advances, HasGained, HasLost, HasSeen, Held, seen, view_of, did, with_lots, IsRecord, adds, front_in}
+use Rattle.xh_records.proofs.Common.{IsOthers, SeesMore, TellsWord, in_slot, with_lot, numbered, AllLots, IsSeat, carried, deeds_in, events, moving}
 use Rattle.xh_records.specs.inner.Steps.{process_in}
-use Rattle.xh_records.proofs.Common.{deeds_by, get_or}
+use Rattle.xh_records.proofs.Common.{deeds_by, get_or, inl, word_of, Knows, KnowsAt}
+use Rattle.xh_records.proofs.Deeds.{Grows}
+use Rattle.xh_records.proofs.Lists.{among_owned, among_owned_back}
 use Rattle.xh_records.proofs.Elements.{among_map, in_range, slice_elem}
 use Rattle.xh_records.proofs.History.{adds_one, own_seen}
 
@@ -27,6 +29,10 @@ module _ {B : Type 0} (s : Shape) (small : IsSmall s) where
   indices_are [] all = refl
   indices_are (x ∷ xs) all = ap (λ (l : List (ℕ × LotOf B)). map (index_of s.records) (keys l)) (head_is x xs all.0.0 all.0.1)
       ∙ (λ i. index_back s.records x.0 small.0 small.1 i ∷ indices_are xs all.1 i)
+
+  numbers_are : (xs : List (ℕ × Option (LotOf B))) → AllLots s xs → keys (numbered s.records xs) ≡ map (number_of s.records) (keys xs)
+  numbers_are [] all = refl
+  numbers_are (x ∷ xs) all = ap (λ (l : List (ℕ × LotOf B)). keys l) (head_is x xs all.0.0 all.0.1) ∙ ap (λ l. number_of s.records x.0 ∷ l) (numbers_are xs all.1)
 
   pub lot_numbered : (xs : List (ℕ × Option (LotOf B))) (k : ℕ) → AllLots s xs → value_at (number_of s.records k) (numbered s.records xs) ≡ in_slot k xs
   lot_numbered [] k all = refl
@@ -107,13 +113,35 @@ module _ {B : Type 0} (x : Held B) (t : TableId) (id process : ℕ) (me : Me (Op
   pub lot_back : (slot r : ℕ) (l : LotOf B) → slot ≡ index_of x.shape.records r → r % 256 < x.shape.records → IsLotAt me.0.shape slot l → IsLotOf x.shape r l
   lot_back slot r l at inside lot = grind (arith, nat_tests, number_is)
 
-  -- a record that the seat has not isn't in its list
-  pub fresh : (order : List ℕ) (capacity slots : ℕ) → IsSeat process order capacity slots me → (slot r : ℕ) → slot ≡ index_of x.shape.records r → (Among order slot → ⊥) → Among (keys x.lots) r → ⊥
-  fresh order capacity slots seat slot r at new h =
-      let n : ℕ = x.shape.records in
-      let there : Among (map (index_of n) (keys x.lots)) (index_of n r) = among_map (index_of n) (keys x.lots) r h in
-      let keys_are : map (index_of n) (keys x.lots) ≡ order = grind (arith, nat_tests, indices_are) in
-      new (subst (λ (z : List ℕ × ℕ). Among z.0 z.1) (λ i. (keys_are i, sym at i)) there)
+  -- a record that the seat has is in its list, and the other way round
+  module _ (order : List ℕ) (capacity slots : ℕ) (seat : IsSeat process order capacity slots me) (slot r : ℕ) (at : slot ≡ index_of x.shape.records r) where
+    in_order : Among (keys x.lots) r → Among order slot
+    in_order h =
+        let n : ℕ = x.shape.records in
+        let there : Among (map (index_of n) (keys x.lots)) (index_of n r) = among_map (index_of n) (keys x.lots) r h in
+        let keys_are : map (index_of n) (keys x.lots) ≡ order = grind (arith, nat_tests, indices_are) in
+        subst (λ (z : List ℕ × ℕ). Among z.0 z.1) (λ i. (keys_are i, sym at i)) there
+
+    pub fresh : (Among order slot → ⊥) → Among (keys x.lots) r → ⊥
+    fresh new h = new (in_order h)
+
+    -- what the seat's view knows of the word of its record
+    known : (word : ℕ) → r % 256 < x.shape.records → KnowsAt me.0 slot word → Knows x r word
+    known word inside knows =
+        let n : ℕ = me.0.shape.records in
+        let mine = knows.1 process (subst (λ (l : List ℕ). Among l process) (sym seat.processes) (inl refl)) in
+        let whose : process ≡ x.process = ap (λ (y : Held B). y.process) is in
+        let same : map (number_of n) order ≡ keys x.lots = ap (map (number_of n)) seat.ordered ∙ sym (numbers_are me.0.shape seat.small me.1 seat.lots) ∙ ap (λ (y : Held B). keys y.lots) is in
+        let number : number_of n slot ≡ r = number_is n x.shape.records slot r (ap (λ (y : Held B). y.shape.records) is) at inside in (
+          knows.0,
+          (
+            (λ e. subst (λ (z : List ℕ × ℕ). Among z.0 z.1) (λ i. (same i, number i))
+                (among_map (number_of n) order slot (among_owned_back process order slot process (subst (λ (l : List (ℕ × ℕ)). Among l (slot, process)) seat.records
+                (mine.0 (e ∙ ap (λ p. word_of (Some (Process p))) (sym whose))))))),
+            (λ h. mine.1 (subst (λ (l : List (ℕ × ℕ)). Among l (slot, process)) (sym seat.records) (among_owned process order slot (in_order h)))
+                ∙ ap (λ p. word_of (Some (Process p))) whose),
+          ),
+        )
 
   -- the seat afterwards, with other lots
   pub held_same : (t' : TableId) (id' : ℕ) (me' : Me (Option (LotOf B)) (View B)) (ls : List (ℕ × LotOf B)) → t' ≡ t → id' ≡ id → me'.0 ≡ me.0 → numbered me'.0.shape.records me'.1 ≡ ls
@@ -151,19 +179,17 @@ module _ {B : Type 0} (x : Held B) (t : TableId) (id process : ℕ) (me : Me (Op
 
   -- and after a look, which found a word
   pub held_seen : (order : List ℕ) (capacity slots : ℕ) (seat : IsSeat process order capacity slots me) (t' : TableId) (id' : ℕ) (me' : Me (Option (LotOf B)) (View B)) (slot r word : ℕ) → t' ≡ t
-      → id' ≡ id
-      → slot ≡ index_of x.shape.records r → SeesMore slot word me me' → HasSeen r word x (held t' id' process me')
-  held_seen order capacity slots seat t' id' me' slot r word et en at sees =
+      → id' ≡ id → slot ≡ index_of x.shape.records r → r % 256 < x.shape.records → SeesMore slot word me me' → HasSeen r word x (held t' id' process me')
+  held_seen order capacity slots seat t' id' me' slot r word et en at inside sees =
       let own : deeds_in me'.0 ≡ deeds_in me.0 = ap (λ (m : Me (Option (LotOf B)) (View B)). deeds_in m.0) sees.2
       ∙ own_seen (place_of process) sees.0 me.0.fronts seat.front (sym (ap (λ (p : ℕ). deeds_by (place_of p) sees.0) (alone_is process me.0 seat.processes)) ∙ sees.1) in
-      let shape : me'.0.shape ≡ x.shape = ap (λ (m : Me (Option (LotOf B)) (View B)). m.0.shape) sees.2 ∙ ap (λ (y : Held B). y.shape) is in
-      let after = held_as order capacity slots seat t' id' me' x.lots sees.0 [] x.done x.moved et en (ap (λ (m : Me (Option (LotOf B)) (View B)). m.0.shape) sees.2)
-      (ap (λ (m : Me (Option (LotOf B)) (View B)). numbered m.0.shape.records m.1) sees.2 ∙ ap (λ (y : Held B). y.lots) is)
-      (ap (λ (m : Me (Option (LotOf B)) (View B)). m.0.fronts) sees.2) sees.1
-      (ap events own ∙ ap (λ (y : Held B). y.done) is) (ap carried own ∙ ap (λ (y : Held B). y.moved) is) in (
-        (
-          subst (λ (z : View B × ℕ). Knows z.0 z.1 word) (λ i. (sym (views_are order capacity slots seat) i, at i)) sees.3.0,
-          subst (λ (z : Shape × ℕ). TellsWord z.0.records (events (front_in me'.0)) z.1 word) (λ i. (shape i, at i)) sees.3.1,
-        ),
-        after,
+      let shape : me'.0.shape ≡ x.shape = ap (λ (m : Me (Option (LotOf B)) (View B)). m.0.shape) sees.2 ∙ ap (λ (y : Held B). y.shape) is in (
+        known order capacity slots seat slot r at word inside sees.3.0,
+        subst (λ (z : Shape × ℕ). TellsWord z.0.records (events (front_in me'.0)) z.1 word) (λ i. (shape i, at i)) sees.3.1,
+        held_as order capacity slots seat t' id' me' x.lots sees.0 [] x.done x.moved et en (ap (λ (m : Me (Option (LotOf B)) (View B)). m.0.shape) sees.2)
+            (ap (λ (m : Me (Option (LotOf B)) (View B)). numbered m.0.shape.records m.1) sees.2 ∙ ap (λ (y : Held B). y.lots) is)
+            (ap (λ (m : Me (Option (LotOf B)) (View B)). m.0.fronts) sees.2)
+            sees.1
+            (ap events own ∙ ap (λ (y : Held B). y.done) is)
+            (ap carried own ∙ ap (λ (y : Held B). y.moved) is),
       )

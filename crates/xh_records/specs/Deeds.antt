@@ -25,7 +25,7 @@ module _ {B : Type 0} where
   abbrev pub events : List (Deed B) → List Event
   events = map (λ d. d.0)
 
-  -- what was carried from a process or to it: the lots of the passes and accepts among them, as they were then
+  -- the lots of the passes and accepts among them, as they were then
   abbrev pub carried : List (Deed B) → List (LotOf B)
   carried [] = []
   carried (d ∷ ds) = carry d.0 d.1 [] ++ carried ds
@@ -34,10 +34,6 @@ module _ {B : Type 0} where
   abbrev pub deeds_by : ℕ → List (Deed B) → List (Deed B)
   deeds_by q [] = []
   deeds_by q (d ∷ ds) = cond (place_of (process_of d.0) == q) (d ∷ deeds_by q ds) (deeds_by q ds)
-
-  -- what is known after a step of the place q: what was known before, then deeds of other places, then those that the step did itself
-  abbrev pub Grows : ℕ → List (Deed B) → List (Deed B) → List (Deed B) → Type 0
-  Grows q own before after = (others : List (Deed B)) × (after ≡ before ++ (others ++ own)) × (deeds_by q others ≡ [])
 
   -- the last of the deeds on the record r passed it to the direction d, and left this lot
   abbrev pub IsLeft : List (Deed B) → ℕ → ℕ → LotOf B → Type 0

@@ -6,10 +6,6 @@ use Rattle.xh_model.specs.declared.event.Holder.{Holder}
 use Rattle.xh_model.specs.declared.limits.TheConstants.{MAX_RECORDS}
 use Rattle.xh_model.specs.Words.{Ownership, IsDone, IsHeldBy, IsHolder, record_of, to_of, word_of}
 
--- no record of n is held
-abbrev pub all_free : ℕ → Ownership
-all_free n = replicate n None
-
 -- an arena of n records has the event's record, and who has it then is a holder
 abbrev pub IsInside : ℕ → Event → Type 0
 IsInside n e = (record_of e % MAX_RECORDS < n) × IsHolder (to_of e)
@@ -37,6 +33,6 @@ StartsWith {X} log front = (later : List X) × (log ≡ front ++ later)
 abbrev pub IsOneLog : {X : Type 0} → List X → List X → Type 0
 IsOneLog a b = StartsWith a b ⊎ StartsWith b a
 
--- after the events of the front, with n records in an arena, the word at the index k is that of the record's holder
+-- after the events of the front, from no record held and with n records in an arena, the word at the index k is that of the record's holder
 abbrev pub TellsWord : ℕ → List Event → ℕ → ℕ → Type 0
-TellsWord n front k word = (o : Ownership) × LeadsTo n (all_free (length o)) front o × (h : Option Holder) × IsHeldBy o k h × (word ≡ word_of h)
+TellsWord n front k word = (o : Ownership) × LeadsTo n (replicate (length o) None) front o × (h : Option Holder) × IsHeldBy o k h × (word ≡ word_of h)

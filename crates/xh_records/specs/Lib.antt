@@ -1,3 +1,4 @@
+pub mod Order
 pub mod Encoding
 pub mod After
 pub mod History

@@ -1,5 +1,5 @@
 -- A seat and the table, as contracts see them, and what the calls do to a seat.
-use Rattle.std.specs.Prelude.{◌≡◌, ℕ, ◌+◌, ◌*◌, ◌/◌, ◌%◌, ◌<◌, ◌≢◌, Bool, List, [], ◌∷◌, ◌++◌, map, length, slice_get, slice_index, Some, None, Option}
+use Rattle.std.specs.Prelude.{◌≡◌, ℕ, ◌+◌, ◌*◌, ◌/◌, ◌%◌, ◌<◌, ◌≢◌, ◌↔◌, Bool, List, [], ◌∷◌, ◌++◌, map, length, replicate, slice_get, slice_index, Some, None, Option}
 use Rattle.atomic_table.specs.Seated.{TableId}
 use Rattle.xh_arena.specs.Views.{LotOf}
 use Rattle.xh_model.specs.declared.event.Holder.{Holder}
@@ -10,10 +10,9 @@ use Rattle.xh_model.specs.Slots.{index_of}
 use Rattle.xh_model.specs.Words.{Ownership, IsHeldBy, IsHolder, IsWord, record_of, word_of, number_of, place_of}
 use Rattle.xh_model.specs.Keyed.{Among, keys, value_at, without}
 use Rattle.xh_records.specs.declared.shape.Shape.{Shape}
-use Rattle.xh_records.specs.declared.view.View.{View}
-use Rattle.xh_records.specs.Showing.{IsLotOf, IsLotAt, IsEmpty, IsFull, Owns, Sits}
-use Rattle.xh_records.specs.Deeds.{Arrives, Deed, Grows, IsLeft, carried, carry, deeds_by, events}
-use Rattle.xh_records.specs.History.{LeadsTo, StartsWith, TellsWord, all_free, process_of}
+use Rattle.xh_records.specs.Showing.{IsLotOf, IsLotAt, IsEmpty, IsFull}
+use Rattle.xh_records.specs.Deeds.{Arrives, Deed, IsLeft, carried, carry, deeds_by, events}
+use Rattle.xh_records.specs.History.{LeadsTo, StartsWith, TellsWord, process_of}
 
 -- the table of all records
 pub record RecordsOf : Type 0 where
@@ -52,9 +51,9 @@ with_lots x l = record x { lots = l }
 abbrev pub did : {B : Type 0} → Event → Held B → Held B
 did e x = record x { done = x.done ++ e ∷ [] }
 
--- the seat did these deeds, and what else it has seen since is of others
+-- the seat did these deeds, and what else it has seen since is of other places
 abbrev pub Advances : {B : Type 0} → List (Deed B) → Held B → Held B → Type 0
-Advances own x y = Grows (place_of x.process) own x.front y.front
+Advances {B} own x y = (others : List (Deed B)) × (y.front ≡ x.front ++ (others ++ own)) × (deeds_by (place_of x.process) others ≡ [])
 
 -- by the event e the seat gained the lot of its record, behind its others, and of that lot this holds
 abbrev pub HasGained : {B : Type 0} → Event → (LotOf B → Type 0) → Held B → Held B → Type 0
@@ -69,41 +68,26 @@ HasLost e l x y = (y ≡ record x { lots = without (record_of e) x.lots; done = 
 abbrev pub HasLooked : {B : Type 0} → Held B → Held B → Type 0
 HasLooked x y = (y ≡ record x { front = y.front }) × Advances [] x y
 
--- the indices of a seat's records, and its lot of the record at an index
-abbrev pub indices : {B : Type 0} → Held B → List ℕ
-indices x = map (index_of x.shape.records) (keys x.lots)
-
+-- a seat's lot of the record at an index
 abbrev pub lot_in : {B : Type 0} → ℕ → Held B → Option (LotOf B)
 lot_in k x = value_at (number_of x.shape.records k) x.lots
 
-abbrev pub owned_by : ℕ → List ℕ → List (ℕ × ℕ)
-owned_by p [] = []
-owned_by p (k ∷ ks) = (k, p) ∷ owned_by p ks
+-- between two fronts, of which the first is a beginning of the second, the word of the record r was this: that of its holder then
+abbrev pub SawAt : {B : Type 0} → Shape → List (Deed B) → List (Deed B) → ℕ → ℕ → Type 0
+SawAt {B} s from to r word = (front : List (Deed B)) × StartsWith front from × StartsWith to front × TellsWord s.records (events front) (index_of s.records r) word
 
--- the seat's view
-abbrev pub view_of : {B : Type 0} → Held B → View B
-view_of x = record { shape = x.shape; processes = x.process ∷ []; records = owned_by x.process (indices x); fronts = (place_of x.process, x.front) ∷ [] }
+-- the word says something, and it names the seat's process exactly where the seat has the record r
+abbrev pub Knows : {B : Type 0} → Held B → ℕ → ℕ → Type 0
+Knows x r word = IsWord word × (word ≡ word_of (Some (Process x.process)) ↔ Among (keys x.lots) r)
 
--- what a seat knows of a word that it found at the index k: it is a word, and it names a process that the seat stands for exactly where the seat has that record
-abbrev pub Knows : {B : Type 0} → View B → ℕ → ℕ → Type 0
-Knows v k n = IsWord n × ((p : ℕ) → Sits v p → (n ≡ word_of (Some (Process p)) → Owns v k p) × (Owns v k p → n ≡ word_of (Some (Process p))))
-
--- the seat found this word at the index k, when it had seen so much: the word of the record's holder then
-abbrev pub HasFound : {B : Type 0} → ℕ → ℕ → Held B → List (Deed B) → Type 0
-HasFound k word x front = Knows (view_of x) k word × TellsWord x.shape.records (events front) k word
-
--- a word for each record of an arena, none of them free, each as the seat found it at some moment of the call
+-- a word for each record of an arena, none of them free, each as the seat saw it at some moment of the call
 abbrev pub SawTaken : {B : Type 0} → ℕ → List ℕ → Held B → Held B → Type 0
-SawTaken {B} arena words x y = (length words ≡ x.shape.records) × ((k : ℕ) → k < x.shape.records → (slice_index words k ≢ 0)
-    × (front : List (Deed B)) × StartsWith front x.front × StartsWith y.front front × HasFound (arena * x.shape.records + k) (slice_index words k) x front)
+SawTaken arena words x y = (length words ≡ x.shape.records) × ((k : ℕ) → k < x.shape.records → (slice_index words k ≢ 0)
+    × Knows x (arena * MAX_RECORDS + k) (slice_index words k) × SawAt x.shape x.front y.front (arena * MAX_RECORDS + k) (slice_index words k))
 
--- the seat found this word at the record r
+-- the seat looked at the record r, whose word at that step was this: that of its holder
 abbrev pub HasSeen : {B : Type 0} → ℕ → ℕ → Held B → Held B → Type 0
-HasSeen r word x y = HasFound (index_of x.shape.records r) word x y.front × HasLooked x y
-
--- and it isn't that of the holder h
-abbrev pub HasMissed : {B : Type 0} → Option Holder → ℕ → ℕ → Held B → Held B → Type 0
-HasMissed h r word x y = (word ≢ word_of h) × HasSeen r word x y
+HasSeen r word x y = Knows x r word × TellsWord x.shape.records (events y.front) (index_of x.shape.records r) word × HasLooked x y
 
 -- the lot of the record at an index, by its holder at the end: that of the seat of its process, or the one at home
 module _ {B : Type 0} (fits : B → ℕ → Bool) (s : Shape) (seats : List (Held B)) where
@@ -117,7 +101,7 @@ module _ {B : Type 0} (fits : B → ℕ → Bool) (s : Shape) (seats : List (Hel
   pub record Ends (words : List ℕ) (lots : List (LotOf B)) : Type 0 where
     pub owners : Ownership
     pub log : List (Deed B)
-    pub leads : LeadsTo s.records (all_free (length owners)) (events log) owners
+    pub leads : LeadsTo s.records (replicate (length owners) None) (events log) owners
     pub theirs : (e : Event) → Among (events log) e → place_of (process_of e) < s.places
     pub parts : (j : ℕ) (x : Held B) → slice_get seats j ≡ Some x → x.done ≡ events (deeds_by (place_of x.process) log)
     pub moved : (j : ℕ) (x : Held B) → slice_get seats j ≡ Some x → x.moved ≡ carried (deeds_by (place_of x.process) log)

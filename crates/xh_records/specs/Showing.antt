@@ -1,5 +1,5 @@
 -- Words, home lots and views show an ownership.
-use Rattle.std.specs.Prelude.{◌≡◌, ℕ, ◌%◌, ◌/◌, ◌<◌, ◌≤◌, slice_get, Bool, true, List, map, length, Some, None, Option}
+use Rattle.std.specs.Prelude.{◌≡◌, ℕ, ◌%◌, ◌/◌, ◌<◌, ◌≤◌, slice_get, Bool, true, List, map, length, replicate, Some, None, Option}
 use mathlib.Core.Option.{none, some}
 use mathlib.Core.Option as maybe
 use lib.ListN.{get_elem?}
@@ -12,7 +12,7 @@ use Rattle.xh_model.specs.declared.limits.TheConstants.{MAX_RECORDS, PLACES, PRO
 use Rattle.xh_model.specs.Words.{Ownership, IsHeldBy, IsHolder, word_of, place_of, number_of}
 use Rattle.xh_model.specs.Keyed.{Among, Distinct}
 use Rattle.xh_records.specs.Deeds.{Arrives, Deed, IsLeft, deeds_by, events}
-use Rattle.xh_records.specs.History.{LeadsTo, StartsWith, all_free, process_of}
+use Rattle.xh_records.specs.History.{LeadsTo, StartsWith, process_of}
 use Rattle.xh_records.specs.declared.shape.Shape.{Shape}
 use Rattle.xh_records.specs.declared.view.View.{View}
 
@@ -63,7 +63,7 @@ pub record ViewTells {B : Type 0} (log : List (Deed B)) (v : View B) : Type 0 wh
 -- one log of all deeds, each by a process at one of the places, leads from no record held to the ownership, and each view has beginnings of it; whatever was accepted is as it was when it was
 -- passed
 pub record IsHistory {B : Type 0} (s : Shape) (o : Ownership) (views : List (View B)) (log : List (Deed B)) : Type 0 where
-  pub leads : LeadsTo s.records (all_free (length o)) (events log) o
+  pub leads : LeadsTo s.records (replicate (length o) None) (events log) o
   pub theirs : (e : Event) → Among (events log) e → place_of (process_of e) < s.places
   pub tells : (id : ℕ) (v : View B) → get_elem? views id ≡ some v → ViewTells log v
   pub arrives : Arrives log

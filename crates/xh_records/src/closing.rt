@@ -5,7 +5,8 @@ ghost use mathlib.Core.Option.{some};
 ghost use lib.ListN.{get_elem?};
 ghost use Rattle.xh_arena.specs.Views.{LotOf};
 ghost use Rattle.xh_model.specs.Keyed.{Among};
-ghost use Rattle.xh_records.specs.Seats.{Ends, Held, IsSeatOf, indices, lot_in, view_of};
+ghost use Rattle.xh_records.specs.Seats.{Ends, Held, IsSeatOf, lot_in};
+ghost use Rattle.xh_records.specs.inner.Views.{indices, view_of};
 ghost use Rattle.xh_records.specs.inner.Gathering.{Did, slot_at, or_else, IsGathered};
 
 use crate::plays::Whole;
@@ -103,7 +104,7 @@ fn empty_out<B: Fits + Drop>(
         process: _,
     } = seat;
     for k in 0..order.len() {
-        let at = order[k];
+        let at = order.as_slice()[k];
         let slot = usize::from(at);
         let lot = board.exchange(&mut token, slot, None);
         held[slot] = lot;

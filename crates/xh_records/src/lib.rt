@@ -5,6 +5,7 @@ mod closing;
 mod laws;
 mod lending;
 mod making;
+mod order;
 mod plays;
 mod records;
 mod refused;
@@ -17,6 +18,7 @@ mod view;
 mod word;
 
 pub use laws::events_are_the_cores;
+pub use order::Order;
 pub use records::Records;
 pub use refused::Refused;
 pub use seat::Seat;

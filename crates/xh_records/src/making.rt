@@ -8,6 +8,7 @@ ghost use Rattle.xh_records.specs.Showing.{IsEmpty, IsLotAt, IsSmall};
 ghost use Rattle.xh_records.specs.Seats.{Held};
 ghost use Rattle.xh_records.specs.inner.Views.{dealer};
 
+use crate::order::Order;
 use crate::plays::Deal;
 use crate::refused::Refused;
 use crate::rule::Showing;
@@ -67,7 +68,7 @@ pub(crate) fn seats_of<B: Fits>(
 {
     let mut seats = Vec::with_capacity(alloc, usize::from(places))?;
     for place in 0..places {
-        let order = Vec::with_capacity(alloc, count)?;
+        let order = Order::with_capacity(alloc, count)?;
         let token = board.split_seat::<Deal>(all);
         let process = u16::from(place);
         seats.push_reserved(Seat {

@@ -57,7 +57,7 @@ fn number_at(arena: u8, index: u16) -> u16
 
 impl<B: Fits + Drop> Records<B> {
     ghost use Rattle.xh_records.specs.Deeds.{Arrives};
-    ghost use Rattle.xh_records.specs.Seats.{Held, IsSeatOf, IsRecord, HasGained, HasLooked, HasLost, HasMissed, HasSeen};
+    ghost use Rattle.xh_records.specs.Seats.{Held, IsSeatOf, IsRecord, HasGained, HasLooked, HasLost, HasSeen};
 
     /// A table over the empty lots of whole vaults, one after the other, each of `records` lots (1 to
     /// 256), which have these names; and a seat for each of the `places` (1 to 32) at its first
@@ -133,7 +133,7 @@ impl<B: Fits + Drop> Records<B> {
         ensures arrives { OnOk result (Arrives seat.new.front) }
         ensures taken { OnOk result (HasGained (taking seat.old.process number (holder_of from)) (IsHomeLot B.is_fit (holder_of from)) seat.old seat.new) }
         ensures fresh { OnOk result (Among (keys seat.old.lots) number → ⊥) }
-        ensures missed { IfErr result (λ word. HasMissed (holder_of from) number word seat.old seat.new) }
+        ensures missed { IfErr result (λ word. (word ≢ word_of (holder_of from)) × HasSeen number word seat.old seat.new) }
     {
         let slot = self.slot_of(number);
         match take_slot(
@@ -175,7 +175,7 @@ impl<B: Fits + Drop> Records<B> {
         requires at { (slot ≡ index_of self.now.shape.records number) × (slot < self.now.table.words) × (slot < self.now.table.slots) }
         ensures claimed { OnOk result (HasGained (Claim seat.old.process number) (IsEmpty B.is_fit) seat.old seat.new) }
         ensures fresh { OnOk result (Among (keys seat.old.lots) number → ⊥) }
-        ensures missed { IfErr result (λ word. HasMissed None number word seat.old seat.new) }
+        ensures missed { IfErr result (λ word. (word ≢ 0) × HasSeen number word seat.old seat.new) }
     {
         let word = self.word_at(seat, slot, number);
         if word != OwnerWord::Free.encode() {
@@ -184,11 +184,8 @@ impl<B: Fits + Drop> Records<B> {
         self.take(seat, number, OwnerWord::Free)
     }
 
-    /// Takes the first record of the arena that it finds free, from index 0 on. Its lot is empty: no
-    /// bytes, and a blank body. The error has a word for each record, which it found there at one moment, none of them free.
-    // (inlined, since a caller that doesn't read the words then neither clears nor moves them)
-    #[inline(always)]
-    pub fn claim(&self, seat: &mut Seat<B>, arena: u8) -> Result<u16, Seen>
+    // The same in one round, which gathers the words.
+    fn claim_seen(&self, seat: &mut Seat<B>, arena: u8) -> Result<u16, Seen>
         requires own { IsSeatOf self.now seat.old }
         requires arena { arena < length self.now.shape.names }
         ensures record { IfOk result (λ r. (r / MAX_RECORDS ≡ arena) × (r % MAX_RECORDS < self.now.shape.records)) }
@@ -201,15 +198,41 @@ impl<B: Fits + Drop> Records<B> {
             words: ArrayVec::new(),
         };
         let records = self.records;
-        let first = self.slot_of(number_at(arena, 0));
+        let start = self.slot_of(number_at(arena, 0));
         for index in 0..records {
             let number = number_at(arena, index);
-            match self.claim_at(seat, first + index, number) {
+            match self.claim_at(seat, start + index, number) {
                 Ok(()) => return Ok(number),
                 Err(word) => seen.words.push(word),
             }
         }
         Err(seen)
+    }
+
+    /// Takes the first record of the arena that it finds free, from index 0 on. Its lot is empty: no
+    /// bytes, and a blank body. The error has a word for each record, which it found there at one moment, none of them free.
+    // (The words' room is 2 KiB. Gathered in the first round it would be cleared at each claim, and not inlined moved where
+    // nobody reads it.)
+    #[inline(always)]
+    pub fn claim(&self, seat: &mut Seat<B>, arena: u8) -> Result<u16, Seen>
+        requires own { IsSeatOf self.now seat.old }
+        requires arena { arena < length self.now.shape.names }
+        ensures record { IfOk result (λ r. (r / MAX_RECORDS ≡ arena) × (r % MAX_RECORDS < self.now.shape.records)) }
+        ensures claimed { IfOk result (λ r. HasGained (Claim seat.old.process r) (IsEmpty B.is_fit) seat.old seat.new) }
+        ensures fresh { IfOk result (λ r. Among (keys seat.old.lots) r → ⊥) }
+        ensures seen { IfErr result (λ s. SawTaken arena s.words.items seat.old seat.new) }
+        ensures missed { OnErr result (HasLooked seat.old seat.new) }
+    {
+        let records = self.records;
+        let first = self.slot_of(number_at(arena, 0));
+        for index in 0..records {
+            let r = number_at(arena, index);
+            match self.claim_at(seat, first + index, r) {
+                Ok(()) => return Ok(r),
+                Err(_word) => (),
+            }
+        }
+        self.claim_seen(seat, arena)
     }
 
     /// Takes a record that is in flight on the direction (0 to 127). Its lot is as the pass before left
@@ -220,7 +243,7 @@ impl<B: Fits + Drop> Records<B> {
         ensures accepted { OnOk result (HasGained (Accept seat.old.process number direction) (IsFull B.is_fit) seat.old seat.new) }
         ensures arrives { OnOk result (Arrives seat.new.front) }
         ensures fresh { OnOk result (Among (keys seat.old.lots) number → ⊥) }
-        ensures missed { IfErr result (λ word. HasMissed (Some (Direction direction)) number word seat.old seat.new) }
+        ensures missed { IfErr result (λ word. (word ≢ word_of (Some (Direction direction))) × HasSeen number word seat.old seat.new) }
     {
         self.take(seat, number, OwnerWord::InFlight(direction))
     }

@@ -4,6 +4,7 @@ ghost use Rattle.xh_model.specs.Keyed.{value_at};
 ghost use Rattle.xh_records.specs.Showing.{IsLotOf};
 ghost use Rattle.xh_records.specs.Seats.{IsRecord};
 
+use crate::order::Order;
 use crate::token::Token;
 use std::marker::Model;
 use xh_arena::Lot;
@@ -14,12 +15,11 @@ use xh_arena::Lot;
 pub struct Seat<B> {
     pub(crate) token: Token<B>,
     // The slots, in the order of the token's list.
-    pub(crate) order: Vec<u16>,
+    pub(crate) order: Order,
     pub(crate) process: u16,
 }
 
 impl<B> Model for Seat<B> {
-    ghost use Rattle.std.specs.Vec.{vec_capacity};
     ghost use Rattle.xh_records.specs.Deeds.{carried, events};
     ghost use Rattle.xh_records.specs.Seats.{Held};
     ghost use Rattle.xh_records.specs.inner.Views.{deeds_in, front_in};
@@ -38,7 +38,7 @@ impl<B> Model for Seat<B> {
       front = front_in s.token.me.0;
     } };
 
-    ghost invariant = { λ s. IsSeat s.process s.order.items (vec_capacity s.order) s.token.table_id.slots s.token.me };
+    ghost invariant = { λ s. IsSeat s.process s.order.items s.order.capacity s.token.table_id.slots s.token.me };
 }
 
 impl<B> Seat<B> {

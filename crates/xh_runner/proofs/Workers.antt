@@ -3,7 +3,8 @@ use Rattle.std.proofs.Common.{◌≡◌, ◌++◌, ◌∙◌, IfErr, List, [], �
 use Rattle.std.specs.Prelude.{◌≢◌, Result, Ok, Err}
 use Rattle.std.proofs.lemmas.List.{append-nil, map_push, nil_from_length}
 use Rattle.xh_calls.specs.Leading.{Leading}
-use Rattle.xh_calls.specs.Messages.{Takes}
+use Rattle.xh_calls.specs.Places.{status_at}
+use Rattle.xh_place.specs.Messages.{TakesAt}
 use Rattle.xh_calls.specs.Parts.{PartsOf}
 use Rattle.xh_calls.specs.declared.call.Call.TheVariants as call
 use Rattle.xh_core.specs.declared.refused.Refused.{Refused}
@@ -41,5 +42,5 @@ pub took : (parts : PartsOf) (leads : Leading) (p e : ℕ) (t : Result Taken Ref
 took parts leads p e t a old new is did = (t, is, did)
 
 pub waited : (parts : PartsOf) (leads : Leading) (p e : ℕ) (t : Result Taken Refused) (a : Result Received Refused) (old new : AccountOf) → a ≡ gotten_answer t
-    → IfErr t (λ why. why ≢ Empty) → AtLast leads (place_of p) (call.Take p e) (λ answer from to. Takes p e from to answer) (Err Empty) t old new → Asked parts leads (Take p e true) a old new
+    → IfErr t (λ why. why ≢ Empty) → AtLast leads (place_of p) (call.Take p e) (λ answer from to. TakesAt (status_at p from.place) e from to answer) (Err Empty) t old new → Asked parts leads (Take p e true) a old new
 waited parts leads p e t a old new is waits did = (t, is, (λ empty. not_empty t waits (sym is ∙ empty)), did)

@@ -1,4 +1,3 @@
 pub mod Workers
 pub mod Runs
 pub mod Reports
-pub mod inner

@@ -1,16 +1,17 @@
--- What a report tells: a run of its script by the workers of a kernel, and the kernel's closed books.
+-- A run of a script by the workers of a kernel.
 use Rattle.std.specs.Prelude.{◌≡◌, List, All, length, map}
 use Rattle.xh_books.specs.Closing.{IsClosed}
 use Rattle.xh_calls.specs.Leading.{Leading}
-use Rattle.xh_calls.specs.Parts.{PartsOf, AreMadeBy}
+use Rattle.xh_calls.specs.Parts.{AreMadeBy, PartsOf}
 use Rattle.xh_calls.specs.declared.call.Entry.{Entry}
 use Rattle.xh_history.specs.Histories.{LookOf, fresh_look}
 use Rattle.xh_kernel.specs.Accounts.{AccountOf, AreFresh}
 use Rattle.xh_kernel.specs.Histories.{LeadsTo}
 use Rattle.xh_model.specs.declared.config.Config.{Config}
 use Rattle.xh_model.specs.declared.limits.TheConstants.{MAX_WORKERS}
-use Rattle.xh_crew.specs.Plays.{ArePlayed, HasNames}
+use Rattle.xh_crew.specs.Plays.{ArePlayed}
 use Rattle.xh_runner.specs.Workers.{WorkerState, did}
+use Rattle.xh_script.specs.declared.replies.Answered.{Answered}
 use Rattle.xh_script.specs.Scripts.{Listing}
 use Rattle.xh_session.specs.declared.report.Report.{Report}
 
@@ -26,16 +27,23 @@ pub record AreNew (parts : PartsOf) (workers : List WorkerState) : Type 0 where
   pub looks : All (λ l. l ≡ fresh_look parts.histories) (looks_of workers)
   pub count : length workers ≡ MAX_WORKERS
 
--- A report tells a run of a script by a kernel of these parts: workers of a kernel that was made by the configuration played its lines with the replies of the report, in
--- histories that lead so; and the report's ledger and its lines of what is in flight are those with which the books of this kernel were closed, over what these workers left.
-pub record RanOn (parts : PartsOf) (leads : Leading) (config : Config) (script : Listing) (report : Report) : Type 0 where
-  pub made : AreMadeBy config MAX_WORKERS parts
+-- new workers of a kernel of these parts, whose histories lead so, played a script's lines with these replies, and left these accounts and looks
+pub record HasPlayed (parts : PartsOf) (leads : Leading) (script : Listing) (answers : List Answered) (accounts : List AccountOf) (looks : List (LookOf Entry)) : Type 0 where
   pub workers : List WorkerState
   pub left : List WorkerState
   pub are_new : AreNew parts workers
-  pub played : ArePlayed (did parts leads) script.contracts script.lines report.answers.items workers left
-  pub closed : IsClosed parts (accounts_of left) (looks_of left) report.ledger report.flight.items
-  pub named : HasNames script.processes script.lines report.answers.items report.names.items
+  pub played : ArePlayed (did parts leads) script.contracts script.lines answers workers left
+  pub accounts_are : accounts_of left ≡ accounts
+  pub looks_are : looks_of left ≡ looks
+
+-- A report tells a run of a script by a kernel of these parts: it was made by the configuration, its workers played the script's lines with the report's replies, in histories that lead
+-- so; and the report's ledger and its lines of what is in flight are those with which the books of this kernel were closed, over what these workers left.
+pub record RanOn (parts : PartsOf) (leads : Leading) (config : Config) (script : Listing) (report : Report) : Type 0 where
+  pub made : AreMadeBy config MAX_WORKERS parts
+  pub accounts : List AccountOf
+  pub looks : List (LookOf Entry)
+  pub played : HasPlayed parts leads script report.answers.items accounts looks
+  pub closed : IsClosed parts accounts looks report.ledger report.flight.items
 
 -- the same of a kernel of some parts, whose histories lead where the law says
 abbrev pub HasRun : Config → Listing → Report → Type 0

@@ -11,7 +11,8 @@ use Rattle.xh_kernel.specs.Looks.{HasGlanced}
 use Rattle.xh_kernel.specs.Accounts.{AccountOf, VaultRefuses}
 use Rattle.xh_calls.specs.declared.call.Call.TheVariants as call
 use Rattle.xh_calls.specs.Leading.{Leading}
-use Rattle.xh_calls.specs.Messages.{Takes}
+use Rattle.xh_calls.specs.Places.{status_at}
+use Rattle.xh_place.specs.Messages.{TakesAt}
 use Rattle.xh_kernel.specs.Endings.{Exits, Kills}
 use Rattle.xh_kernel.specs.Histories.{Did}
 use Rattle.xh_kernel.specs.Waits.{AtLast, SpawnsAt}
@@ -60,7 +61,7 @@ module _ (parts : PartsOf) (leads : Leading) where
   Asked (Give p e tag blocks) a old new = Did parts leads p (call.Give p e tag blocks a) old new
   Asked (Take p e false) a old new = (t : Result Taken Refused) × (a ≡ gotten_answer t) × Did parts leads p (call.Take p e t) old new
   Asked (Take p e true) a old new = (t : Result Taken Refused) × (a ≡ gotten_answer t) × (a ≢ Err Empty)
-      × AtLast leads (place_of p) (call.Take p e) (λ answer from to. Takes p e from to answer) (Err Empty) t old new
+      × AtLast leads (place_of p) (call.Take p e) (λ answer from to. TakesAt (status_at p from.place) e from to answer) (Err Empty) t old new
   Asked (Free p r) a old new = Did parts leads p (call.Free p r a) old new
   Asked (Close p e) a old new = (bytes : ℕ) × Did parts leads p (call.Close p e bytes a) old new
   Asked (Exit p budget) a old new = Exits leads p (min budget MAX_BUDGET) old new a

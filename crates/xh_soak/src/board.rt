@@ -7,6 +7,9 @@ use xh_model::limits::PLACES;
 /// So many places of blocks and of ends are known to all workers.
 pub(crate) const HINTS: u16 = 64;
 
+/// Where it stands that the first worker is there, behind the waits of all sixteen.
+pub(crate) const FIRST: u16 = 16;
+
 /// So many numbers of processes there are.
 pub(crate) const PROCESSES: u16 = 4096;
 
@@ -49,14 +52,16 @@ impl Words {
     }
 }
 
-/// The process that each worker started last; which processes have started, and which somebody meant to end; where blocks
-/// and ends were seen, some of which are there no more; the blocks of each message by its tag; and at the end the records
-/// that have an owner, and how many blocks each place holds.
+/// The process that each worker started last; which processes have started, and which somebody meant to end; with which
+/// process and endpoint each worker waits for room, and whether the first is there; where blocks and ends were seen, some of
+/// which are there no more; the blocks of each message by its tag; and at the end the records that have an owner, and how
+/// many blocks each place holds.
 #[derive(Drop)]
 pub(crate) struct Board {
     pub(crate) processes: Words,
     pub(crate) started: Words,
     pub(crate) aimed_at: Words,
+    pub(crate) waits: Words,
     pub(crate) blocks: Words,
     pub(crate) ends: Words,
     pub(crate) messages: Words,
@@ -71,6 +76,7 @@ impl Board {
             processes: Words::new(alloc, u16::from(workers))?,
             started: Words::new(alloc, PROCESSES)?,
             aimed_at: Words::new(alloc, PROCESSES)?,
+            waits: Words::new(alloc, 17)?,
             blocks: Words::new(alloc, HINTS)?,
             ends: Words::new(alloc, HINTS)?,
             messages: Words::new(alloc, 16 * COMMANDS)?,

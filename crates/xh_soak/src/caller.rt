@@ -6,11 +6,8 @@ use std::time::{Clock, Instant};
 use xh_core::{Block, Refused};
 use xh_kernel::{Account, Kernel, Names, OpenGate, Taken};
 
-/// The name of a refusal, or what was wrong.
-pub(crate) type Name = &'static str;
-
-/// What was answered.
-pub(crate) type Told<T> = Result<T, Name>;
+/// What was answered; or the name of a refusal, or what was wrong.
+pub(crate) type Told<T> = Result<T, &'static str>;
 
 /// A call; but for a spawn its process stands first. A read, a write and a write in place are of eight bytes; a give and a
 /// take are at once, or until a time.
@@ -19,12 +16,12 @@ pub(crate) enum Call<'a> {
     Spawn,
     Wire(u16, u16, u32),
     Alloc(u16, u32, u32),
-    Split(u16, u16, u32),
     Read(u16, u16, u32),
     Write(u16, u16, u32, u64),
     InPlace(u16, u16, u64),
     Free(u16, u16),
     Give(u16, u16, u16, &'a [u16], Option<Instant>),
+    GiveWait(u16, u16, u16, &'a [u16]),
     Take(u16, u16, Option<Instant>),
     TakeAny(u16, &'a [u16], Option<Instant>),
     Close(u16, u16),
@@ -67,10 +64,6 @@ impl<'a, N: Names, R: Wait + Clock> Hired<'a, N, R> {
                 let block = kernel.alloc(rt, self.alloc, p, bytes, arena, to, gate)?;
                 Blocks(block, block)
             }
-            Call::Split(p, r, at) => {
-                let (head, tail) = kernel.split(rt, self.alloc, p, r, at, to, gate)?;
-                Blocks(head, tail)
-            }
             Call::Read(p, r, at) => {
                 let mut word = [0u8; 8];
                 kernel.read(rt, p, r, at, &mut word, to, gate)?;
@@ -93,6 +86,9 @@ impl<'a, N: Names, R: Wait + Clock> Hired<'a, N, R> {
             Call::Give(p, e, t, load, None) => Number(kernel.give(rt, p, e, t, load, to, gate)?),
             Call::Give(p, e, t, load, Some(by)) => {
                 Number(kernel.give_wait_until(rt, p, e, t, load, by, to, gate)?)
+            }
+            Call::GiveWait(p, e, t, load) => {
+                Number(kernel.give_wait(rt, p, e, t, load, to, gate)?)
             }
             Call::Take(p, e, None) => Message(kernel.take(rt, p, e, to, gate)?),
             Call::Take(p, e, Some(by)) => Message(kernel.take_wait_until(rt, p, e, by, to, gate)?),

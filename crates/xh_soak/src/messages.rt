@@ -1,9 +1,10 @@
 //! What a worker does with endpoints, and how processes end.
-use crate::board::{HINTS, Words};
+use crate::board::{FIRST, HINTS, Words};
 use crate::caller::Answer::{Blocks, Message, Number};
 use crate::caller::{Call, Caller};
 use crate::worker::Worker;
 use arrayvec::ArrayVec;
+use std::sync::Wait;
 use std::time::{Clock, Duration, Instant};
 use xh_kernel::Got;
 
@@ -30,13 +31,25 @@ fn gather(words: &Words, p: u16, not: u16, most: u32, goes: bool) -> ArrayVec<u1
     found
 }
 
-impl<'a, C: Caller, R: Clock> Worker<'a, C, R> {
+impl<'a, C: Caller, R: Wait + Clock> Worker<'a, C, R> {
     // A time at times, in some milliseconds.
     fn until(&mut self) -> Option<Instant> {
         let millis = self.chance.below(24);
         let wait = Duration::from_millis(u64::from(millis));
         let now = Instant::now(self.rt).ok()?;
         now.checked_add(wait).filter(|_| millis < 3)
+    }
+
+    // A give: at once, until a time, or without end, as long as the first worker is there, which ends such waits.
+    fn gives<'b>(&mut self, p: u16, e: u16, load: &'b [u16]) -> Call<'b> {
+        let until = self.until();
+        if until.is_some() && self.number > 0 && self.chance.one_in(2) {
+            self.board.waits.see(self.number, p, e);
+            if self.board.waits.get(FIRST) != 0 {
+                return Call::GiveWait(p, e, self.tag, load);
+            }
+        }
+        Call::Give(p, e, self.tag, load, until)
     }
 
     /// A channel between two processes of one group, or of one alone.
@@ -69,8 +82,9 @@ impl<'a, C: Caller, R: Clock> Worker<'a, C, R> {
         }
         board.messages.set(self.tag, load.iter().fold(1, joined));
         let may = ["NotOwned", "NotEndpoint", "Full", "PeerClosed"];
-        let until = self.until();
-        let sent = self.ask(p, Call::Give(p, e, self.tag, &load, until), &may);
+        let call = self.gives(p, e, &load);
+        let sent = self.ask(p, call, &may);
+        board.waits.set(self.number, 0);
         if sent.is_none() {
             for r in &load {
                 self.meet(p, *r);

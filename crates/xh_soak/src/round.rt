@@ -17,7 +17,7 @@ use xh_core::Refused;
 use xh_kernel::{Account, Kernel, Names, Parts};
 
 // The workers work, each in a thread of its own. How many messages they took.
-fn work_all<C: Caller + Send, R: Threads + Clock + Sync>(
+fn work_all<C: Caller + Send, R: Threads + Wait + Clock + Sync>(
     rt: &R,
     workers: &mut [Worker<C, R>],
 ) -> Told<u64> {
@@ -74,8 +74,8 @@ fn play_named<N: Names + Send + Sync, R: Threads + Wait + Clock + Sync>(
         Ok(mut workers) => Ok(work_all(rt, &mut workers)),
         Err(refused) => Err(refused),
     };
-    let books = close_kernel(alloc, kernel, accounts, looks);
-    Ok((played?, books?))
+    let (played, books) = close_kernel(alloc, kernel, Ok::<_, Refused>((played, accounts, looks)))?;
+    Ok((played?, books))
 }
 
 /// A round by a plan: how many messages its workers took, or what was wrong.

@@ -1,10 +1,11 @@
 //! A worker: random commands of any process on any record.
 ghost use Rattle.std.specs.Prelude.{◌<◌};
 
-use crate::board::{Board, COMMANDS, HINTS, PROCESSES, Words};
+use crate::board::{Board, COMMANDS, FIRST, HINTS, PROCESSES, Words};
 use crate::caller::Answer::{self, Blocks, Number};
-use crate::caller::{Call, Caller, Name, Told};
+use crate::caller::{Call, Caller, Told};
 use crate::plan::{Chance, Plan};
+use std::sync::Wait;
 use std::time::Clock;
 use xh_model::limits::MAX_WEAR;
 
@@ -24,7 +25,7 @@ pub(crate) struct Worker<'a, C, R> {
     pub(crate) wrong: Option<&'static str>,
 }
 
-impl<'a, C: Caller, R: Clock> Worker<'a, C, R> {
+impl<'a, C: Caller, R: Wait + Clock> Worker<'a, C, R> {
     /// The worker of a number, which does the caller's calls.
     pub(crate) fn new(rt: &'a R, board: &'a Board, plan: Plan, number: usize, caller: C) -> Self {
         let number = (number % 16) as u16;
@@ -44,14 +45,35 @@ impl<'a, C: Caller, R: Clock> Worker<'a, C, R> {
 
     /// Does its commands, as long as nothing is wrong.
     pub(crate) fn work(&mut self) {
+        let is_first = self.number == 0;
+        if is_first {
+            self.board.waits.set(FIRST, 1);
+        }
         for command in 0..self.plan.commands.min(COMMANDS) {
-            if self.wrong.is_some() {
-                return;
+            if self.wrong.is_none() {
+                self.is_known = true;
+                self.tag = self.number.wrapping_mul(COMMANDS).wrapping_add(command);
+                self.start_own();
+                self.act();
             }
+        }
+        if is_first {
+            self.end_waits();
+        }
+    }
+
+    // From now on no wait without end begins, and each process ends that has one.
+    fn end_waits(&mut self) {
+        let board = self.board;
+        board.waits.set(FIRST, 0);
+        for _ in self.rt.forever() {
+            let Some((p, _)) = (0..16).find_map(|number| board.waits.seen(number)) else {
+                return;
+            };
             self.is_known = true;
-            self.tag = self.number.wrapping_mul(COMMANDS).wrapping_add(command);
-            self.start_own();
-            self.act();
+            let p = self.named(p);
+            self.board.aimed_at.set(p, 1);
+            let _bytes = self.ask(p, Call::Exit(p, 4096), &[]);
         }
     }
 
@@ -72,8 +94,7 @@ impl<'a, C: Caller, R: Clock> Worker<'a, C, R> {
     // Does a command.
     fn act(&mut self) {
         match self.chance.below(1024) {
-            0..=191 => self.alloc(),
-            192..=239 => self.split(),
+            0..=239 => self.alloc(),
             240..=367 => self.read_or_write(),
             368..=495 => self.free(),
             496..=719 => self.give(),
@@ -91,13 +112,18 @@ impl<'a, C: Caller, R: Clock> Worker<'a, C, R> {
     }
 
     /// Does a call of the process.
-    pub(crate) fn ask(&mut self, p: u16, call: Call, may: &[Name]) -> Option<Answer> {
+    pub(crate) fn ask(&mut self, p: u16, call: Call, may: &[&'static str]) -> Option<Answer> {
         let told = self.caller.call(call);
         self.judge(p, told, may)
     }
 
     /// What a call of the process answered. A refusal has to be one of these, or that the process doesn't run.
-    pub(crate) fn judge(&mut self, p: u16, told: Told<Answer>, may: &[Name]) -> Option<Answer> {
+    pub(crate) fn judge(
+        &mut self,
+        p: u16,
+        told: Told<Answer>,
+        may: &[&'static str],
+    ) -> Option<Answer> {
         match told {
             Ok(answer) => Some(answer),
             Err(why) => {
@@ -194,17 +220,6 @@ impl<'a, C: Caller, R: Clock> Worker<'a, C, R> {
             let is_whole = block.len == bytes.div_ceil(16).saturating_mul(16);
             self.claim(is_whole, "another length");
             self.meet(p, block.rec);
-        }
-    }
-
-    fn split(&mut self) {
-        let (p, r) = self.seen(&self.board.blocks, false);
-        let at = (self.chance.below(4) + 1) * 16;
-        let may = ["NotOwned", "NotData", "BadCut", "NoRecord", "OutOfMemory"];
-        if let Some(Blocks(head, tail)) = self.ask(p, Call::Split(p, r, at), &may) {
-            let is_cut = head.rec == r && head.len == at && tail.len > 0;
-            self.claim(is_cut, "another cut");
-            self.meet(p, tail.rec);
         }
     }
 

@@ -10,7 +10,7 @@ use crate::several::{Step, assert_deadlines, assert_steps, assert_turns};
 use crate::waiting::{Waiting, assert_wait};
 use crate::wiring::{Hold, assert_refused};
 use crate::without_memory::assert_whole;
-use std::alloc::{AllocError, Global};
+use std::alloc::Global;
 use std::marker::Brand;
 use std::process::Abort;
 use std::sync::Wait;
@@ -230,15 +230,16 @@ fn by_workers<N: Names + Send + Sync, R: Threads + Wait + Clock + Abort + Sync, 
     accounts: Vec<Account<N>>,
     looks: Vec<Look>,
     case: Case,
-) -> Result<(Vec<Account<N>>, Vec<Look>), AllocError>
+) -> Result<((), Vec<Account<N>>, Vec<Look>), Refused>
     requires count { vec_len looks ≡ vec_len accounts }
     requires own { All (λ l. l.table ≡ N.parts.histories) looks.items }
-    ensures count { IfOk result (λ r. vec_len r.0 ≡ vec_len accounts) }
-    ensures own { IfOk result (λ r. All (λ l. l.table ≡ N.parts.histories) r.1.items) }
+    ensures count { IfOk result (λ r. vec_len r.1 ≡ vec_len accounts) }
+    ensures own { IfOk result (λ r. All (λ l. l.table ≡ N.parts.histories) r.2.items) }
 {
     let mut workers = hire(rt, alloc, kernel, gate, accounts, looks)?;
     try_case(rt, alloc, &mut workers, case);
-    leave_all(alloc, workers)
+    let (accounts, looks) = leave_all(alloc, workers)?;
+    Ok(((), accounts, looks))
 }
 
 /// The case on a kernel of the parts; its ledger.
@@ -256,16 +257,9 @@ fn on_parts<N: Names + Send + Sync, R: Threads + Wait + Clock + Abort + Sync, G:
         Ok(made) => made,
         Err(refused) => return Err(refused),
     };
-    match by_workers(rt, alloc, &kernel, gate, accounts, looks, case) {
-        Ok((accounts, looks)) => {
-            let books = close_kernel(alloc, kernel, accounts, looks)?;
-            Ok(books.ledger)
-        }
-        Err(_refused) => {
-            kernel.discard();
-            Err(Refused::OutOfMemory)
-        }
-    }
+    let tried = by_workers(rt, alloc, &kernel, gate, accounts, looks, case);
+    let ((), books) = close_kernel(alloc, kernel, tried)?;
+    Ok(books.ledger)
 }
 
 /// The case on a new kernel for so many workers, whose calls stop for the gate; its ledger.

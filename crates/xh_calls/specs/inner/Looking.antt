@@ -1,11 +1,12 @@
 -- What the looks at several endpoints of a place go by.
 use Rattle.std.specs.Prelude.{◌≡◌, ℕ, suc, Bool, true, false, cond, ◌||◌, List, [], ◌∷◌, None, is_ok, Result, Ok, Err}
+use Rattle.xh_core.specs.Calls.{start}
 use Rattle.xh_core.specs.Headers.{has_end}
 use Rattle.xh_core.specs.Refusing.{first_refusal}
 use Rattle.xh_core.specs.declared.refused.Refused.{Refused}
 use Rattle.xh_core.specs.declared.refused.Refused.TheVariants.{Empty}
 use Rattle.xh_calls.specs.declared.several.Answered.{Answered}
-use Rattle.xh_calls.specs.Places.{start}
+use Rattle.xh_calls.specs.Places.{status_at}
 use Rattle.xh_place.specs.Places.{PlaceOf, found}
 
 -- each is an endpoint of the place
@@ -15,7 +16,7 @@ AreEndsOf place (e ∷ es) = (has_end (found place e) ≡ true) × AreEndsOf pla
 
 -- and its process runs
 abbrev pub AreReady : ℕ → PlaceOf → List ℕ → Type 0
-AreReady p place ends = (first_refusal (start p place) ≡ None) × AreEndsOf place ends
+AreReady p place ends = (first_refusal (start (status_at p place)) ≡ None) × AreEndsOf place ends
 
 abbrev pub is_empty : Refused → Bool
 is_empty Empty = true

@@ -11,7 +11,7 @@ has_depth depth None = false
 has_depth depth (Some p) = p.low.depth == depth
 
 abbrev pub StandAtTheirNumbers : List (Option FreePair) → Type 0
-StandAtTheirNumbers free = (i : ℕ) (p : FreePair) → at_place free i ≡ Some p → p.low.channel ≡ i
+StandAtTheirNumbers free = (i : ℕ) (p : FreePair) → at_place free i ≡ Some p → p.low.spot.channel ≡ i
 
 -- no number is free
 abbrev pub NoneFree : ℕ → List (Option FreePair) → Type 0

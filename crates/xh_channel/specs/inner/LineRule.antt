@@ -1,4 +1,4 @@
--- The rule of a line's table: the line at home is as the two sides' accounts say, and so a drained side has taken all that the other put.
+-- The rule of a line's table: the line at home is as the two sides' accounts say.
 -- One seat owns the account of a side, one at most holds the line, and what a seat was told is no more than the side did.
 use Rattle.std.specs.Prelude.{◌≡◌, ◌≢◌, ◌⊎◌, ℕ, zero, suc, ◌-◌, ◌≤◌, ◌==◌, true, false, ◌||◌, List, [], ◌∷◌, ◌++◌, length, take, Option, Some, None}
 use mathlib.Core.Option.{none, some}
@@ -12,9 +12,8 @@ use Rattle.xh_channel.specs.declared.line_end.LineEnd.{LineEnd}
 use Rattle.xh_channel.specs.declared.line_rule.Account.{Account}
 use Rattle.xh_channel.specs.declared.line_rule.Part.{Part}
 use Rattle.xh_channel.specs.declared.message.Message.{Message}
-use Rattle.xh_channel.specs.Ends.{no_counts}
 use Rattle.xh_channel.specs.LineSeats.{LineView}
-use Rattle.xh_channel.specs.Lines.{Lined, end_of, is_drained, waiting}
+use Rattle.xh_channel.specs.Lines.{Lined, end_of, no_counts, waiting}
 use Rattle.xh_channel.specs.Numbers.{number}
 
 -- of side 0, or of side 1
@@ -23,7 +22,7 @@ by zero low high = low
 by (suc _) low high = high
 
 abbrev pub no_account : Account
-no_account = record { rows = []; depth = 0; state = 0; sent = []; got = []; shut = false; drained = false }
+no_account = record { rows = []; depth = 0; state = 0; sent = []; got = []; shut = false }
 
 abbrev pub counts_in : Account → Counts
 counts_in a = record { put = length a.sent; taken = length a.got; shut = a.shut }
@@ -43,7 +42,6 @@ pub record IsEndBy (line : Lined) (end : LineEnd) (own peer : Account) : Type 0 
   pub state : end.state ≡ own.state
   pub counts : end.counts ≡ counts_in own
   pub waits : IsDirection number peer.sent own.got (waiting end)
-  pub drained : is_drained end ≡ own.drained
 
 -- what lies in the slot is as the accounts of side 0 and of side 1 say
 abbrev pub Lies : Option Lined → Account → Account → Type 0
@@ -76,11 +74,11 @@ pub record Owns (t : Truth) (id : ℕ) (v : Part) : Type 0 where
   pub knows : v.holds ≡ true → by v.side t.high t.low ≡ v.peer
   pub both : v.both ≡ true → (by v.side t.high_seat t.low_seat ≡ id) × (by v.side t.high t.low ≡ v.peer)
 
-abbrev pub Fits : Truth → ℕ → Part → Type 0
-Fits t id v = (v.owns ≡ true → Owns t id v) × IsTold v.told (by v.side t.high t.low) × IsTold v.peer_told (by v.side t.low t.high)
+abbrev pub IsTrueOf : Truth → ℕ → Part → Type 0
+IsTrueOf t id v = (v.owns ≡ true → Owns t id v) × IsTold v.told (by v.side t.high t.low) × IsTold v.peer_told (by v.side t.low t.high)
 
 abbrev pub Kept : State (Option Lined) Part → Type 0
-Kept s = (t : Truth) × (IsHome t s.words s.homes ⊎ IsOut t s.words s.homes) × ((id : ℕ) (v : Part) → get_elem? s.views id ≡ some v → Fits t id v)
+Kept s = (t : Truth) × (IsHome t s.words s.homes ⊎ IsOut t s.words s.homes) × ((id : ℕ) (v : Part) → get_elem? s.views id ≡ some v → IsTrueOf t id v)
 
 -- the seat of both sides, which did nothing
 abbrev pub both_sides : Part
@@ -110,7 +108,6 @@ own_by v line = record {
   sent = v.peer.got ++ waiting (end_of line (1 - v.side));
   got = take (end_of line v.side).counts.taken v.peer.sent;
   shut = (end_of line v.side).counts.shut;
-  drained = is_drained (end_of line v.side);
 }
 
 -- its peer's, which put and took nothing meanwhile
@@ -130,9 +127,9 @@ settled v (x ∷ xs) = settled_by v x.1
 abbrev pub IsSettled : Part → Lined → Type 0
 IsSettled v line = LiesFor v.side (Some line) (own_by v line) (peer_by v line) × Grows v.own (own_by v line) × ((peer_by v line ≡ v.peer) ⊎ (v.both ≡ true)) × IsTold v.told v.peer
 
--- what the one side took is a beginning of what the other put, and all of it where that side is drained, which was shut then
+-- what the one side took is a beginning of what the other put
 abbrev pub IsTaken : Account → Account → Type 0
-IsTaken from to = ((items : List Message) × IsDirection number from.sent to.got items) × (to.drained ≡ true → (to.shut ≡ true) × (to.got ≡ from.sent))
+IsTaken from to = (items : List Message) × IsDirection number from.sent to.got items
 
 -- the seat has taken the line, and knows both accounts
 abbrev pub IsLocked : Me (Option Lined) Part → Me (Option Lined) Part → Type 0
@@ -191,8 +188,6 @@ line_view table v = record {
   sent = v.own.sent;
   got = v.own.got;
   shut = v.own.shut;
-  drained = v.own.drained;
   peer_shut = v.told.shut;
-  told_put = v.told.put;
-  told_taken = v.told.taken;
+  told = record { put = v.told.put; taken = v.told.taken };
 }

@@ -1,18 +1,18 @@
 -- What the workers of a run on threads do, and where their replies go.
-use Rattle.std.specs.Prelude.{◌≡◌, ◌<◌, ◌≤◌, suc, if◌then◌else◌, Bool, ℕ, List, [], ◌∷◌, ◌++◌, length, map, slice_index_or, slice_set, MatchResult, None, Result}
+use Rattle.std.specs.Prelude.{◌≡◌, ◌==◌, ◌<◌, suc, if◌then◌else◌, Bool, ℕ, List, [], ◌∷◌, length, MatchResult, None, Result}
 use Rattle.xh_model.specs.declared.limits.TheConstants.{PLACES}
 use Rattle.xh_crew.specs.declared.crew.Hand.{Hand}
 use Rattle.xh_crew.specs.declared.crew.Hand.TheVariants.{Works, Idle}
 use Rattle.xh_crew.specs.declared.job.Done.{Done}
 use Rattle.xh_crew.specs.declared.job.Job.{Job}
 use Rattle.xh_crew.specs.declared.job.Shared.{Shared}
-use Rattle.xh_crew.specs.declared.run.Played.{Played}
 use Rattle.xh_crew.specs.Stops.{Stops}
-use Rattle.xh_crew.specs.Plays.{AllZipFrom, Does, DoesAmong, LAST, Plays, names_renewed, other_of, part, part_of}
+use Rattle.xh_crew.specs.Plays.{AllZipFrom, DoesAmong, Plays, names_renewed, other_of, part, part_of}
 use Rattle.xh_script.specs.declared.command.Line.{Line}
 use Rattle.xh_script.specs.declared.fault.Fault.{Fault}
 use Rattle.xh_script.specs.declared.replies.Answered.{Answered}
 use Rattle.xh_script.specs.declared.replies.Reply.{Reply}
+use Rattle.xh_script.specs.declared.replies.Reply.TheVariants.{Started}
 use Rattle.xh_session.specs.Bindings.{Bindings, process_at, renumbered}
 use Rattle.xh_session.specs.Plans.{World}
 use Rattle.xh_session.specs.Questions.{Question, Answer}
@@ -38,27 +38,6 @@ module _ {M S : Type 0} (state : M → S) where
     -- what is left of the place k, by the machine
     abbrev pub PlaceIsDone : World S → List Line → ℕ → M → Done M → Type 0
     PlaceIsDone ready lines k machine done = Left ready.names lines k (record ready { machine = state machine }) done
-
--- ---- a whole run
-
--- the replies of the places
-abbrev pub replies_of : {M : Type 0} → List (Done M) → List (List Reply)
-replies_of dones = map (λ done. done.replies.items) dones
-
--- the replies of all parts
-abbrev pub queues_of : {M : Type 0} → Played M → List (List Reply)
-queues_of p = p.head.items ∷ (replies_of p.dones.items ++ p.rest.items ∷ [])
-
--- all lines were played, from this world of the head on, and the head's machine ended so
-pub record HavePlayed {M S : Type 0} (state : M → S) (did : S → (q : Question) → Answer q → S → Type 0) (lines : List Line) (first : World S) (olds : List M) (last : S) (p : Played M) : Type 0 where
-  pub ready : World S
-  pub end : World S
-  pub count : length olds ≡ PLACES
-  pub names : p.ready ≡ ready.names
-  pub head : Plays (Does did) first (part ready.names 0 lines) p.head.items ready
-  pub places : AllZipFrom (PlaceIsDone state did ready lines) 0 olds p.dones.items
-  pub rest : Plays (Does did) ready (part ready.names LAST lines) p.rest.items end
-  pub left : end.machine ≡ last
 
 -- ---- a thread
 
@@ -95,18 +74,22 @@ module _ {M G S : Type 0} (state : M → S) where
 
 -- ---- the replies
 
--- the replies of a part that are not yet given out
-abbrev pub queue_at : List (List Reply) → ℕ → List Reply
-queue_at queues k = slice_index_or queues k []
+-- the next of the replies, and those behind it
+abbrev pub next_of : List Reply → Reply
+next_of [] = Started 0
+next_of (reply ∷ replies) = reply
 
--- each line gets the next reply of its part
-abbrev pub Deals : Bindings → List Line → List (List Reply) → List Answered → Type 0
-Deals b [] queues [] = Unit {0}
-Deals b [] queues (a ∷ answers) = ⊥
-Deals b (line ∷ lines) queues [] = ⊥
-Deals b (line ∷ lines) queues (a ∷ answers) = (rest : List Reply) × (a.line ≡ line.number) × (queue_at queues (part_of b line) ≡ a.reply ∷ rest)
-    × Deals b lines (slice_set queues (part_of b line) rest) answers
+abbrev pub behind : List Reply → List Reply
+behind [] = []
+behind (reply ∷ replies) = replies
 
--- there are as many replies of each part as it has lines
-abbrev pub Fits : Bindings → List Line → List (List Reply) → Type 0
-Fits b lines queues = (length queues ≡ suc LAST) × ((k : ℕ) → k ≤ LAST → length (queue_at queues k) ≡ length (part b k lines))
+-- each line of a part has the next of its replies; the others stay as they are
+abbrev pub filled : Bindings → ℕ → List Line → List Answered → List Reply → List Answered
+filled b k [] answers replies = answers
+filled b k (line ∷ lines) [] replies = []
+filled b k (line ∷ lines) (a ∷ answers) replies = if part_of b line == k then record a { reply = next_of replies } ∷ filled b k lines answers (behind replies) else a ∷ filled b k lines answers replies
+
+-- the lines of the places have theirs, from the place k on
+abbrev pub filled_all : {M : Type 0} → Bindings → ℕ → List Line → List Answered → List (Done M) → List Answered
+filled_all b k lines answers [] = answers
+filled_all b k lines answers (done ∷ dones) = filled_all b (suc k) lines (filled b (suc k) lines answers done.replies.items) dones

@@ -13,11 +13,11 @@ use Rattle.xh_calls.specs.Parts.{PartsOf, IsOpen, vault_names}
 use Rattle.xh_calls.specs.declared.call.Entry.{Entry}
 
 -- the seat of the place k, at its first generation, which holds nothing
-abbrev pub IsSeatAt : RecordsOf → ℕ → Held Body → Type 0
-IsSeatAt all k x = IsSeatOf all x × (x.process ≡ k) × (x.lots ≡ [])
+abbrev pub IsFirstSeat : RecordsOf → ℕ → Held Body → Type 0
+IsFirstSeat all k x = IsSeatOf all x × (x.process ≡ k) × (x.lots ≡ [])
 
 abbrev pub AreSeats : RecordsOf → List (Held Body) → Type 0
-AreSeats all xs = (length xs ≡ PLACES) × ((k : ℕ) (x : Held Body) → slice_get xs k ≡ Some x → IsSeatAt all k x)
+AreSeats all xs = (length xs ≡ PLACES) × ((k : ℕ) (x : Held Body) → slice_get xs k ≡ Some x → IsFirstSeat all k x)
 
 -- the pen of each place's history, in which no call stands yet
 abbrev pub ArePens : TableId → List (PenOf Entry) → Type 0

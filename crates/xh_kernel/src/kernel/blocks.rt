@@ -1,12 +1,14 @@
 //! The calls of a process on its data blocks.
 ghost use Rattle.std.specs.Prelude.{◌≡◌, OnErr};
-ghost use Rattle.xh_calls.specs.Calls.{Allocates, Frees, Reads, Splits, Writes};
+ghost use Rattle.xh_calls.specs.Calls.{space_of};
+ghost use Rattle.xh_calls.specs.Places.{status_at};
 ghost use Rattle.xh_core.specs.Space.{rounded};
 ghost use Rattle.xh_calls.specs.declared.call.Call.TheVariants as call;
 ghost use Rattle.xh_kernel.specs.Accounts.{VaultRefuses};
 ghost use Rattle.xh_kernel.specs.Calls.{Calls};
-ghost use Rattle.xh_kernel.specs.Lends.{Lends, LendsMut};
+ghost use Rattle.xh_kernel.specs.Lends.{LendsAll, LendsAllMut};
 ghost use Rattle.xh_model.specs.Words.{place_of};
+ghost use Rattle.xh_place.specs.Calls.{Allocates, FreesBlock, Reads, Splits, Writes};
 
 use crate::account::Account;
 use crate::held::Held;
@@ -32,7 +34,7 @@ impl<N: Names> Kernel<N> {
         account: &mut Account<N>,
         gate: &G,
     ) -> Result<Block, Refused>
-        ensures call { Calls N.leads (place_of p) (call.Alloc p n arena result) (λ old new. Allocates N.parts p n arena old new result) account.old account.new }
+        ensures call { Calls N.leads (place_of p) (call.Alloc p n arena result) (λ old new. Allocates (status_at p old.place) (space_of N.parts) n arena old new result) account.old account.new }
         ensures vault { VaultRefuses N.parts arena (rounded n) account.old account.new result }
     {
         let mut guard = self.held(rt, p);
@@ -69,7 +71,7 @@ impl<N: Names> Kernel<N> {
         account: &mut Account<N>,
         gate: &G,
     ) -> Result<(Block, Block), Refused>
-        ensures { Calls N.leads (place_of p) (call.Split p r k result) (λ old new. Splits p r k old new result) account.old account.new }
+        ensures { Calls N.leads (place_of p) (call.Split p r k result) (λ old new. Splits (status_at p old.place) r k old new result) account.old account.new }
     {
         let mut guard = self.held(rt, p);
         let held: &mut Held<N> = &mut guard;
@@ -95,7 +97,7 @@ impl<N: Names> Kernel<N> {
         account: &mut Account<N>,
         _gate: &G,
     ) -> Result<(), Refused>
-        ensures call { Calls N.leads (place_of p) (call.Read p r at out.new result) (λ old new. (new.place ≡ old.place) × Reads p r at old.place out.new result) account.old account.new }
+        ensures call { Calls N.leads (place_of p) (call.Read p r at out.new result) (λ old new. Reads (status_at p old.place) r at out.new old new result) account.old account.new }
         ensures refused { OnErr result (out.new ≡ out.old) }
     {
         let mut guard = self.held(rt, p);
@@ -120,7 +122,7 @@ impl<N: Names> Kernel<N> {
         account: &mut Account<N>,
         _gate: &G,
     ) -> Result<(), Refused>
-        ensures { Calls N.leads (place_of p) (call.Write p r at bytes.now result) (λ old new. Writes p r at bytes.now old.place new.place result) account.old account.new }
+        ensures { Calls N.leads (place_of p) (call.Write p r at bytes.now result) (λ old new. Writes (status_at p old.place) r at bytes.now old new result) account.old account.new }
     {
         let mut guard = self.held(rt, p);
         let held: &mut Held<N> = &mut guard;
@@ -145,7 +147,7 @@ impl<N: Names> Kernel<N> {
         _gate: &G,
     ) -> Result<A, Refused>
         requires { F.IsAlwaysCallable f.old }
-        ensures { Lends N.parts N.leads F.FnMut p r f.old f.new account.old account.new result }
+        ensures { LendsAll N.parts N.leads F.FnMut p r f.old f.new account.old account.new result }
     {
         let mut guard = self.held(rt, p);
         let held: &mut Held<N> = &mut guard;
@@ -168,7 +170,7 @@ impl<N: Names> Kernel<N> {
         _gate: &G,
     ) -> Result<A, Refused>
         requires { F.IsAlwaysCallable f.old }
-        ensures { LendsMut N.parts N.leads F.FnMut p r f.old f.new account.old account.new result }
+        ensures { LendsAllMut N.parts N.leads F.FnMut p r f.old f.new account.old account.new result }
     {
         let mut guard = self.held(rt, p);
         let held: &mut Held<N> = &mut guard;
@@ -200,7 +202,7 @@ impl<N: Names> Kernel<N> {
         account: &mut Account<N>,
         gate: &G,
     ) -> Result<u32, Refused>
-        ensures { Calls N.leads (place_of p) (call.Free p r result) (λ old new. Frees p r old.place new.place result) account.old account.new }
+        ensures { Calls N.leads (place_of p) (call.Free p r result) (λ old new. FreesBlock (status_at p old.place) r old new result) account.old account.new }
     {
         let mut guard = self.held(rt, p);
         let held: &mut Held<N> = &mut guard;

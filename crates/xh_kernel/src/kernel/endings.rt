@@ -2,10 +2,11 @@
 ghost use Rattle.std.specs.Prelude.{◌≡◌, ℕ};
 ghost use Rattle.xh_calls.specs.declared.call.Call.TheVariants as call;
 ghost use Rattle.xh_calls.specs.Calls.{Looks};
-ghost use Rattle.xh_calls.specs.Endings.{Closes};
+ghost use Rattle.xh_calls.specs.Places.{status_at};
 ghost use Rattle.xh_kernel.specs.Calls.{Calls};
 ghost use Rattle.xh_kernel.specs.Endings.{Exits, Kills};
 ghost use Rattle.xh_model.specs.Words.{place_of};
+ghost use Rattle.xh_place.specs.Calls.{Closes};
 ghost use Rattle.xh_place.specs.Ending.{back_of};
 
 use crate::account::Account;
@@ -29,7 +30,7 @@ impl<N: Names> Kernel<N> {
         account: &mut Account<N>,
         gate: &G,
     ) -> Result<u64, Refused>
-        ensures { (bytes : ℕ) × Calls N.leads (place_of p) (call.Close p e bytes result) (λ old new. Closes p e bytes old new result) account.old account.new }
+        ensures { (bytes : ℕ) × Calls N.leads (place_of p) (call.Close p e bytes result) (λ old new. Closes (status_at p old.place) e bytes old new result) account.old account.new }
     {
         self.close_with(rt, p, e, account, gate)
     }
@@ -45,7 +46,7 @@ impl<N: Names> Kernel<N> {
     ) -> Result<u64, Refused>
         ghost before: { ℕ }
         requires { before ≡ back_of account.old.tallies }
-        ensures { (bytes : ℕ) × Calls N.leads (place_of p) (call.Close p e bytes result) (λ old new. Closes p e bytes old new result) account.old account.new }
+        ensures { (bytes : ℕ) × Calls N.leads (place_of p) (call.Close p e bytes result) (λ old new. Closes (status_at p old.place) e bytes old new result) account.old account.new }
     {
         let mut guard = self.held(rt, p);
         let held: &mut Held<N> = &mut guard;

@@ -1,6 +1,7 @@
 //! Messages of a process.
 ghost use Rattle.std.specs.Prelude.{◌≢◌, Err, IfErr};
-ghost use Rattle.xh_calls.specs.Messages.{Gives, Takes};
+ghost use Rattle.xh_calls.specs.Places.{status_at};
+ghost use Rattle.xh_place.specs.Messages.{Gives, TakesAt};
 ghost use Rattle.xh_core.specs.declared.refused.Refused.TheVariants as refused;
 ghost use Rattle.xh_calls.specs.declared.call.Call.TheVariants as call;
 ghost use Rattle.xh_kernel.specs.Calls.{Calls};
@@ -33,17 +34,11 @@ impl<N: Names> Kernel<N> {
         account: &mut Account<N>,
         gate: &G,
     ) -> Result<u64, Refused>
-        ensures { Calls N.leads (place_of p) (call.Give p e tag blocks.now result) (λ old new. Gives p e tag blocks.now old new result) account.old account.new }
+        ensures { Calls N.leads (place_of p) (call.Give p e tag blocks.now result) (λ old new. Gives (status_at p old.place) e tag blocks.now old new result) account.old account.new }
     {
-        let mut guard = self.held(rt, p);
-        let held: &mut Held<N> = &mut guard;
-        let heap = &self.shared.heap;
-        let answer = heap.give(rt, &mut held.place, p, e, tag, blocks, gate);
-        let about = (p, e, tag, blocks, &answer);
-        held.scribe
-            .note(&self.shared, &held.place, &mut account.front, &about);
+        let mut held = self.held(rt, p);
+        let (answer, _waits) = held.give(rt, &self.shared, p, e, tag, blocks, account, gate);
         held.wake(rt, &self.shared);
-        drop(guard);
         answer
     }
 
@@ -61,7 +56,7 @@ impl<N: Names> Kernel<N> {
         account: &mut Account<N>,
         gate: &G,
     ) -> Result<Taken, Refused>
-        ensures { Calls N.leads (place_of p) (call.Take p e result) (λ old new. Takes p e old new result) account.old account.new }
+        ensures { Calls N.leads (place_of p) (call.Take p e result) (λ old new. TakesAt (status_at p old.place) e old new result) account.old account.new }
     {
         let mut guard = self.held(rt, p);
         let held: &mut Held<N> = &mut guard;
@@ -86,7 +81,7 @@ impl<N: Names> Kernel<N> {
         account: &mut Account<N>,
         gate: &G,
     ) -> Result<Taken, Refused>
-        ensures calls { AtLast N.leads (place_of p) (call.Take p e) (λ answer old new. Takes p e old new answer) (Err refused.Empty) result account.old account.new }
+        ensures calls { AtLast N.leads (place_of p) (call.Take p e) (λ answer old new. TakesAt (status_at p old.place) e old new answer) (Err refused.Empty) result account.old account.new }
         ensures waits { IfErr result (λ why. why ≢ refused.Empty) }
     {
         for _ in rt.forever() {

@@ -1,8 +1,9 @@
 //! Messages of a process that wait for room.
-ghost use Rattle.std.specs.Prelude.{◌≢◌};
-ghost use Rattle.xh_calls.specs.Messages.{Gives};
+ghost use Rattle.std.specs.Prelude.{◌≡◌};
+ghost use Rattle.xh_calls.specs.Places.{status_at};
+ghost use Rattle.xh_place.specs.Messages.{Gives};
 ghost use Rattle.xh_calls.specs.declared.call.Call.TheVariants as call;
-ghost use Rattle.xh_kernel.specs.Waits.{AtLast, no_room};
+ghost use Rattle.xh_kernel.specs.Waits.{AtLast, IsLastGive, no_room};
 ghost use Rattle.xh_model.specs.Words.{place_of};
 
 use super::waiting::is_past;
@@ -18,10 +19,10 @@ use xh_place::Gate;
 impl<N: Names> Kernel<N> {
     /// As `give`; where the direction is full and all blocks came back, it waits until the receiver takes, without a lock, and
     /// gives again. Each give in vain stands in the place's history. A process that ends meanwhile is answered Ended, and
-    /// PeerClosed comes once the peer is closed: nothing else ends the wait on a direction that has carried its last message, 2^62 - 1.
+    /// PeerClosed comes once the peer is closed.
     ///
-    /// NoProcess, Ended, NotOwned, NotEndpoint, TooMany, NotOwned, Twice, Protocol, PeerClosed; and Full where a block didn't come
-    /// back, with those that did.
+    /// NoProcess, Ended, NotOwned, NotEndpoint, TooMany, NotOwned, Twice, Protocol, PeerClosed; Full where a block didn't come
+    /// back, with those that did, and where the direction has carried its last message, 2^62 - 1.
     pub fn give_wait<R: Wait, G: Gate>(
         &self,
         rt: &R,
@@ -32,8 +33,9 @@ impl<N: Names> Kernel<N> {
         account: &mut Account<N>,
         gate: &G,
     ) -> Result<u64, Refused>
-        ensures calls { AtLast N.leads (place_of p) (call.Give p e tag blocks.now) (λ answer old new. Gives p e tag blocks.now old new answer) (no_room blocks.now) result account.old account.new }
-        ensures waits { result ≢ no_room blocks.now }
+        ensures calls { AtLast N.leads (place_of p) (call.Give p e tag blocks.now) (λ answer old new. Gives (status_at p old.place) e tag blocks.now old new answer)
+            (no_room blocks.now) result account.old account.new }
+        ensures waits { result ≡ no_room blocks.now → IsLastGive N.leads p e tag blocks.now result account.new }
     {
         // whether the take that makes room is to ring: a give that finds room at once asks for nothing
         let mut asks = false;
@@ -77,7 +79,8 @@ impl<N: Names> Kernel<N> {
         account: &mut Account<N>,
         gate: &G,
     ) -> Result<u64, Refused>
-        ensures { AtLast N.leads (place_of p) (call.Give p e tag blocks.now) (λ answer old new. Gives p e tag blocks.now old new answer) (no_room blocks.now) result account.old account.new }
+        ensures { AtLast N.leads (place_of p) (call.Give p e tag blocks.now) (λ answer old new. Gives (status_at p old.place) e tag blocks.now old new answer)
+            (no_room blocks.now) result account.old account.new }
     {
         let mut asks = false;
         for _ in rt.forever() {

@@ -1,6 +1,7 @@
 //! Messages at any of several endpoints of a process, and until a time.
 ghost use Rattle.std.specs.Prelude.{◌≡◌, [], Err, IfErr};
-ghost use Rattle.xh_calls.specs.Messages.{Takes};
+ghost use Rattle.xh_calls.specs.Places.{status_at};
+ghost use Rattle.xh_place.specs.Messages.{TakesAt};
 ghost use Rattle.xh_calls.specs.Several.{TakesAny};
 ghost use Rattle.xh_core.specs.declared.refused.Refused.TheVariants as refused;
 ghost use Rattle.xh_calls.specs.declared.call.Call.TheVariants as call;
@@ -39,7 +40,7 @@ impl<N: Names> Kernel<N> {
         account: &mut Account<N>,
         gate: &G,
     ) -> Result<Taken, Refused>
-        ensures { AtLast N.leads (place_of p) (call.Take p e) (λ answer old new. Takes p e old new answer) (Err refused.Empty) result account.old account.new }
+        ensures { AtLast N.leads (place_of p) (call.Take p e) (λ answer old new. TakesAt (status_at p old.place) e old new answer) (Err refused.Empty) result account.old account.new }
     {
         for _ in rt.forever() {
             let past = is_past(rt, deadline);

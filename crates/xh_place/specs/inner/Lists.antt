@@ -4,11 +4,11 @@ use Rattle.std.specs.List.{list_any}
 use Rattle.xh_arena.specs.Views.{LotOf}
 use Rattle.xh_model.specs.declared.event.Event.TheVariants.{Accept}
 use Rattle.xh_model.specs.Keyed.{Among, keys, value_at}
-use Rattle.xh_records.specs.Seats.{Held, did}
+use Rattle.xh_records.specs.Seats.{Held, SawAt, did}
 use Rattle.xh_place.specs.declared.body.Body.{Body}
 use Rattle.xh_place.specs.inner.Lots.{HasNow, carrying}
 use Rattle.xh_place.specs.Places.{IsBlock, item_in, item_of}
-use Rattle.xh_place.specs.Seen.{Arrived, IsElsewhere, SawAt}
+use Rattle.xh_place.specs.Seen.{Arrived, IsElsewhere}
 
 -- the list without a number
 abbrev pub less : ℕ → List ℕ → List ℕ

@@ -8,7 +8,7 @@ use Rattle.xh_model.specs.Keyed.{Among, keys, put}
 use Rattle.xh_records.specs.Deeds.{Deed}
 use Rattle.xh_records.specs.History.{StartsWith}
 use Rattle.xh_records.specs.Seats.{Held, did, with_lots}
-use Rattle.xh_channel.specs.Queues.{Posted}
+use Rattle.xh_channel.specs.Endpoint.{EndpointOf}
 use Rattle.xh_place.specs.declared.body.Body.{Body}
 use Rattle.xh_place.specs.declared.body.Body.TheVariants.{End}
 use Rattle.xh_core.specs.declared.header.Kind.TheVariants as kind
@@ -67,5 +67,9 @@ abbrev pub IsEnd : LotOf Body → Type 0
 IsEnd l = kind_of (content_of l.body) ≡ kind.End
 
 -- the lot's endpoint became another, as `does` says
-abbrev pub LotDoes : (Posted → Posted → Type 0) → LotOf Body → LotOf Body → Type 0
-LotDoes does old new = (before after : Posted) × (old.body ≡ End before) × (new ≡ record old { body = End after }) × does before after
+pub record LotDoes (does : EndpointOf → EndpointOf → Type 0) (old new : LotOf Body) : Type 0 where
+  pub before : EndpointOf
+  pub after : EndpointOf
+  pub was : old.body ≡ End before
+  pub becomes : new ≡ record old { body = End after }
+  pub did : does before after

@@ -12,7 +12,8 @@ use Rattle.xh_place.specs.Seen.{Sight, brings}
 
 -- the endpoint came on the direction to the end of the list, and was swept from there
 abbrev pub IsSweptLate : (ℕ → Sight → Type 0) → ℕ → ℕ → PlaceOf → PlaceOf → ℕ → Type 0
-IsSweptLate saw d r old new sum = (x : Item) × (left : ℕ) × IsSwept saw (length old.blocks) MAX_BUDGET (with_more d ((r, x) ∷ []) old) new sum left × (new ≡ with_list old new) × IsWhole x × saw r (brings d x)
+IsSweptLate saw d r old new sum = (x : Item) × (left : ℕ) × IsSwept saw (length old.blocks) MAX_BUDGET (with_more d ((r, x) ∷ []) old) new sum left
+    × (new ≡ with_list old new) × IsWhole x × saw r (brings d x)
 
 -- the endpoint was drained, and what came with its messages is at the end of the list
 abbrev pub Drains : (ℕ → Sight → Type 0) → ℕ → PlaceOf → PlaceOf → Type 0

@@ -1,8 +1,8 @@
 //! Data blocks of a place.
-ghost use Rattle.std.specs.Prelude.{◌≡◌, ℕ, ◌+◌, ◌/◌, ◌%◌, ◌<◌, ◌≤◌, ◌∷◌, [], ◌++◌, is_none, length, Some, Err, IfErr, OnErr, OnOk, MatchOption};
-ghost use Rattle.xh_core.specs.Calls.{alloc_tests, data_tests, split_tests};
+ghost use Rattle.std.specs.Prelude.{◌≡◌, ◌≢◌, ℕ, ◌+◌, ◌/◌, ◌%◌, ◌<◌, ◌≤◌, ◌∷◌, [], ◌++◌, is_none, length, Some, IfErr, MatchResult, OnErr, OnOk};
+ghost use Rattle.xh_core.specs.Calls.{data_tests, split_tests, start};
 ghost use Rattle.xh_core.specs.declared.refused.Refused.TheVariants.{NotOwned};
-ghost use Rattle.xh_core.specs.Refusing.{Tested, first_refusal};
+ghost use Rattle.xh_core.specs.Refusing.{Tested};
 ghost use Rattle.xh_model.specs.Arena.{IsGoodCut};
 ghost use Rattle.xh_model.specs.Keyed.{Distinct, keys, value_at};
 ghost use Rattle.xh_model.specs.declared.limits.TheConstants.{MAX_BYTES, MAX_RECORDS, UNIT};
@@ -10,14 +10,12 @@ ghost use Rattle.xh_place.specs.Bodies.{bytes, kind_of};
 ghost use Rattle.xh_place.specs.Desk.{HasVaults, IsAt, IsSameDesk, StaysAt};
 ghost use Rattle.xh_place.specs.Ending.{HasGivenBack};
 ghost use Rattle.xh_place.specs.Places.{Item, IsPlaceOf, found, total_of, with_freed};
-ghost use Rattle.xh_place.specs.Seen.{Becomes, FindsFull, Stays};
-ghost use Rattle.xh_place.specs.Splitting.{IsUncut};
-ghost use Rattle.xh_place.specs.Starts.{start};
-ghost use Rattle.xh_place.specs.Tallies.{gave};
-ghost use Rattle.xh_place.specs.Vaults.{IsNoBlock};
+ghost use Rattle.xh_place.specs.Seen.{Becomes, Stays};
+ghost use Rattle.xh_place.specs.Tallies.{gave, took};
+ghost use Rattle.xh_place.specs.Vaults.{IsRefusedAt};
 ghost use Rattle.xh_core.specs.Headers.{len_in};
 ghost use Rattle.xh_core.specs.Space.{rounded};
-ghost use Rattle.xh_place.specs.Calls.{Allocates, Frees, Lends, LendsMut, Reads, Splits, Writes};
+ghost use Rattle.xh_place.specs.Calls.{Allocates, FreesBlock, Lends, LendsMut, Reads, Splits, Writes};
 ghost use Rattle.xh_core.specs.declared.header.Kind.TheVariants as kind;
 
 use crate::body::Body;
@@ -26,7 +24,7 @@ use crate::desk::Desk;
 use crate::gate::Gate;
 use crate::list::remove;
 use crate::lots::{cut_block, give_up, make_block};
-use crate::place::{Place, check_start};
+use crate::place::Place;
 use crate::vaults::Vaults;
 use std::alloc::Global;
 use xh_core::{Block, Header, Kind, Refused};
@@ -45,8 +43,8 @@ fn round_up(n: u32) -> u32
 
 impl Place {
     /// Gives a new data block of `n` bytes, rounded up to a multiple of 16, all of them zero, at the end of
-    /// the list. Ended, NoArena, BadSize where `n` is 0 or more than an arena has, NoRecord, OutOfMemory
-    /// where a growth was refused, NoSpace and Worn, in this order.
+    /// the list. NoProcess where nobody has had the place, Ended, NoArena, BadSize where `n` is 0 or more than an
+    /// arena has, NoRecord, OutOfMemory where a growth was refused, NoSpace and Worn, in this order.
     pub fn alloc<R, V: Vaults, G: Gate>(
         &mut self,
         alloc: Global,
@@ -56,12 +54,13 @@ impl Place {
     ) -> Result<Block, Refused>
         requires at { IsAt V.names desk.old self.old.place }
         ensures same { StaysAt V.names V.extent desk.old desk.new self.old self.new }
-        ensures made { Allocates n arena self.old.place self.new.place desk.old.tallies.now desk.new.tallies.now result }
-        ensures why { MatchOption (first_refusal (start self.old.place.state ++ alloc_tests arena (length self.old.place.shape.names) n (V.extent desk.old.vaults.now)))
-            (IfErr result (IsNoBlock V.changes desk.old.vaults.now desk.new.vaults.now arena (rounded n) (FindsFull 0 self.old self.new arena)))
-            (λ refused. (result ≡ Err refused) × (desk.new.vaults.now ≡ desk.old.vaults.now) × (self.new.place ≡ self.old.place)) }
+        ensures made { Allocates self.old.place.state
+            (record { arenas = length self.old.place.shape.names; size = V.extent desk.old.vaults.now; refuses = IsRefusedAt V.changes desk.old.vaults.now desk.new.vaults.now })
+            n arena self.old self.new result }
+        ensures tallies { MatchResult result (λ b. desk.new.tallies.now ≡ took arena b.len desk.old.tallies.now) (λ _. desk.new.tallies.now ≡ desk.old.tallies.now) }
+        ensures untouched { IfErr result (λ e. e ≢ Refused.NoSpace → e ≢ Refused.Worn → desk.new.vaults.now ≡ desk.old.vaults.now) }
     {
-        check_start(self.state)?;
+        self.state.check_start()?;
         if arena >= u32::from(desk.vaults.arenas()) {
             return Err(Refused::NoArena);
         }
@@ -105,7 +104,7 @@ impl Place {
         ensures same { Stays self.old self.new }
         ensures tested { Tested (start self.old.place.state ++ (is_none (found self.old.place r), NotOwned) ∷ []) result (λ _. (x : Item) × (value_at r self.old.place.blocks ≡ Some x)) }
     {
-        check_start(self.state())?;
+        self.state().check_start()?;
         if !self.has(records, r) {
             return Err(Refused::NotOwned);
         }
@@ -127,7 +126,7 @@ impl Place {
         Ok(header)
     }
 
-    /// A data block's bytes go back, and its record is free. It answers the bytes.
+    /// A data block's bytes go back, and its record is free. It answers the bytes. NoProcess, Ended, NotOwned, NotData.
     pub fn free<R, V: Vaults, G: Gate>(
         &mut self,
         desk: &mut Desk<'_, R, V, G>,
@@ -135,17 +134,17 @@ impl Place {
     ) -> Result<u32, Refused>
         requires at { IsAt V.names desk.old self.old.place }
         ensures same { StaysAt V.names V.extent desk.old desk.new self.old self.new }
-        ensures freed { Frees r self.old.place self.new.place desk.old.tallies.now desk.new.tallies.now result }
+        ensures freed { FreesBlock self.old.place.state r self.old self.new result }
+        ensures tallies { MatchResult result (λ n. desk.new.tallies.now ≡ gave (r / MAX_RECORDS) n desk.old.tallies.now) (λ _. desk.new.tallies.now ≡ desk.old.tallies.now) }
         ensures arena { OnOk result (r / MAX_RECORDS < length self.old.place.shape.names) }
         ensures untouched { OnErr result (desk.new.vaults.now ≡ desk.old.vaults.now) }
-        ensures bytes { Tested (start self.old.place.state ++ data_tests (found self.old.place r)) result (λ n. n ≡ len_in (found self.old.place r)) }
     {
         self.test_data(desk.records, r)?;
         Ok(self.give_up(desk, r))
     }
 
     /// Cuts a data block after its first `k` bytes, a multiple of 16: the head, which keeps its record and
-    /// its place in the list, and the tail, at its end. Ended, NotOwned, NotData, BadCut where `k` is 0, no
+    /// its place in the list, and the tail, at its end. NoProcess, Ended, NotOwned, NotData, BadCut where `k` is 0, no
     /// multiple of 16 or not less than the block has, NoRecord, and OutOfMemory where a growth was refused,
     /// in this order.
     pub fn split<R, V: Vaults, G: Gate>(
@@ -157,10 +156,9 @@ impl Place {
     ) -> Result<(Block, Block), Refused>
         requires at { HasVaults V.names desk.old self.old.place }
         ensures same { StaysAt V.names V.extent desk.old desk.new self.old self.new }
-        ensures cut { Splits r k self.old.place self.new.place desk.old.tallies.now desk.new.tallies.now result }
+        ensures cut { Splits self.old.place.state r k self.old self.new result }
+        ensures tallies { desk.new.tallies.now ≡ desk.old.tallies.now }
         ensures untouched { OnErr result (desk.new.vaults.now ≡ desk.old.vaults.now) }
-        ensures why { MatchOption (first_refusal (start self.old.place.state ++ split_tests (found self.old.place r) k)) (IfErr result (IsUncut (FindsFull 0 self.old self.new (r / MAX_RECORDS))))
-            (λ refused. (result ≡ Err refused) × (self.new.place ≡ self.old.place)) }
     {
         let len = self.test_cut(desk.records, r, k)?;
         let rec = cut_block(alloc, desk, &mut self.seat, r, k)?;
@@ -183,7 +181,7 @@ impl Place {
         Ok(header.len)
     }
 
-    /// The bytes of a data block from `at` on, as many as `out` has. Ended, NotOwned, NotData, and BadRange
+    /// The bytes of a data block from `at` on, as many as `out` has. NoProcess, Ended, NotOwned, NotData, and BadRange
     /// where they reach past its end; `out` stays as it was then.
     pub fn read(
         &mut self,
@@ -193,13 +191,14 @@ impl Place {
         out: &mut [u8],
     ) -> Result<(), Refused>
         requires { IsPlaceOf records.now self.old.place }
-        ensures { Reads r at self.old self.new out.old out.new result }
+        ensures read { Reads self.old.place.state r at out.new self.old self.new result }
+        ensures refused { OnErr result (out.new ≡ out.old) }
     {
         self.test_block(records, r)?;
         read_lot(records, &mut self.seat, r, at, out)
     }
 
-    /// These bytes stand in a data block in the place of as many from `at` on. Ended, NotOwned, NotData, and
+    /// These bytes stand in a data block in the place of as many from `at` on. NoProcess, Ended, NotOwned, NotData, and
     /// BadRange where they reach past its end.
     pub fn write(
         &mut self,
@@ -209,13 +208,13 @@ impl Place {
         bytes: &[u8],
     ) -> Result<(), Refused>
         requires { IsPlaceOf records.now self.old.place }
-        ensures { Writes r at bytes.now self.old self.new result }
+        ensures { Writes self.old.place.state r at bytes.now self.old self.new result }
     {
         self.test_block(records, r)?;
         write_lot(records, &mut self.seat, r, at, bytes)
     }
 
-    /// One call of `f` at the bytes of a data block, all of them. It gives what `f` answers. Ended, NotOwned
+    /// One call of `f` at the bytes of a data block, all of them. It gives what `f` answers. NoProcess, Ended, NotOwned
     /// and NotData, in this order; `f` isn't called then.
     pub fn with_bytes<A, F: FnMut(&[u8]) -> A>(
         &mut self,
@@ -225,7 +224,7 @@ impl Place {
     ) -> Result<A, Refused>
         requires own { IsPlaceOf records.now self.old.place }
         requires callable { F.IsAlwaysCallable f.old }
-        ensures { Lends F.FnMut r f.old f.new self.old self.new result }
+        ensures { Lends F.FnMut self.old.place.state r f.old f.new self.old self.new result }
     {
         self.test_block(records, r)?;
         show_lot(records, &mut self.seat, r, f)
@@ -240,7 +239,7 @@ impl Place {
     ) -> Result<A, Refused>
         requires own { IsPlaceOf records.now self.old.place }
         requires callable { F.IsAlwaysCallable f.old }
-        ensures { LendsMut F.FnMut r f.old f.new self.old self.new result }
+        ensures { LendsMut F.FnMut self.old.place.state r f.old f.new self.old self.new result }
     {
         self.test_block(records, r)?;
         lend_lot(records, &mut self.seat, r, f)

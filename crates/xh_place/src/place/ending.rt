@@ -1,22 +1,24 @@
 //! How a place is reclaimed.
-ghost use Rattle.std.specs.Prelude.{◌≡◌, ◌≢◌, ℕ, ◌+◌, ◌-◌, ◌<◌, ◌⊎◌, List, [], ◌∷◌, length, drop, Some, true};
-ghost use Rattle.xh_core.specs.Calls.{reclaimed};
+ghost use Rattle.std.specs.Prelude.{◌≡◌, ◌≢◌, ℕ, ◌+◌, ◌-◌, ◌<◌, ◌⊎◌, List, [], ◌∷◌, length, drop, IsSome, Some, true};
+ghost use Rattle.xh_core.specs.Calls.{reclaimed, stop};
+ghost use Rattle.xh_core.specs.Refusing.{first_refusal};
 ghost use Rattle.xh_core.specs.Statuses.{is_over};
 ghost use Rattle.xh_model.specs.Keyed.{value_at};
 ghost use Rattle.xh_model.specs.declared.limits.TheConstants.{DIRECTIONS};
+ghost use Rattle.xh_place.specs.Calls.{Stops};
 ghost use Rattle.xh_place.specs.Desk.{IsAt, IsSameDesk, StaysAt};
-ghost use Rattle.xh_place.specs.Ending.{HasGivenBack, IsStopped, IsSwept, IsSweptBy, ending};
-ghost use Rattle.xh_place.specs.Ends.{RefusedOr, IsTooLate, ending_again};
+ghost use Rattle.xh_place.specs.Ending.{HasGivenBack, IsSwept, IsSweptBy, ending};
+ghost use Rattle.xh_place.specs.Ends.{IsTooLate, ending_again};
 ghost use Rattle.xh_place.specs.Places.{Item, with_list};
 ghost use Rattle.xh_place.specs.Seen.{Becomes, IsElsewhere, IsSamePlace, IsSeen, SawWord};
-ghost use Rattle.xh_place.specs.Starts.{stop};
 ghost use Rattle.xh_records.specs.Seats.{IsRecord};
 ghost use Rattle.xh_place.specs.inner.Reclaiming.{IsSweptLate};
 ghost use Rattle.xh_core.specs.declared.status.Status.TheVariants as status;
 
 use crate::desk::Desk;
 use crate::gate::Gate;
-use crate::place::{Place, check_stop};
+use crate::got::Got;
+use crate::place::Place;
 use crate::vaults::Vaults;
 use std::sync::Wait;
 use xh_core::{Refused, Status};
@@ -59,7 +61,7 @@ impl Place {
         requires { k < length self.now.place.blocks }
         ensures { (x : Item) × (more : List (ℕ × Item)) × (drop k self.now.place.blocks ≡ (result, x) ∷ more) × (value_at result self.now.place.blocks ≡ Some x) }
     {
-        self.list[k]
+        self.list.as_slice()[k]
     }
 
     // How many blocks the list has from a place on. A place that is over has none.
@@ -124,7 +126,7 @@ impl Place {
     }
 
     /// The process ends, or goes on ending: its blocks go, as far as the budget goes, with what was on its way to its endpoints. It answers the bytes reclaimed.
-    /// Ended where the place is Vacant or Ended; Unfinished with the blocks left, and then the process is ending.
+    /// NoProcess where the place is Vacant, Ended where it is Ended; Unfinished with the blocks left, and then the process is ending.
     pub fn stop<R: Wait, V: Vaults, G: Gate>(
         &mut self,
         desk: &mut Desk<'_, R, V, G>,
@@ -132,10 +134,10 @@ impl Place {
     ) -> Result<u64, Refused>
         requires at { IsAt V.names desk.old self.old.place }
         ensures same { StaysAt V.names V.extent desk.old desk.new self.old self.new }
-        ensures stopped { RefusedOr (stop self.old.place.state) result ((self.new.place ≡ self.old.place) × (desk.new.tallies.now ≡ desk.old.tallies.now))
-            ((bytes : ℕ) × IsStopped budget self.old self.new bytes result × HasGivenBack bytes desk.old.tallies.now desk.new.tallies.now) }
+        ensures stopped { (bytes : ℕ) × Stops self.old.place.state budget bytes self.old self.new result × HasGivenBack bytes desk.old.tallies.now desk.new.tallies.now }
+        ensures untouched { IsSome (first_refusal (stop self.old.place.state)) → desk.new.tallies.now ≡ desk.old.tallies.now }
     {
-        check_stop(self.state())?;
+        self.state().check_stop()?;
         self.set_state(Status::Ending);
         let (bytes, _left) = self.sweep(desk, 0, budget);
         let left = self.left(0);
@@ -178,9 +180,11 @@ impl Place {
             ⊎ ((bytes : ℕ) × IsSweptLate (IsSeen self.old self.new) direction r self.old.place self.new.place bytes × HasGivenBack bytes desk.old.tallies.now desk.new.tallies.now) }
     {
         let from = self.count();
-        let Ok(_block) = self.accept(desk.records, r, direction) else {
-            return;
-        };
-        let _swept = self.sweep(desk, from, MAX_BUDGET);
+        match self.accept(desk.records, r, direction) {
+            Got::Missing { .. } => (),
+            Got::Here(_block) => {
+                let _swept = self.sweep(desk, from, MAX_BUDGET);
+            }
+        }
     }
 }

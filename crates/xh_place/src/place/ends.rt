@@ -1,20 +1,20 @@
 //! Endpoints of a place.
-ghost use Rattle.std.specs.Prelude.{◌≡◌, ◌≢◌, ℕ, ◌+◌, ◌*◌, ◌<◌, ◌++◌, length, Some, MatchOption, true, false};
-ghost use Rattle.xh_channel.specs.Queues.{Posted};
-ghost use Rattle.xh_core.specs.Calls.{arena_tests, end_tests};
-ghost use Rattle.xh_core.specs.Refusing.{Tested};
+ghost use Rattle.std.specs.Prelude.{◌≡◌, ◌≢◌, ℕ, ◌+◌, ◌*◌, ◌<◌, ◌++◌, is_some, length, IsSome, Some, MatchOption, true, false};
+ghost use Rattle.xh_channel.specs.Calls.{EndpointShuts};
+ghost use Rattle.xh_channel.specs.Endpoint.{EndpointOf};
+ghost use Rattle.xh_core.specs.Calls.{arena_tests, end_tests, start};
+ghost use Rattle.xh_core.specs.Refusing.{Tested, first_refusal};
 ghost use Rattle.xh_core.specs.Statuses.{is_over};
 ghost use Rattle.xh_model.specs.Keyed.{value_at};
 ghost use Rattle.xh_model.specs.declared.limits.TheConstants.{DIRECTIONS, END_BYTES};
 ghost use Rattle.xh_place.specs.Bodies.{IsEndAt, kind_of};
+ghost use Rattle.xh_place.specs.Calls.{Closes};
 ghost use Rattle.xh_place.specs.Desk.{IsAt, StaysAt};
-ghost use Rattle.xh_place.specs.Ending.{HasGivenBack, IsClosed, last};
-ghost use Rattle.xh_place.specs.Endpoints.{Shuts};
-ghost use Rattle.xh_place.specs.Ends.{Accepts, EndDoes, IsUnopened, Opens, RefusedOr, end_block, is_here};
+ghost use Rattle.xh_place.specs.Ending.{HasGivenBack, last};
+ghost use Rattle.xh_place.specs.Ends.{Accepts, EndDoes, IsUnopened, Opens, end_block, is_here};
 ghost use Rattle.xh_place.specs.Places.{Item, IsPlaceOf, found, with_blocks, with_less};
 ghost use Rattle.xh_place.specs.Seen.{Becomes, FindsFull, IsSeen, Stays};
 ghost use Rattle.xh_records.specs.History.{StartsWith};
-ghost use Rattle.xh_place.specs.Starts.{start};
 ghost use Rattle.xh_place.specs.Vaults.{IsNoPair};
 ghost use Rattle.xh_records.specs.Seats.{IsRecord};
 ghost use Rattle.xh_channel.specs.Pairs.{IsPair};
@@ -27,11 +27,12 @@ use crate::body::Body;
 use crate::desk::Desk;
 use crate::endpoints::{shut_at, spot_at};
 use crate::gate::{Gate, Point};
+use crate::got::Got;
 use crate::list::remove;
 use crate::lots::{pass_block, place_of};
 use crate::opening::{Unopened, make_ends};
+use crate::place::Place;
 use crate::place::ending::reclaimed;
-use crate::place::{Place, check_start};
 use crate::vaults::Vaults;
 use std::sync::Wait;
 use xh_channel::{Endpoint, Spot};
@@ -47,7 +48,7 @@ impl Place {
         ensures tested { Tested (start self.old.place.state ++ end_tests (found self.old.place e)) result
             (λ s. (self.old.place.state ≡ status.Running) × ((x : Item) × (value_at e self.old.place.blocks ≡ Some x) × IsEndAt x.content s.channel s.side)) }
     {
-        check_start(self.state())?;
+        self.state().check_start()?;
         if !self.has(records, e) {
             return Err(Refused::NotOwned);
         }
@@ -80,7 +81,7 @@ impl Place {
     }
 
     /// Both ends of a channel that was just opened, with a contract or without, come to the end of the list: side 0, then side 1, each of 32 bytes, the halves of one first fit of 64.
-    /// Ended, NoArena, NoRecord, NoSpace, Worn; a refusal hands the ends back, and each record that was claimed is free again.
+    /// NoProcess, Ended, NoArena, NoRecord, NoSpace, Worn; a refusal hands the ends back, and each record that was claimed is free again.
     pub fn open<R, V: Vaults, G: Gate>(
         &mut self,
         desk: &mut Desk<'_, R, V, G>,
@@ -96,7 +97,7 @@ impl Place {
             × (self.new.place ≡ self.old.place))
             (IsNoPair V.changes desk.old.vaults.now desk.new.vaults.now arena (2 * END_BYTES) (FindsFull 1 self.old self.new arena) (V.extent desk.old.vaults.now)) result }
     {
-        if let Err(why) = check_start(self.state) {
+        if let Err(why) = self.state.check_start() {
             return Err(Unopened { why, low, high });
         }
         if arena >= u32::from(desk.vaults.arenas()) {
@@ -121,7 +122,7 @@ impl Place {
         arena: u32,
     ) -> Result<(Block, Block), Unopened>
         requires at { IsAt V.names desk.old self.old.place }
-        requires fresh { IsPair low high × (low.has_contract ≡ true) }
+        requires fresh { IsPair low high × (is_some low.contract ≡ true) }
         ensures same { StaysAt V.names V.extent desk.old desk.new self.old self.new }
         ensures opened { Opens arena low high self.old.place self.new.place desk.old.tallies.now desk.new.tallies.now result }
         ensures why { IsUnopened (start self.old.place.state ++ arena_tests arena (length self.old.place.shape.names)) ((desk.new.vaults.now ≡ desk.old.vaults.now)
@@ -169,8 +170,8 @@ impl Place {
         }
         if self.is_here(process) {
             return match self.accept(desk.records, r, direction) {
-                Ok(block) => Ok(block),
-                Err(_seen) => Err(Refused::Ended),
+                Got::Here(block) => Ok(block),
+                Got::Missing { .. } => Err(Refused::Ended),
             };
         }
         self.turn_away(desk, r, direction);
@@ -178,7 +179,7 @@ impl Place {
     }
 
     /// Closes the endpoint `e`: it goes, and what was on its way to it. It answers the bytes reclaimed.
-    /// Ended, NotOwned, NotEndpoint; Unfinished with the blocks left of what came with it.
+    /// NoProcess, Ended, NotOwned, NotEndpoint; Unfinished with the blocks left of what came with it.
     pub fn close_end<R: Wait, V: Vaults, G: Gate>(
         &mut self,
         desk: &mut Desk<'_, R, V, G>,
@@ -186,8 +187,8 @@ impl Place {
     ) -> Result<u64, Refused>
         requires at { IsAt V.names desk.old self.old.place }
         ensures same { StaysAt V.names V.extent desk.old desk.new self.old self.new }
-        ensures closed { RefusedOr (start self.old.place.state ++ end_tests (found self.old.place e)) result ((self.new.place ≡ self.old.place) × (desk.new.tallies.now ≡ desk.old.tallies.now))
-            ((bytes : ℕ) × IsClosed e self.old self.new bytes result × HasGivenBack bytes desk.old.tallies.now desk.new.tallies.now) }
+        ensures closed { (bytes : ℕ) × Closes self.old.place.state e bytes self.old self.new result × HasGivenBack bytes desk.old.tallies.now desk.new.tallies.now }
+        ensures untouched { IsSome (first_refusal (start self.old.place.state ++ end_tests (found self.old.place e))) → desk.new.tallies.now ≡ desk.old.tallies.now }
     {
         self.test_end(desk.records, e)?;
         self.move_last(e);
@@ -209,7 +210,7 @@ impl Place {
     fn shut<R: Wait, V, G>(&mut self, desk: &Desk<'_, R, V, G>, e: u16)
         requires own { IsPlaceOf desk.now.records.now self.old.place }
         requires end { (x : Item) × (value_at e self.old.place.blocks ≡ Some x) × (kind_of x.content ≡ kind.End) }
-        ensures shut { EndDoes e self.old.place self.new.place Shuts }
+        ensures shut { EndDoes e self.old.place self.new.place EndpointShuts }
         ensures seen { StartsWith self.new.front self.old.front }
     {
         shut_at(desk, &mut self.seat, e);
@@ -219,7 +220,7 @@ impl Place {
     fn drain<R: Wait, V, G: Gate>(&mut self, desk: &Desk<'_, R, V, G>, e: u16)
         requires own { IsPlaceOf desk.now.records.now self.old.place }
         requires alive { is_over self.old.place.state ≢ true }
-        requires end { (p : Posted) × (value_at e self.old.place.blocks ≡ Some (end_block p)) }
+        requires end { (p : EndpointOf) × (value_at e self.old.place.blocks ≡ Some (end_block p)) }
         ensures drained { Drains (IsSeen self.old self.new) e self.old.place self.new.place }
         ensures seen { StartsWith self.new.front self.old.front }
     {

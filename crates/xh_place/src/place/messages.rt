@@ -1,19 +1,22 @@
 //! Messages that a place gives and takes.
 ghost use Rattle.std.specs.Prelude.{◌≡◌, ◌≢◌, ℕ, ◌+◌, ◌*◌, ◌<◌, List, [], ◌∷◌, ◌++◌, Some, IfOk, IfErr, MatchResult, map, true};
-ghost use Rattle.xh_core.specs.Calls.{end_tests, given_tests};
+ghost use Rattle.xh_core.specs.Calls.{given_tests};
 ghost use Rattle.xh_core.specs.Refusing.{Tested};
 ghost use Rattle.xh_core.specs.Statuses.{is_over};
 ghost use Rattle.xh_model.specs.Keyed.{Among, Distinct, value_at};
 ghost use Rattle.xh_model.specs.declared.limits.TheConstants.{DIRECTIONS};
-ghost use Rattle.xh_place.specs.Bodies.{IsEndAt, kind_of};
+ghost use Rattle.xh_arena.specs.Views.{LotOf};
+ghost use Rattle.xh_place.specs.Bodies.{IsEndAt, content_of, fits_in, kind_of};
 ghost use Rattle.xh_place.specs.Endpoints.{AreGot, IsGot, Takes, record_of};
-ghost use Rattle.xh_place.specs.Ends.{EndDoes, RefusedOr, toward_in};
-ghost use Rattle.xh_place.specs.Messages.{is_listed, IsSent, IsTaken, IsUntaken};
-ghost use Rattle.xh_place.specs.Places.{IsWhole, Item, IsPlaceOf, found, with_more};
+ghost use Rattle.xh_place.specs.Ends.{EndDoes, toward_in};
+ghost use Rattle.xh_place.specs.Messages.{Gives, HasSentAll, is_listed, IsSent, IsSpent, IsTaken, IsUntaken, TakesAt};
+ghost use Rattle.xh_place.specs.Places.{Item, IsPlaceOf, with_more};
+ghost use Rattle.xh_place.specs.inner.Answers.{Comes};
 ghost use Rattle.xh_place.specs.Seen.{IsSamePlace, IsSeen, SawWord, Stays, brings};
 ghost use Rattle.xh_records.specs.History.{StartsWith};
-ghost use Rattle.xh_place.specs.Starts.{start};
-ghost use Rattle.xh_records.specs.Seats.{IsRecord};
+ghost use Rattle.xh_place.specs.declared.body.Body.{Body};
+ghost use Rattle.xh_records.specs.Seats.{IsRecord, IsSeatOf};
+ghost use Rattle.xh_records.specs.Showing.{IsFull, IsLotOf};
 ghost use Rattle.std.specs.List.{list_all};
 ghost use Rattle.xh_core.specs.declared.status.Status.TheVariants as status;
 ghost use Rattle.xh_core.specs.declared.header.Kind.TheVariants as kind;
@@ -29,14 +32,39 @@ use crate::lots::{accept_block, place_of};
 use crate::place::Place;
 use arrayvec::ArrayVec;
 use std::sync::Wait;
+use xh_arena::Lot;
 use xh_channel::{Message, Refused as Untaken, Spot};
 use xh_core::{Block, Header, Refused, is_twice};
-use xh_records::Records;
+use xh_records::{Records, Seat};
+
+// Whether the endpoint of a record has sent its last message.
+#[tactic(auto, using(xh_model::proofs::Keyed::put_same))]
+fn is_spent_at(records: &Records<Body>, seat: &mut Seat<Body>, r: u16) -> bool
+    requires own { IsSeatOf records.now seat.old × IsRecord records.now.shape r }
+    requires held { (l : LotOf Body) × (value_at r seat.old.lots ≡ Some l) × IsLotOf seat.old.shape r l × IsFull fits_in l }
+    ensures same { seat.new ≡ seat.old }
+    ensures spent { (l : LotOf Body) → value_at r seat.old.lots ≡ Some l → result ≡ true → HasSentAll (content_of l.body) }
+{
+    records.with_lot(
+        seat,
+        r,
+        &mut |lot: &mut Lot<Body>| -> bool
+            requires { IsFull fits_in lot.old }
+            ensures same { lot.new ≡ lot.old }
+            ensures spent { result ≡ true → HasSentAll (content_of lot.old.body) }
+        {
+            match lot.body() {
+                Body::End(end) => end.is_spent(),
+                Body::Nothing | Body::Data(_) => false,
+            }
+        },
+    )
+}
 
 impl Place {
     /// Gives blocks of the list, by the endpoint `e`, in a message with a tag. It answers the message's number.
-    /// Ended is of the process; NotOwned and NotEndpoint of the endpoint; then TooMany of more than 8 blocks, NotOwned of a block, Twice. Protocol, PeerClosed and Full name the blocks that came
-    /// back.
+    /// NoProcess and Ended are of the process; NotOwned and NotEndpoint of the endpoint; then TooMany of more than 8 blocks, NotOwned of a block, Twice. Protocol, PeerClosed and Full name the
+    /// blocks that came back.
     pub fn give<R: Wait, V, G: Gate>(
         &mut self,
         desk: &Desk<'_, R, V, G>,
@@ -46,12 +74,34 @@ impl Place {
     ) -> Result<u64, Refused>
         requires own { IsPlaceOf desk.now.records.now self.old.place }
         ensures place { IsSamePlace self.old self.new }
-        ensures given { RefusedOr (start self.old.place.state ++ end_tests (found self.old.place e) ++ given_tests (is_listed self.old.place.blocks) e blocks.now) result
-            (self.new.place ≡ self.old.place) (IsSent e tag blocks.now self.old self.new result) }
+        ensures given { Gives self.old.place.state e tag blocks.now self.old self.new result }
     {
         let spot = self.test_end(desk.records, e)?;
         let given = self.test_given(desk.records, e, blocks)?;
         self.send(desk, e, spot, tag, &given)
+    }
+
+    /// Whether an endpoint of the list has sent its last message: then there is no room for one any more, whatever its peer takes.
+    /// Of any other record false.
+    pub fn is_spent(&mut self, records: &Records<Body>, e: u16) -> bool
+        requires own { IsPlaceOf records.now self.old.place }
+        ensures same { Stays self.old self.new }
+        ensures spent { result ≡ true → IsSpent e self.old.place }
+    {
+        if !self.has(records, e) {
+            return false;
+        }
+        self.is_spent_of(records, e)
+    }
+
+    // The same of a block of the list.
+    fn is_spent_of(&mut self, records: &Records<Body>, e: u16) -> bool
+        requires own { IsPlaceOf records.now self.old.place }
+        requires listed { (x : Item) × (value_at e self.old.place.blocks ≡ Some x) }
+        ensures same { Stays self.old self.new }
+        ensures spent { result ≡ true → IsSpent e self.old.place }
+    {
+        is_spent_at(records, &mut self.seat, e)
     }
 
     // Whether each of the records is one of the list.
@@ -121,7 +171,7 @@ impl Place {
     }
 
     /// Takes the message at the front of the direction toward the endpoint `e`. Its blocks come to the end of the list.
-    /// Ended, NotOwned, NotEndpoint; then PeerClosed or Empty where no message waits.
+    /// NoProcess, Ended, NotOwned, NotEndpoint; then PeerClosed or Empty where no message waits.
     #[tactic(auto, using(crate::proofs::Ends::empty_keeps))]
     pub fn take<R: Wait, V, G: Gate>(
         &mut self,
@@ -130,8 +180,7 @@ impl Place {
     ) -> Result<Taken, Refused>
         requires own { IsPlaceOf desk.now.records.now self.old.place }
         ensures place { IsSamePlace self.old self.new }
-        ensures taken { RefusedOr (start self.old.place.state ++ end_tests (found self.old.place e)) result (self.new.place ≡ self.old.place)
-            (MatchResult result (IsTaken e self.old self.new) (IsUntaken e self.old.place self.new.place)) }
+        ensures taken { TakesAt self.old.place.state e self.old self.new result }
         ensures empty { IfErr result (λ u. u ≡ Refused.Empty → self.new.place ≡ self.old.place) }
     {
         self.test_end(desk.records, e)?;
@@ -175,26 +224,23 @@ impl Place {
         take_at(desk, &mut self.seat, e)
     }
 
-    // Takes a block that is in flight on the direction, at the end of the list. The error is the word
-    // that was seen.
-    pub(super) fn accept(
-        &mut self,
-        records: &Records<Body>,
-        r: u16,
-        direction: u8,
-    ) -> Result<Block, u64>
+    // Takes a block that is in flight on the direction, at the end of the list.
+    // (It makes the answer of a take at once: as a result it would be moved once more, which costs a message of eight blocks a twentieth.)
+    pub(super) fn accept(&mut self, records: &Records<Body>, r: u16, direction: u8) -> Got
         requires own { IsPlaceOf records.now self.old.place × IsRecord records.now.shape r × (direction < DIRECTIONS) }
         requires alive { is_over self.old.place.state ≢ true }
         ensures place { IsSamePlace self.old self.new }
-        ensures here { IfOk result (λ b. (b.rec ≡ r) × ((x : Item) × (x.len ≡ b.len) × (self.new.place ≡ with_more direction ((r, x) ∷ []) self.old.place) × IsWhole x
-            × IsSeen self.old self.new r (brings direction x))) }
-        ensures missing { IfErr result (λ word. (word ≢ 2 + 4 * direction) × (self.new.place ≡ self.old.place) × SawWord self.old self.new r word) }
+        ensures record { record_of result ≡ r }
+        ensures got { Comes self.old self.new direction r result }
     {
-        let header = accept_block(records, &mut self.seat, r, direction)?;
-        let Header { len, .. } = header;
-        self.list.push_reserved(r);
-        self.total += u64::from(len);
-        Ok(Block { rec: r, len })
+        match accept_block(records, &mut self.seat, r, direction) {
+            Ok(Header { len, .. }) => {
+                self.list.push_reserved(r);
+                self.total += u64::from(len);
+                Got::Here(Block { rec: r, len })
+            }
+            Err(word) => Got::Missing { rec: r, word },
+        }
     }
 
     // Takes a block of a message, at the end of the list. A record that doesn't exist is free.
@@ -208,10 +254,7 @@ impl Place {
         if !records.has(r) {
             return Got::Missing { rec: r, word: 0 };
         }
-        match self.accept(records, r, direction) {
-            Ok(block) => Got::Here(block),
-            Err(word) => Got::Missing { rec: r, word },
-        }
+        self.accept(records, r, direction)
     }
 
     // Takes the blocks of a message, at the end of the list: what each answers, in their order.

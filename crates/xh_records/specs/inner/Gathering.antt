@@ -8,7 +8,8 @@ use Rattle.xh_model.specs.Keyed.{Among, Distinct}
 use Rattle.xh_records.specs.declared.view.View.{View}
 use Rattle.xh_records.specs.Deeds.{carried, deeds_by, events}
 use Rattle.xh_records.specs.Showing.{Owns}
-use Rattle.xh_records.specs.Seats.{Held, lot_in, view_of}
+use Rattle.xh_records.specs.Seats.{Held, lot_in}
+use Rattle.xh_records.specs.inner.Views.{view_of}
 
 -- the first that is there
 abbrev pub or_else : {L : Type 0} → Option L → Option L → Option L

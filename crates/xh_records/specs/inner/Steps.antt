@@ -3,12 +3,12 @@ use Rattle.std.specs.Prelude.{◌≡◌, ◌≢◌, ℕ, [], ◌∷◌, ◌++◌
 use Rattle.atomic_table.specs.Table.{Me, Step, rest}
 use Rattle.xh_arena.specs.Views.{LotOf}
 use Rattle.xh_model.specs.declared.event.Holder.{Holder}
-use Rattle.xh_model.specs.Words.{place_of, word_of}
+use Rattle.xh_model.specs.declared.event.Holder.TheVariants.{Process}
+use Rattle.xh_model.specs.Words.{IsWord, place_of, word_of}
 use Rattle.xh_records.specs.declared.view.View.{View}
 use Rattle.xh_records.specs.Deeds.{Arrives, Deed, deeds_by, events}
 use Rattle.xh_records.specs.History.{IsOneLog, TellsWord}
-use Rattle.xh_records.specs.Showing.{IsLotAt, Owns}
-use Rattle.xh_records.specs.Seats.{Knows}
+use Rattle.xh_records.specs.Showing.{IsLotAt, Owns, Sits}
 use Rattle.xh_records.specs.inner.Events.{IsHomeLot}
 use Rattle.xh_records.specs.inner.Views.{front_in, gained, head_of, knowing, lost, renewed}
 
@@ -20,9 +20,13 @@ process_in v = slice_index v.processes 0
 abbrev pub IsOthers : {B : Type 0} → View B → List (Deed B) → Type 0
 IsOthers v others = deeds_by (place_of (process_in v)) others ≡ []
 
+-- the word at the index k says something, and it names a process that the view stands for exactly where the view has the record
+abbrev pub KnowsAt : {B : Type 0} → View B → ℕ → ℕ → Type 0
+KnowsAt v k word = IsWord word × ((p : ℕ) → Sits v p → (word ≡ word_of (Some (Process p)) → Owns v k p) × (Owns v k p → word ≡ word_of (Some (Process p))))
+
 -- what the view knows of a word at the index k, which its front tells
 abbrev pub Finds : {B : Type 0} → View B → ℕ → ℕ → View B → Type 0
-Finds v k word now = Knows v k word × TellsWord now.shape.records (events (front_in now)) k word
+Finds v k word now = KnowsAt v k word × TellsWord now.shape.records (events (front_in now)) k word
 
 -- the view has seen deeds of others, and a word at the index k
 abbrev pub SeesMore : {S : Type 0} → {B : Type 0} → ℕ → ℕ → Me S (View B) → Me S (View B) → Type 0

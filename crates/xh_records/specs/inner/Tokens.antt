@@ -11,8 +11,7 @@ use Rattle.xh_model.specs.Keyed.{Distinct, keys, put, without}
 use Rattle.xh_records.specs.declared.shape.Shape.{Shape}
 use Rattle.xh_records.specs.declared.view.View.{View}
 use Rattle.xh_records.specs.Showing.{IsLotAt, IsSmall}
-use Rattle.xh_records.specs.Seats.{owned_by}
-use Rattle.xh_records.specs.inner.Views.{front_in}
+use Rattle.xh_records.specs.inner.Views.{front_in, owned_by}
 
 -- what a token has in the slot k
 abbrev pub in_slot : {L : Type 0} → ℕ → List (ℕ × Option L) → Option L

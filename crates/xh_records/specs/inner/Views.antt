@@ -4,9 +4,11 @@ use Rattle.xh_model.specs.declared.event.Holder.{Holder}
 use Rattle.xh_model.specs.declared.event.Event.{Event}
 use Rattle.xh_model.specs.declared.limits.TheConstants.{PLACES}
 use Rattle.xh_model.specs.Words.{place_of, number_of}
-use Rattle.xh_model.specs.Keyed.{without}
+use Rattle.xh_model.specs.Keyed.{keys, without}
+use Rattle.xh_model.specs.Slots.{index_of}
 use Rattle.xh_arena.specs.Views.{LotOf}
 use Rattle.xh_records.specs.Deeds.{Deed, deeds_by}
+use Rattle.xh_records.specs.Seats.{Held}
 use Rattle.xh_records.specs.inner.Events.{taking, giving}
 use Rattle.xh_records.specs.declared.shape.Shape.{Shape}
 use Rattle.xh_records.specs.declared.view.View.{View}
@@ -104,3 +106,14 @@ joined v w = record { shape = v.shape; processes = v.processes ++ w.processes; r
 -- the generation of each place rises by one
 abbrev pub renewed : {B : Type 0} → View B → View B
 renewed v = record v { processes = map (λ p. p + PLACES) v.processes }
+
+-- the indices of a seat's records, each beside its process, and the seat's view
+abbrev pub indices : {B : Type 0} → Held B → List ℕ
+indices x = map (index_of x.shape.records) (keys x.lots)
+
+abbrev pub owned_by : ℕ → List ℕ → List (ℕ × ℕ)
+owned_by p [] = []
+owned_by p (k ∷ ks) = (k, p) ∷ owned_by p ks
+
+abbrev pub view_of : {B : Type 0} → Held B → View B
+view_of x = record { shape = x.shape; processes = x.process ∷ []; records = owned_by x.process (indices x); fronts = (place_of x.process, x.front) ∷ [] }

@@ -1,4 +1,4 @@
-use Rattle.xh_books.proofs.Common.{All, All-map, AreBooks, AreFlightLines, ArenaLine, ArenaState, ArrayVec, IsInFlight, List, PlaceLine, TellFlight, VaultOf, all_back, ap, arenas_of, arith}
+use Rattle.xh_books.proofs.Common.{All, All-map, AreBooks, AreFlightLines, ArenaLine, ArenaState, ArrayVec, IsInFlight, List, PlaceLine, TellFlight, VaultOf, ap, arenas_of, arith}
 use Rattle.xh_books.proofs.Common.{bytes_in_flight, closed_line, lens_of, map, places_of, subst, sum_by, sym, ℕ, ◌+◌, ◌∙◌, ◌≡◌}
 use Rattle.xh_books.proofs.Closed.{Sums, sums}
 use Rattle.xh_books.proofs.closing.close_books.Goals.{After-arena_lines-arenas}
@@ -32,7 +32,6 @@ returns g c =
       places = ap (λ (ls : ArrayVec PlaceLine). ls.items) l.lines.1 ∙ c.in_ok-flight.ensures.lines.0;
       owned = a ∙ own;
       flight = flight ∙ ap (bytes_in_flight (places_of c.args.places.items) c.args.records.shape.records 0) f.lengths;
-      moved = f.moved ∙ ap (λ z. all_back c.args.accounts.items + z) (sym b);
       balanced = record {
         arenas = subst (λ (ls : ArrayVec ArenaLine). All (λ a. a.taken ≡ a.back + a.out) ls.items) (sym l.lines.0) f.even;
         owned = a ∙ ap (λ (ls : ArrayVec PlaceLine). sum_by (λ p. p.bytes) ls.items) (sym l.lines.1);

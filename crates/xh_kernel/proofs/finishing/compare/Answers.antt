@@ -1,4 +1,4 @@
-use Rattle.xh_kernel.proofs.Common.{AccountOf, All, AreInOrder, AreSeen, Entry, HasLooked, List, PenOf, ap, drop, histories_of, length, rules, subst, take, true, ◌++◌, ◌∙◌, ◌≡◌}
+use Rattle.xh_kernel.proofs.Common.{AccountOf, All, AreInOrder, AreSeen, Entry, LookHasSeen, List, PenOf, ap, drop, histories_of, length, rules, subst, take, true, ◌++◌, ◌∙◌, ◌≡◌}
 use Rattle.std.proofs.Math.Seq.{take-append_seam}
 use Rattle.xh_kernel.proofs.finishing.compare.Goals as goal
 
@@ -13,5 +13,5 @@ returns-clause-seen g c =
       in_order = subst AreInOrder c.as_slice.ensures.value (c.are_in_order.ensures.0 is);
       seen = subst (All (λ (a : AccountOf). AreSeen a (histories_of pens))) same_all
           (subst (λ (ps : List (PenOf Entry)). All (λ (a : AccountOf). AreSeen a (histories_of ps)) c.as_mut_slice-2.result.now) same c.compare_accounts.ensures.seen);
-      looked = subst (λ (ps : List (PenOf Entry)). All (HasLooked (histories_of ps)) c.args.looks.items) same_then c.compare_looks.ensures.looked;
+      looked = subst (λ (ps : List (PenOf Entry)). All (LookHasSeen (histories_of ps)) c.args.looks.items) same_then c.compare_looks.ensures.looked;
     }

@@ -1,4 +1,4 @@
-use Rattle.xh_kernel.proofs.Common.{Entry, IsSeatAt, PenOf, ap, arith, first_of, fresh_pen, into_iter_len, rest_of, rules, sym, there, vec_len, ◌<◌, ◌∙◌, ◌≡◌}
+use Rattle.xh_kernel.proofs.Common.{Entry, IsFirstSeat, PenOf, ap, arith, first_of, fresh_pen, into_iter_len, rest_of, rules, sym, there, vec_len, ◌<◌, ◌∙◌, ◌≡◌}
 use Rattle.xh_kernel.proofs.kernel.lock_places.Goals as goal
 
 pub loop-seat-init : goal.loop-seat-init
@@ -13,7 +13,7 @@ pub lock_place-requires : goal.lock_place-requires
 lock_place-requires g c =
     let was = c.loop-seat.invariant in let step = c.in-Some.ensures.steps in let parts = g.N.Names.parts in let done = vec_len c.loop-seat.locks in
     let some : 0 < into_iter_len c.loop-seat.seat-iterator = omega (arith, step.1) in
-    let seat = first_of (IsSeatAt parts.records) done _ _ c.in-Some.seat step.0 _ was.2 some in
+    let seat = first_of (IsFirstSeat parts.records) done _ _ c.in-Some.seat step.0 _ was.2 some in
     let at : c.in-Some.seat.process ≡ done = seat.1 in record {
       records = c.requires.records;
       seat = (seat.0, seat.2, omega (arith, at, was.0, some));
@@ -26,6 +26,6 @@ loop-seat-preserved g c =
     let was = c.loop-seat.invariant in let step = c.in-Some.ensures.steps in let parts = g.N.Names.parts in let done = vec_len c.loop-seat.locks in (
       search rules,
       search rules,
-      rest_of (IsSeatAt parts.records) done _ _ c.in-Some.seat step.0 _ was.2 _ _ step.1 (search rules),
+      rest_of (IsFirstSeat parts.records) done _ _ c.in-Some.seat step.0 _ was.2 _ _ step.1 (search rules),
       rest_of (λ k (x : PenOf Entry). x ≡ fresh_pen parts.histories k) done _ _ c.in-Some-next.pen c.in-Some-next.ensures.items _ was.3 _ _ (search rules) (search rules),
     )

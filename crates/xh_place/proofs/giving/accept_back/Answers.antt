@@ -30,7 +30,8 @@ loop-k-preserved c =
     let is : IsAccepting d given (r ∷ drop (k + 1) given) c.args.seat.now c.loop-k.seat c.loop-k.back.items c.loop-k.bytes =
     subst (λ l. IsAccepting d given l c.args.seat.now c.loop-k.seat c.loop-k.back.items c.loop-k.bytes) (drop_more given k 0 inside) c.loop-k.invariant.0 in
     let came = subst (λ n. CameBack d r c.loop-k.seat c.accept_into.new.seat c.loop-k.back.items c.accept_into.new.back.items n) (sym c.from-bytes.ensures) c.accept_into.ensures.came in (
-      accepting d given (drop (k + 1) given) r c.loop-k.bytes c.from-bytes.result c.args.seat.now c.loop-k.seat c.accept_into.new.seat c.loop-k.back.items c.accept_into.new.back.items c.requires.distinct
+      accepting d given (drop (k + 1) given) r c.loop-k.bytes c.from-bytes.result c.args.seat.now c.loop-k.seat c.accept_into.new.seat
+          c.loop-k.back.items c.accept_into.new.back.items c.requires.distinct
           (among_get k given 0 inside) is came,
       one_longer d r c.from-bytes.result c.loop-k.seat c.accept_into.new.seat c.loop-k.back.items c.accept_into.new.back.items came k c.loop-k.invariant.1,
       omega (arith, c.loop-k.invariant.2, c.from-bytes.ensures),

@@ -1,5 +1,5 @@
 use Rattle.xh_place.proofs.Common.{rules, ◌≡◌, ◌≢◌, ℕ, List, sym, ap, ◌∙◌, subst, Some, Among, value_at, put, put_at, put_other, IsLotOf, Held, with_lots, passed_on, LotDoes, bare}
-use Rattle.xh_place.proofs.Common.{carrying, picked, values, with_done, Body, Posted, Puts, lens, starts_more, starts_same, Pass, came_more}
+use Rattle.xh_place.proofs.Common.{carrying, picked, values, with_done, Body, EndpointOf, Puts, lens, starts_more, starts_same, Pass, came_more}
 use Rattle.xh_place.proofs.Ends.{end_kind, still_block}
 use Rattle.xh_place.proofs.giving.post.Goals.{After-pass_all-bytes}
 use Rattle.xh_place.proofs.giving.post.Goals as goal
@@ -28,7 +28,7 @@ returns g c =
     let now : Held Body = after seat c.args.given.now.items in
     let chain : bare gone ≡ with_lots now gone.lots =
     pass.passed ∙ ap (λ rs. with_lots (after seat rs) gone.lots) value in
-    let does : Posted → Posted → Type 0 = Puts c.args.tag c.args.given.now c.put_at-put.result in
+    let does : EndpointOf → EndpointOf → Type 0 = Puts c.args.tag c.args.given.now c.put_at-put.result in
     let apart : (r : ℕ) → Among c.args.given.now.items r → c.args.e ≢ r = λ r a s. c.requires.distinct.1 (subst (λ z. Among c.args.given.now.items z) (sym s) a) in record {
       direction = search rules;
       passed = ap bare k.2 ∙ ap (λ h. with_lots h (put c.args.e m gone.lots)) chain ∙ sym (ap (λ h. with_lots now h.lots) k.2);

@@ -28,4 +28,4 @@ pub returns-in_err-accept-clause-missing : goal.returns-in_err-accept-clause-mis
 returns-in_err-accept-clause-missing c =
     let m = c.in_err-accept.ensures.missed in
     let is : c.from_residual.result ≡ Err c.in_err-accept.field-0.0 = search rules in
-    rw is (m.0, ap bare m.1.1.0, looked c.args.seat.now c.accept.new.seat c.args.r _ m.1)
+    rw is (m.0, ap bare m.1.2.0, looked c.args.seat.now c.accept.new.seat c.args.r _ m.1)

@@ -71,7 +71,7 @@ returns-clause-cut g c = λ l here.
     subst (λ z. IsCut seat c.part.new.seat r c.args.k z n) (same h.0 l (sym h.1 ∙ here)) cut
 
 pub returns-in_default-clause-why : goal.returns-in_default-clause-why
-returns-in_default-clause-why g c = inl (refl, full_now (c.args.r / 256) 0 _ c.args.seat.now c.claim.new.seat c.requires.exist c.in_default.ensures.seen c.in_default.ensures.missed)
+returns-in_default-clause-why g c = inl (refl, full_now (c.args.r / 256) 0 _ c.args.seat.now c.claim.new.seat c.in_default.ensures.seen c.in_default.ensures.missed)
 
 pub returns-in_default-rest_of-clause-seen : goal.returns-in_default-rest_of-clause-seen
 returns-in_default-rest_of-clause-seen g c =

@@ -61,7 +61,7 @@ pub returns-in_default-clause-refused : goal.returns-in_default-clause-refused
 returns-in_default-clause-refused g c = (none_claimed c.args.arena (λ cs. length cs ≤ 1) c.args.seat.now c.claim.new.seat (omega arith) c.in_default.ensures.missed, refl)
 
 pub returns-in_default-clause-why : goal.returns-in_default-clause-why
-returns-in_default-clause-why g c = (refl, full_now c.args.arena 0 _ c.args.seat.now c.claim.new.seat c.requires.exist c.in_default.ensures.seen c.in_default.ensures.missed)
+returns-in_default-clause-why g c = (refl, full_now c.args.arena 0 _ c.args.seat.now c.claim.new.seat c.in_default.ensures.seen c.in_default.ensures.missed)
 
 pub returns-in_default-filled-clause-seen : goal.returns-in_default-filled-clause-seen
 returns-in_default-filled-clause-seen g c =

@@ -16,13 +16,12 @@ vacate-requires-clause-held g c =
     (t.0, ap (λ h. value_at c.in-Ok.r h.lots) c.in_default-claim.ensures.missed.0 ∙ has seat c.claim.new.seat c.in-Ok.r t.0 (ap bare t.1) c.in-Ok.ensures.fresh, t.3)
 
 pub returns-in_default-clause-claimed : goal.returns-in_default-clause-claimed
-returns-in_default-clause-claimed g c = full_now c.args.arena 1 _ c.args.seat.now c.claim.new.seat c.requires.exist c.in_default.ensures.seen c.in_default.ensures.missed
+returns-in_default-clause-claimed g c = full_now c.args.arena 1 _ c.args.seat.now c.claim.new.seat c.in_default.ensures.seen c.in_default.ensures.missed
 
 pub returns-in_default-claim-clause-claimed : goal.returns-in_default-claim-clause-claimed
 returns-in_default-claim-clause-claimed g c =
     let t = c.in-Ok.ensures.claimed in let seat = c.args.seat.now in let mid = c.claim.new.seat in
-    full_after c.args.arena _ seat mid c.claim-2.new.seat c.vacate.new.seat c.in-Ok.r t.0 c.requires.exist c.in-Ok.ensures.record.0
-    (exists g (goal.at.returns-in_default-claim-clause-claimed g c).In-Ok) (ap bare t.1) c.in-Ok.ensures.fresh (advanced _ seat mid t.4)
+    full_after c.args.arena _ seat mid c.claim-2.new.seat c.vacate.new.seat c.in-Ok.r t.0 c.in-Ok.ensures.record.0 (ap bare t.1) c.in-Ok.ensures.fresh (advanced _ seat mid t.4)
     c.in_default-claim.ensures.seen c.in_default-claim.ensures.missed c.vacate.ensures.vacated.0 c.vacate.ensures.vacated.2
 
 pub returns-clause-claimed : goal.returns-clause-claimed

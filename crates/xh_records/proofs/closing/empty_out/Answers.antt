@@ -1,8 +1,8 @@
 use Rattle.xh_records.proofs.Common.{nat_tests, rules, arith, ◌≡◌, ℕ, ◌+◌, ◌<◌, List, length, get_or, refl, sym, ap, ◌∙◌, subst, [], ◌∷◌, ◌++◌, append_assoc, append-nil, length-append, Option}
-use Rattle.xh_records.proofs.Common.{None, vec_len, rest, turned, LotOf, Among, Distinct, keys, distinct_split, keys_append, lot_in, indices, AllLots, carried, deeds_by, deeds_in, events, own_of, place_of, ℕ}
+use Rattle.xh_records.proofs.Common.{None, vec_len, rest, turned, LotOf, Among, Distinct, keys, distinct_split, keys_append, lot_in, indices, AllLots, carried, deeds_by, deeds_in}
+use Rattle.xh_records.proofs.Common.{events, own_of, place_of, ℕ}
 use Rattle.xh_records.proofs.Cuts.{hands_over}
 use Rattle.xh_records.proofs.Lists.{next_slot, all_front, fills, first_is, below_at}
-use Rattle.xh_records.proofs.Ended.{read_is}
 use Rattle.xh_records.proofs.Seating.{lot_here, all_full}
 use Rattle.xh_records.proofs.Numbered.{indices_are, lot_numbered, views_are}
 use Rattle.xh_records.proofs.closing.empty_out.Given.{Over}
@@ -38,9 +38,8 @@ module _ (g : Over) (c : After-from-slot g) where
       let below : c.loop-k.k < c.len-k-end.result = c.loop-k-test.true in
       let done : length front ≡ c.loop-k.k = c.loop-k.invariant.3.done in
       let size : length c.seat.inside.order.items ≡ length (keys (front ++ back)) = ap length order_is in
-      let at : slot ≡ get_or c.seat.inside.order.items c.loop-k.k slot = c.from-slot.ensures ∙ c.index-at.ensures
-      ∙ ap (λ z. get_or c.seat.inside.order.items c.loop-k.k z) (sym c.from-slot.ensures) in
-      next_slot front back slot (omega arith) (sym (read_is c.seat.inside.order.items c.loop-k.k slot 0 (omega arith) at) ∙ (λ j. get_or (order_is j) (sym done j) 0))
+      next_slot front back slot (omega arith)
+      (c.from-slot.ensures ∙ ap (λ z. get_or z c.loop-k.k 0) c.as_slice.ensures ∙ (λ j. get_or (order_is j) (sym done j) 0))
 
   here : c.loop-k.token.me.1 ≡ (c.from-slot.result, next.0) ∷ (next.1 ++ c.loop-k.invariant.2)
   here = c.loop-k.invariant.3.left ∙ ap (λ z. z ++ c.loop-k.invariant.2) next.2
@@ -106,5 +105,6 @@ returns-clause-token g c =
 pub returns-clause-did : goal.returns-clause-did
 returns-clause-did g c =
     let me = c.seat.inside.token.me in
-    let own : deeds_in me.0 ≡ deeds_by (place_of c.args.seat.process) c.args.seat.front = ap own_of c.seat.invariant.front ∙ (λ i. deeds_by (place_of (c.seat.view_is i).process) (c.seat.view_is i).front) in
+    let own : deeds_in me.0 ≡ deeds_by (place_of c.args.seat.process) c.args.seat.front = ap own_of c.seat.invariant.front
+    ∙ (λ i. deeds_by (place_of (c.seat.view_is i).process) (c.seat.view_is i).front) in
     (sym (ap (λ x. x.done) c.seat.view_is) ∙ ap events own, sym (ap (λ x. x.moved) c.seat.view_is) ∙ ap carried own)

@@ -1,11 +1,39 @@
-use Rattle.std.proofs.Common.{subst}
-use Rattle.std.proofs.lemmas.Result.{IfOk-weaker}
+use Rattle.std.proofs.Common.{◌≡◌, ◌∙◌, All, IfOk, subst, sym}
 use Rattle.xh_calls.specs.Parts.{AreMadeBy}
+use Rattle.xh_core.specs.declared.ledger.ArenaLine.{ArenaLine}
 use Rattle.xh_model.specs.declared.limits.TheConstants.{MAX_WORKERS}
 use Rattle.xh_script.specs.Scripts.{listing_of}
+use Rattle.xh_runner.specs.Reports.{Answers}
+use Rattle.xh_runner.specs.Runs.{HasPlayed}
 use Rattle.xh_runner.proofs.threads.run_named.Goals as goal
 
-pub returns-in-Ok-run_script-clause-run : goal.returns-in-Ok-run_script-clause-run
-returns-in-Ok-run_script-clause-run g c = IfOk-weaker c.report_of.result _ _
-    (λ r told. told c.args.config (listing_of c.args.script.now)
-    (subst (AreMadeBy c.args.config MAX_WORKERS) c.requires.names c.requires.made) c.in-Ok-run_script.ensures.played) c.report_of.ensures.run
+pub returns-clause-run : goal.returns-clause-run
+returns-clause-run g c =
+    let parts = g.N.Names.parts in
+    let leads = g.N.Names.leads in
+    let script = listing_of c.args.script.now in
+    let (done, is, same, closed) = c.in_ok-answers.ensures.closed in record {
+      made = subst (AreMadeBy c.args.config MAX_WORKERS) c.requires.names c.requires.made;
+      accounts = done.1.items;
+      looks = done.2.items;
+      played = subst (λ x. HasPlayed parts leads script x.0.items done.1.items done.2.items) (sym same)
+          (subst (λ r. IfOk r (λ d. HasPlayed parts leads script d.0.0.items d.1.items d.2.items)) is c.run_script-played.ensures.played);
+      closed = closed;
+    }
+
+pub returns-clause-answers : goal.returns-clause-answers
+returns-clause-answers g c =
+    let script = listing_of c.args.script.now in
+    let (done, is, same, closed) = c.in_ok-answers.ensures.closed in
+    subst (λ x. Answers script x.0.items x.1.items) (sym same) (subst (λ r. IfOk r (λ d. Answers script d.0.0.items d.0.1.items)) is c.run_script-played.ensures.answers)
+
+pub returns-clause-ledger : goal.returns-clause-ledger
+returns-clause-ledger g c =
+    let made = subst (AreMadeBy c.args.config MAX_WORKERS) c.requires.names c.requires.made in
+    let books = c.in_ok-answers.ensures in record {
+      count = books.arenas.0 ∙ made.5;
+      sizes = subst (λ n. All (λ (a : ArenaLine). a.size ≡ n) c.in_ok-answers.books.ledger.arenas.items) made.1 books.arenas.1;
+      places = books.places;
+      balanced = books.balanced;
+      in_flight = books.lines;
+    }

@@ -25,25 +25,29 @@ returns-clause-played g c =
       played = c.in_ok-machines.ensures.played;
       accounts_are = rw c.in_ok-accounts.ensures.accounts (map_twice _ _ machines);
       looks_are = rw c.in_ok-accounts.ensures.looks (map_twice _ _ machines);
-      named = c.in_ok-machines.ensures.names.0;
     }
+
+pub returns-clause-answers : goal.returns-clause-answers
+returns-clause-answers g c = record {
+  lines = c.in_ok-machines.ensures.answers;
+  named = c.in_ok-machines.ensures.names.0;
+  count = c.in_ok-machines.ensures.names.1;
+}
 
 pub returns-clause-count : goal.returns-clause-count
 returns-clause-count g c =
     let count = played_count (did g.N.Names.parts g.N.Names.leads) c.args.script.now.contracts.items c.args.script.now.lines.items c.in_ok-machines.field-0.answers.items _ _ c.in_ok-machines.ensures.played in
     let olds = length-map {B = WorkerState} c.in_ok-workers.workers.items (λ w. record { account = w.account; look = w.look }) in
-    let news = length-map {B = WorkerState} c.in_ok-machines.field-0.machines.items (λ w. record { account = w.account; look = w.look }) in (
-      omega (
-        arith,
-        count,
-        olds,
-        news,
-        c.in_ok-workers.workers.ok,
-        c.in_ok-machines.field-0.machines.ok,
-        ap (λ v. vec_len v) c.in_ok-machines.machines-is,
-        c.in_ok-workers.ensures.count,
-        c.in_ok-accounts.ensures.count.0,
-        c.requires.accounts.0,
-      ),
-      c.in_ok-machines.ensures.names.1,
+    let news = length-map {B = WorkerState} c.in_ok-machines.field-0.machines.items (λ w. record { account = w.account; look = w.look }) in
+    omega (
+      arith,
+      count,
+      olds,
+      news,
+      c.in_ok-workers.workers.ok,
+      c.in_ok-machines.field-0.machines.ok,
+      ap (λ v. vec_len v) c.in_ok-machines.machines-is,
+      c.in_ok-workers.ensures.count,
+      c.in_ok-accounts.ensures.count.0,
+      c.requires.accounts.0,
     )

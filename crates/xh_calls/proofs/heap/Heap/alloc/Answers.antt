@@ -1,12 +1,27 @@
-use Rattle.xh_calls.proofs.Common.{alloc_tests, arith, first_append, length, rules, start, ◌≤◌}
-use Rattle.xh_calls.proofs.Started.{unclaimed}
+use Rattle.xh_calls.proofs.Common.{alloc_tests, ap, arith, length, places, refl, rules, start, status_at, sym, ◌≡◌, ◌≤◌}
+use Rattle.xh_calls.proofs.Asking.{allocated, asks}
+use Rattle.xh_core.specs.Space.{rounded}
+use Rattle.xh_records.specs.declared.shape.Shape.{Shape}
+use Rattle.xh_calls.proofs.Started.{stopped_first, unclaimed}
 use Rattle.xh_calls.proofs.heap.Heap.alloc.Goals as goal
 
-pub returns-in_err-check_start-clause-made : goal.returns-in_err-check_start-clause-made
-returns-in_err-check_start-clause-made g c =
-    let place = c.args.place.now.place in let tests = alloc_tests c.args.arena (length g.N.Names.parts.records.shape.names) c.args.n g.N.Names.parts.size in record {
+pub returns-in_err-check_number-clause-made : goal.returns-in_err-check_number-clause-made
+returns-in_err-check_number-clause-made g c =
+    let place = c.args.place.now.place in let tests = alloc_tests c.args.arena (length g.N.Names.parts.records.shape.names) c.args.n g.N.Names.parts.size in
+    let none = unclaimed c.from_residual.result (λ cs. length cs ≤ 1) c.args.arena place (omega arith) in record {
       made = search rules;
       block = search rules;
-      refused = unclaimed c.from_residual.result (λ cs. length cs ≤ 1) c.args.arena place (omega arith);
-      why = rw (first_append (start c.args.p place) tests _ c.in_err-check_start.ensures) (search rules);
+      refused = none;
+      why = stopped_first (start (status_at c.args.p place)) tests c.from_residual.result _ c.in_err-check_number.ensures.other.0 (search rules) _ refl;
     }
+
+pub returns-clause-made : goal.returns-clause-made
+returns-clause-made g c =
+    allocated c.args.n c.args.arena c.args.place.now c.alloc-answer.new.self c.alloc-answer.result (sym c.in_ok-check_number.ensures.latest) (ap (λ (s : Shape). length s.names) c.requires.0.1) refl
+    (λ a n e h. (h.0, h.1.0, h.2, h.3)) c.alloc-answer.ensures.made
+
+pub returns-clause-refused : goal.returns-clause-refused
+returns-clause-refused g c =
+    let left = c.alloc-answer.new.desk.vaults.now in let ended : c.end.new.seen ≡ left.front = search (rules, places) in
+    rw ended (rw (sym c.new-lent.ensures) (asks g.N.Names.parts c.args.arena (rounded c.args.n) c.new-lent.result.front left.front _ _ _ _ _ _ _ c.alloc-answer.result (λ why h. h)
+    c.alloc-answer.ensures.made.why))

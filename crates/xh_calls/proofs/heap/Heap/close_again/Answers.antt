@@ -1,5 +1,4 @@
-use Rattle.xh_calls.proofs.Common.{AreBlocks, HasLow, None, PlaceOf, first_refusal, inl, inr, refl, start, subst, sym, ◌≡◌}
-use Rattle.xh_calls.proofs.Moved.{none_back}
+use Rattle.xh_calls.proofs.Common.{AreBlocks, HasLow, None, PlaceOf, first_refusal, inl, inr, none_back, refl, start, status_at, subst, sym, ◌≡◌}
 use Rattle.xh_calls.proofs.Same.{stays_itself}
 use Rattle.xh_calls.proofs.Wiring.{closes_again}
 use Rattle.xh_calls.proofs.heap.Heap.close_again.Goals as goal
@@ -11,14 +10,14 @@ returns-in-Err-clause-closed g c = (
   (stays_itself c.args.place.now).1,
   0,
   inl ((refl, refl), inl (_, c.in-Err.ensures)),
-  none_back c.args.till.now.tallies.items c.args.till.now.tallies.items refl,
+  none_back refl,
 )
 
 pub returns-then-has_low-clause-closed : goal.returns-then-has_low-clause-closed
 returns-then-has_low-clause-closed g c =
     let from = c.has_low.new.place in let same = sym c.has_low.ensures.same.0 in
     let d = closes_again c.args.p c.args.r c.args.channel c.args.till.now.tallies.items c.close-closed.new.till.tallies.items from c.close-closed.new.place c.close-closed.result
-    (subst (λ (z : PlaceOf). first_refusal (start c.args.p z) ≡ None) same c.in_default.ensures.0) (subst (λ (z : PlaceOf). AreBlocks z.blocks) same c.blocks-blocks.ensures.blocks)
+    (subst (λ (z : PlaceOf). first_refusal (start (status_at c.args.p z)) ≡ None) same c.in_default.ensures.0) (subst (λ (z : PlaceOf). AreBlocks z.blocks) same c.blocks-blocks.ensures.blocks)
     (subst (λ (z : PlaceOf). HasLow c.args.channel c.args.r z) same (c.has_low.ensures.yes c.if-has_low.true)) c.close-closed.ensures.closed in
     (from, c.has_low.ensures.same, c.close-closed.ensures.same.0.3, d.0, d.1, d.2)
 
@@ -29,5 +28,5 @@ returns-else-has_low-clause-closed g c = (
   c.has_low.ensures.same.1,
   0,
   inl ((c.has_low.ensures.same.0, refl), inr (c.has_low.ensures.no c.if-has_low.false)),
-  none_back c.args.till.now.tallies.items c.args.till.now.tallies.items refl,
+  none_back refl,
 )

@@ -1,5 +1,4 @@
-use Rattle.xh_calls.proofs.Common.{FindsFull, Opens, arena_tests, length, places, rules, sym, ◌++◌, ◌≡◌}
-use Rattle.xh_place.specs.Starts.{start as starts}
+use Rattle.xh_calls.proofs.Common.{FindsFull, Opens, arena_tests, length, places, rules, start, sym, ◌++◌, ◌≡◌}
 use Rattle.xh_calls.proofs.Asking.{unopened}
 use Rattle.xh_calls.proofs.Moved.{lent_back}
 use Rattle.xh_calls.proofs.heap.Heap.open_ends.Goals as goal
@@ -14,4 +13,4 @@ returns-clause-why g c =
     let place = c.args.place.now.place in let left = c.open-answer.new.desk.vaults.now in
     let ended : c.end.new.seen ≡ left.front = search (rules, places) in
     rw ended (rw (sym c.new-lent.ensures) (unopened c.new-lent.result left (λ l. l.front) g.N.Names.parts c.args.arena (FindsFull 1 c.args.place.now c.open-answer.new.self c.args.arena) _
-    (starts place.state ++ arena_tests c.args.arena (length place.shape.names)) c.open-answer.result _ c.open-answer.ensures.why))
+    (start place.state ++ arena_tests c.args.arena (length place.shape.names)) c.open-answer.result _ c.open-answer.ensures.why))

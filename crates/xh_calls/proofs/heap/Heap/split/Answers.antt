@@ -1,11 +1,15 @@
-use Rattle.xh_calls.proofs.Common.{found, split_tests, start}
-use Rattle.xh_calls.proofs.Started.{passes}
+use Rattle.xh_calls.proofs.Common.{MAX_RECORDS, Splits, Status, arith, found, length, refl, rules, split_tests, start, status_at, subst, sym, ◌/◌, ◌≤◌}
+use Rattle.xh_calls.proofs.Started.{stopped_first, unclaimed}
 use Rattle.xh_calls.proofs.heap.Heap.split.Goals as goal
+
+pub returns-in_err-check_number-clause-cut : goal.returns-in_err-check_number-clause-cut
+returns-in_err-check_number-clause-cut g c =
+    let place = c.args.place.now.place in record {
+      cut = search rules;
+      refused = unclaimed c.from_residual.result (λ cs. length cs ≤ 1) (c.args.r / MAX_RECORDS) place (omega arith);
+      why = stopped_first (start (status_at c.args.p place)) (split_tests (found place c.args.r) c.args.k) c.from_residual.result _ c.in_err-check_number.ensures.other.0 (search rules) _ refl;
+    }
 
 pub returns-clause-cut : goal.returns-clause-cut
 returns-clause-cut g c =
-    let place = c.args.place.now.place in let done = c.split-answer.ensures in record {
-      cut = done.cut.cut;
-      refused = done.cut.refused;
-      why = passes (start c.args.p place) (split_tests (found place c.args.r) c.args.k) c.in_ok-check_start.ensures.0 place.state c.in_ok-check_start.ensures.1 _ _ done.why;
-    }
+    subst (λ (s : Status). Splits s c.args.r c.args.k c.args.place.now c.split-answer.new.self c.split-answer.result) (sym c.in_ok-check_number.ensures.latest) c.split-answer.ensures.cut

@@ -1,12 +1,11 @@
-use Rattle.xh_calls.proofs.Common.{end_tests, first_append, found, refl, rules, start}
-use Rattle.xh_calls.proofs.Started.{passes}
+use Rattle.xh_calls.proofs.Common.{Status, TakesAt, end_tests, found, refl, rules, start, status_at, subst, sym}
+use Rattle.xh_calls.proofs.Started.{stopped_first}
 use Rattle.xh_calls.proofs.heap.Heap.take.Goals as goal
 
-pub returns-in_err-check_start-clause-taken : goal.returns-in_err-check_start-clause-taken
-returns-in_err-check_start-clause-taken g c =
-    let place = c.args.place.now.place in rw (first_append (start c.args.p place) (end_tests (found place c.args.e)) _ c.in_err-check_start.ensures) (search rules, refl)
+pub returns-in_err-check_number-clause-taken : goal.returns-in_err-check_number-clause-taken
+returns-in_err-check_number-clause-taken g c =
+    let place = c.args.place.now.place in
+    stopped_first (start (status_at c.args.p place)) (end_tests (found place c.args.e)) c.from_residual.result _ c.in_err-check_number.ensures.other.0 (search rules) _ refl
 
 pub returns-clause-taken : goal.returns-clause-taken
-returns-clause-taken g c =
-    let place = c.args.place.now.place in let runs = c.in_ok-check_start.ensures in
-    passes (start c.args.p place) (end_tests (found place c.args.e)) runs.0 place.state runs.1 _ _ c.take.ensures.taken
+returns-clause-taken g c = subst (λ (s : Status). TakesAt s c.args.e c.args.place.now c.take.new.self c.take.result) (sym c.in_ok-check_number.ensures.latest) c.take.ensures.taken

@@ -13,4 +13,5 @@ returns-clause-why g c =
     let parts = g.N.Names.parts in let e = c.add.ensures in
     let was = known parts g.row.A _ c.kept.inside.pen c.in-Some.vault c.in-Some.is c.kept.invariant in
     let is = carve_stays parts g.row.A c.args.n _ _ _ _ _ _ c.carve-answer.result was.0 c.carve-answer.ensures.done c.carve-answer.ensures.refused in
-    asked parts g.row.A _ _ _ _ _ _ c.kept.invariant.0 was is e.pen e.front e.seen c.args.arena c.args.n _ _ c.carve-answer.result c.requires.is c.carve-answer.ensures.lawful c.carve-answer.ensures.refused
+    asked parts g.row.A _ _ _ _ _ _ c.kept.invariant.0 was is e.pen e.front e.seen c.args.arena c.args.n _ _ c.carve-answer.result c.requires.is c.carve-answer.ensures.lawful
+    c.carve-answer.ensures.refused

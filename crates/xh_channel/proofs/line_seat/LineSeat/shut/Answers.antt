@@ -1,4 +1,4 @@
-use Rattle.xh_channel.proofs.Common.{IsSettled, LineView, Shuts, ShutsBy, Some, ap, line_view, rules, subst, sym, ◌∙◌}
+use Rattle.xh_channel.proofs.Common.{IsSettled, EndpointShuts, LineShuts, LineView, SeatDoes, Some, ap, line_view, rules, subst, sym, ◌∙◌}
 use Rattle.xh_channel.proofs.LineMoves.{done_here, shut_done, slot_first, still_held, view_after}
 use Rattle.xh_channel.proofs.line_seat.LineSeat.shut.Goals as goal
 
@@ -8,15 +8,15 @@ slot_mut-requires g c = let h = c.hold.ensures.held in (search rules, (Some h.0,
 pub settle-requires-clause-line : goal.settle-requires-clause-line
 settle-requires-clause-line g c =
     let v = c.self.inside.seat.me.0 in let t = c.self.inside.seat.table_id in let h = c.hold.ensures.held in let line = c.shut.new.self in
-    let s = shut_done t v h.1 h.0 line h.3 (done_here v h.1 h.0 _ h.2 _ _ _ line Shuts c.self.invariant.side c.slot_mut.ensures.value c.in-Some.is c.shut.ensures.shut) in
+    let s = shut_done t v h.1 h.0 line h.3 (done_here v h.1 h.0 _ h.2 _ _ _ line LineShuts c.self.invariant.side c.slot_mut.ensures.value c.in-Some.is c.shut.ensures.shut) in
     let held = still_held v h.1 h.0 _ h.2 line in
     (line, ap (λ m. m.1) held, subst (λ m. IsSettled m.0 line) (sym held) s.0)
 
-pub returns : goal.returns
-returns g c =
+pub returns-clause-shut : goal.returns-clause-shut
+returns-clause-shut g c =
     let v = c.self.inside.seat.me.0 in let t = c.self.inside.seat.table_id in let h = c.hold.ensures.held in let line = c.shut.new.self in
-    let s = shut_done t v h.1 h.0 line h.3 (done_here v h.1 h.0 _ h.2 _ _ _ line Shuts c.self.invariant.side c.slot_mut.ensures.value c.in-Some.is c.shut.ensures.shut) in
+    let s = shut_done t v h.1 h.0 line h.3 (done_here v h.1 h.0 _ h.2 _ _ _ line LineShuts c.self.invariant.side c.slot_mut.ensures.value c.in-Some.is c.shut.ensures.shut) in
     let held = still_held v h.1 h.0 _ h.2 line in
     let gone = c.settle.ensures in
     let now = ap (λ table. line_view table c.settle.new.token.me.0) (gone.same.0 ∙ c.hold.ensures.same.0) ∙ view_after t v h.1 line _ _ held gone.settled in
-    subst (λ (x : LineView × LineView). ShutsBy x.0 x.1) (λ j. (c.self.view_is j, sym now j)) s.1
+    subst (λ (x : LineView × LineView). SeatDoes x.0 x.1 EndpointShuts) (λ j. (c.self.view_is j, sym now j)) s.1

@@ -1,4 +1,4 @@
-use Rattle.xh_channel.proofs.Common.{IsSettled, LineView, OnErr, Some, TakesBy, TakesOn, ap, line_view, rules, subst, sym, ◌∙◌, ◌≡◌}
+use Rattle.xh_channel.proofs.Common.{IsSettled, LineView, OnErr, EndpointTakes, LineTakes, OnlySaw, SeatDoes, Some, ap, line_view, rules, subst, sym, ◌∙◌, ◌≡◌}
 use Rattle.xh_channel.proofs.LineMoves.{done_here, take_done, slot_first, still_held, view_after}
 use Rattle.xh_channel.proofs.line_seat.LineSeat.take.Goals as goal
 
@@ -8,19 +8,19 @@ slot_mut-requires g c = let h = c.hold.ensures.held in (search rules, (Some h.0,
 pub settle-requires-clause-line : goal.settle-requires-clause-line
 settle-requires-clause-line g c =
     let v = c.self.inside.seat.me.0 in let t = c.self.inside.seat.table_id in let h = c.hold.ensures.held in let line = c.take-taken.new.self in
-    let d = done_here v h.1 h.0 _ h.2 _ _ _ line (λ a b k. TakesOn a b k c.take-taken.result
+    let d = done_here v h.1 h.0 _ h.2 _ _ _ line (λ a b k. LineTakes a b k c.take-taken.result
     × OnErr c.take-taken.result (b ≡ a)) c.self.invariant.side c.slot_mut.ensures.value c.in-Some.is (c.take-taken.ensures.taken, c.take-taken.ensures.refused) in
-    let s = take_done t v h.1 h.0 line h.3 c.take-taken.result d.0 d.1 in
+    let s = take_done t v h.1 h.0 line h.3 c.take-taken.result d.0 d.1 c.take-taken.ensures.last in
     let held = still_held v h.1 h.0 _ h.2 line in
     (line, ap (λ m. m.1) held, subst (λ m. IsSettled m.0 line) (sym held) s.0)
 
 pub returns-clause-taken : goal.returns-clause-taken
 returns-clause-taken g c =
     let v = c.self.inside.seat.me.0 in let t = c.self.inside.seat.table_id in let h = c.hold.ensures.held in let line = c.take-taken.new.self in
-    let d = done_here v h.1 h.0 _ h.2 _ _ _ line (λ a b k. TakesOn a b k c.take-taken.result
+    let d = done_here v h.1 h.0 _ h.2 _ _ _ line (λ a b k. LineTakes a b k c.take-taken.result
     × OnErr c.take-taken.result (b ≡ a)) c.self.invariant.side c.slot_mut.ensures.value c.in-Some.is (c.take-taken.ensures.taken, c.take-taken.ensures.refused) in
-    let s = take_done t v h.1 h.0 line h.3 c.take-taken.result d.0 d.1 in
+    let s = take_done t v h.1 h.0 line h.3 c.take-taken.result d.0 d.1 c.take-taken.ensures.last in
     let held = still_held v h.1 h.0 _ h.2 line in
     let gone = c.settle.ensures in
     let now = ap (λ table. line_view table c.settle.new.token.me.0) (gone.same.0 ∙ c.hold.ensures.same.0) ∙ view_after t v h.1 line _ _ held gone.settled in
-    subst (λ (x : LineView × LineView). TakesBy x.0 x.1 c.take-taken.result) (λ j. (c.self.view_is j, sym now j)) s.1
+    subst (λ (x : LineView × LineView). SeatDoes x.0 x.1 (λ e e'. EndpointTakes e e' c.take-taken.result × OnErr c.take-taken.result (OnlySaw e e'))) (λ j. (c.self.view_is j, sym now j)) s.1

@@ -1,5 +1,6 @@
 use Rattle.xh_kernel.proofs.Common.{Repeats, ℕ}
-use Rattle.xh_calls.specs.Messages.{Gives}
+use Rattle.xh_calls.specs.Places.{status_at}
+use Rattle.xh_place.specs.Messages.{Gives}
 use Rattle.xh_calls.specs.declared.call.Call.TheVariants.{Give}
 use Rattle.xh_kernel.specs.Waits.{no_room}
 use Rattle.xh_model.specs.Words.{place_of}
@@ -7,4 +8,4 @@ use Rattle.xh_kernel.proofs.kernel.Kernel.give_wait_until.Given as goal
 
 abbrev pub invariant-loop : goal.invariant-loop
 invariant-loop g l = (n : ℕ) × Repeats g.N.Names.leads (place_of l.fn.p) (Give l.fn.p l.fn.e l.fn.tag l.fn.blocks (no_room l.fn.blocks))
-    (λ old new. Gives l.fn.p l.fn.e l.fn.tag l.fn.blocks old new (no_room l.fn.blocks)) n l.fn.account l.account
+    (λ old new. Gives (status_at l.fn.p old.place) l.fn.e l.fn.tag l.fn.blocks old new (no_room l.fn.blocks)) n l.fn.account l.account

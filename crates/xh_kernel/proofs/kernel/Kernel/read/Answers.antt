@@ -5,7 +5,7 @@ use Rattle.xh_kernel.proofs.kernel.Kernel.read.Goals as goal
 pub note-requires : goal.note-requires
 note-requires g c κs within =
     let held = c.deref_mut-held.result.now in let e = c.read-answer.ensures in
-    (search rules, (search rules, (search rules, (search rules, (search rules, (held.place, held.place, held.history, stays_itself held.place, (e.same.0, e.read), e.same.1))))))
+    (search rules, (search rules, (search rules, (search rules, (search rules, (held.place, held.place, held.history, stays_itself held.place, e.read, e.read.same.1))))))
 
 pub returns-clause-call : goal.returns-clause-call
 returns-clause-call g c =

@@ -7,7 +7,8 @@ pub loop-preserved : goal.loop-preserved
 loop-preserved g c =
     let place = ap (λ h. h.scribe.pen.number) c.deref_mut.ensures.value ∙ c.held-held.ensures in
     again g.N.Names.leads c.deref_mut.result.now.scribe.pen.number (place_of c.args.p) place c.loop.invariant.0
-    (TakeAny c.args.p c.args.ends.now (Err Empty)) (λ old new. TakesAny c.args.p c.args.ends.now old new (Err Empty)) c.args.account.now c.loop.account c.search-found.new.account c.loop.invariant.1 c.in-Later.ensures
+    (TakeAny c.args.p c.args.ends.now (Err Empty)) (λ old new. TakesAny c.args.p c.args.ends.now old new (Err Empty)) c.args.account.now c.loop.account c.search-found.new.account
+    c.loop.invariant.1 c.in-Later.ensures
 
 pub returns-in-Done-clause-calls : goal.returns-in-Done-clause-calls
 returns-in-Done-clause-calls g c =

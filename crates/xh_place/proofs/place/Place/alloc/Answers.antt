@@ -1,17 +1,34 @@
-use Rattle.xh_place.proofs.Common.{rules, arith, ◌≡◌, ℕ, ◌≤◌, ◌<◌, List, [], ◌∷◌, ◌++◌, length, sym, ◌∙◌, subst, vec_capacity, Claim, Event, Err, None, IfErr, FindsFull, SeatFull, alloc_tests}
-use Rattle.xh_place.proofs.Common.{first_refusal, Tests, start, block_small, did_only, finds_full, heard, heard_shows, held_record, let_go, lets_go, list_room, no_block_as, over_running, place_seen}
+use Rattle.xh_place.proofs.Common.{rules, arith, ◌≡◌, ℕ, ◌≤◌, ◌<◌, List, [], ◌∷◌, ◌++◌, length, sym, ◌∙◌, subst, Claim, Event, Err, None, FindsFull, SeatFull, alloc_tests}
+use Rattle.xh_place.proofs.Common.{first_refusal, Tests, start, block_small, did_only, finds_full, heard, heard_shows, let_go, lets_go, list_room, no_block_as, over_running}
+use Rattle.xh_place.proofs.Common.{place_seen}
 use Rattle.xh_place.proofs.Common.{placed, total_bound}
 use Rattle.xh_place.proofs.Common.{untested, with_blocks, with_events, won}
-use Rattle.xh_place.specs.Vaults.{IsNoBlock}
+use Rattle.std.proofs.Common.{refl, ◌≢◌}
+use Rattle.xh_arena.specs.Views.{VaultOf}
+use Rattle.xh_core.specs.declared.refused.Refused.{Refused}
+use Rattle.xh_core.specs.declared.refused.Refused.TheVariants as reason
+use Rattle.xh_place.specs.Calls.{IsLack}
+use Rattle.xh_place.specs.Vaults.{IsNoBlock, IsRefusedAt}
 use Rattle.xh_core.specs.Space.{rounded}
 use Rattle.xh_place.proofs.place.Place.alloc.Goals as goal
 
-pub make_block-requires-clause-exist : goal.make_block-requires-clause-exist
-make_block-requires-clause-exist g c = held_record c.self.invariant
+-- what there was a lack of, and that no vault was touched but for want of space
+module _ {V : Type 0} (changes : V → V → ℕ → VaultOf → VaultOf → Type 0) (old new : V) (a n : ℕ) (full : Type 0) where
+  lack_of : (e : Refused) → IsNoBlock changes old new a n full e → IsLack full (IsRefusedAt changes old new a n) e
+  lack_of reason.NoRecord h = h.1
+  lack_of reason.OutOfMemory h = tt
+  lack_of e h = h
+
+  untouched_of : (e : Refused) → IsNoBlock changes old new a n full e → e ≢ reason.NoSpace → e ≢ reason.Worn → new ≡ old
+  untouched_of reason.NoRecord h space worn = h.0
+  untouched_of reason.OutOfMemory h space worn = h
+  untouched_of reason.NoSpace h space worn = absurd (space refl)
+  untouched_of reason.Worn h space worn = absurd (worn refl)
+  untouched_of e h space worn = absurd h
 
 pub push_reserved-requires : goal.push_reserved-requires
 push_reserved-requires g c =
-    let t = c.in_ok-rec.ensures.block in let room : length c.self.inside.list.items < vec_capacity c.self.inside.list = list_room c.self.inside.list.items c.self.invariant t.3 t.1 in search rules
+    let t = c.in_ok-rec.ensures.block in let room : length c.self.inside.list.items < c.self.inside.list.capacity = list_room c.self.inside.list.items c.self.invariant t.3 t.1 in search rules
 
 pub overflow_add-self : goal.overflow_add-self
 overflow_add-self g c = let t = c.in_ok-rec.ensures.block in omega (arith, total_bound c.self.invariant, block_small t.3, t.4, c.from-2.ensures)
@@ -31,8 +48,9 @@ returns-clause-made g c =
       made = both.1 (with_events old es) (heard_shows es c.self.inside.seat (placed c.self.view_is))
           ∙ (λ i. with_events (with_blocks old (old.blocks ++ (c.in_ok-rec.rec, record { len = t.4 i; content = t.5 i }) ∷ [])) (Claim (placed c.self.view_is i).process c.in_ok-rec.rec ∷ []));
       block = search rules;
-      taken = search rules;
       refused = search rules;
+      why = let tests : Tests = start old.state ++ alloc_tests c.args.arena (length old.shape.names) c.args.n (g.V.Vaults.extent c.args.desk.now.vaults.now) in
+          let passed : first_refusal tests ≡ None = search rules in untested tests _ _ passed tt;
     }
 
 pub invariant_of-self : goal.invariant_of-self
@@ -40,16 +58,6 @@ invariant_of-self g c = let f = c.in_err-rec.ensures.refused.0 in (did_only c.se
 
 pub returns-in_err-rec-clause-made : goal.returns-in_err-rec-clause-made
 returns-in_err-rec-clause-made g c =
-    let f = c.in_err-rec.ensures.refused in let is : c.from_residual-in_err-rec.result ≡ Err c.in_err-rec.field-0.0 = search rules in
-    rw is (record {
-      made = tt;
-      block = tt;
-      taken = tt;
-      refused = (lets_go c.self.inside.list.items c.self.invariant c.make_block.new.seat (λ cs. length cs ≤ 1) c.args.arena c.args.self.now.place (placed c.self.view_is) f.0, f.1);
-    })
-
-pub returns-in_err-rec-clause-why : goal.returns-in_err-rec-clause-why
-returns-in_err-rec-clause-why g c =
     let vaults = c.args.desk.now.vaults.now in let left = c.make_block.new.desk.vaults.now in let seat = c.self.inside.seat in let last = c.make_block.new.seat in let old = c.args.self.now in
     let rs = c.self.inside.list.items in let new = place_seen last rs c.self.inside.state in
     let arena : ℕ = c.args.arena in let e = c.in_err-rec.field-0.0 in
@@ -59,5 +67,14 @@ returns-in_err-rec-clause-why g c =
     let saw = no_block_as g.V.Vaults.changes vaults left arena c.round_up-len.result (SeatFull 0 seat last arena) (FindsFull 0 old new arena)
     (finds_full rs c.self.invariant last 0 arena old c.self.view_is) e c.in_err-rec.ensures.why in
     let why = subst (λ k. IsNoBlock g.V.Vaults.changes vaults left arena k (FindsFull 0 old new arena) e) c.round_up-len.ensures.result saw in
-    untested tests (IfErr c.from_residual-in_err-rec.result (IsNoBlock g.V.Vaults.changes vaults left arena (rounded c.args.n) (FindsFull 0 old new arena)))
-    (λ refused. (c.from_residual-in_err-rec.result ≡ Err refused) × (left ≡ vaults) × (new.place ≡ old.place)) passed (rw is why)
+    rw is (record {
+      made = tt;
+      block = tt;
+      refused = lets_go rs c.self.invariant last (λ cs. length cs ≤ 1) arena old.place (placed c.self.view_is) c.in_err-rec.ensures.refused.0;
+      why = untested tests _ _ passed (lack_of g.V.Vaults.changes vaults left arena (rounded c.args.n) (FindsFull 0 old new arena) e why);
+    })
+
+pub returns-in_err-rec-clause-untouched : goal.returns-in_err-rec-clause-untouched
+returns-in_err-rec-clause-untouched g c =
+    let is : c.from_residual-in_err-rec.result ≡ Err c.in_err-rec.field-0.0 = search rules in
+    rw is (untouched_of g.V.Vaults.changes c.args.desk.now.vaults.now c.make_block.new.desk.vaults.now _ _ _ c.in_err-rec.field-0.0 c.in_err-rec.ensures.why)

@@ -1,5 +1,5 @@
 use Rattle.xh_place.proofs.Common.{arith, ◌≡◌, ℕ, ◌+◌, ◌-◌, length, length-append, refl, sym, subst, ap, ◌∙◌, ◌++◌, reclaimed, end_tests, MAX_BUDGET, value_at, without, IsSwept, alone, last}
-use Rattle.xh_place.proofs.Common.{HasGivenBack, IsClosed, PlaceOf, with_blocks, with_list, found_at, IsSeen, start, seen_wide, starts_same, starts_more, swept_as, unrefused}
+use Rattle.xh_place.proofs.Common.{IsClosed, PlaceOf, none_back, rules, with_blocks, with_list, found_at, IsSeen, start, seen_wide, starts_same, starts_more, swept_as, unrefused}
 use Rattle.xh_place.proofs.place.Place.close_end.Goals as goal
 
 pub returns-clause-closed : goal.returns-clause-closed
@@ -15,11 +15,9 @@ returns-clause-closed g c =
     let wide = swept_as (IsSeen turned new) (IsSeen old new)
     (seen_wide turned new old new (ap (λ p. p.shape) moved) (ap (λ p. p.process) moved) (starts_more old.front same.1 c.move_last.ensures.1) (starts_same refl))
     from MAX_BUDGET turned.place new.place bytes left is in
-    let swept = subst (λ p. IsSwept (IsSeen old new) from MAX_BUDGET p new.place bytes left) moved wide in
-    unrefused (start old.place.state ++ end_tests (found_at old.place e)) c.reclaimed.result ((new.place ≡ old.place) × (c.sweep-bytes.new.desk.tallies.now ≡ c.args.desk.now.tallies.now))
-    ((n : ℕ) × IsClosed e old new n c.reclaimed.result × HasGivenBack n c.args.desk.now.tallies.now c.sweep-bytes.new.desk.tallies.now) tested.0 (
+    let swept = subst (λ p. IsSwept (IsSeen old new) from MAX_BUDGET p new.place bytes left) moved wide in (
       bytes,
-      (
+      unrefused (start old.place.state ++ end_tests (found_at old.place e)) c.reclaimed.result _ (IsClosed e old new bytes c.reclaimed.result) tested.0 (
         left,
         subst (λ n. IsSwept (IsSeen old new) n MAX_BUDGET begun new.place bytes left) there swept,
         c.sweep-bytes.ensures.list.0 ∙ ap (λ p. with_list p new.place) moved,
@@ -27,3 +25,6 @@ returns-clause-closed g c =
       ),
       c.sweep-bytes.ensures.back,
     )
+
+pub returns-in_err-test_end-clause-closed : goal.returns-in_err-test_end-clause-closed
+returns-in_err-test_end-clause-closed g c = let e = c.in_err-test_end.ensures in (0, rw e.tested (search rules, (e.same.0, refl)), none_back refl)

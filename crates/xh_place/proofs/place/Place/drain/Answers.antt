@@ -16,7 +16,9 @@ pub loop-count-preserved : goal.loop-count-preserved
 loop-count-preserved g c =
     let i = c.loop-count.invariant in let old = c.args.self.now in let mid = c.loop-count.self in let new = c.take_message.new.self in let after = c.take_message.ensures.place.3 in
     let was = draining_as (IsSeen old mid) (IsSeen old new) (seen_wide old mid old new refl refl (starts_same refl) after) c.args.e i.0 old.place mid.place i.1 in
-    let t = takes_as (IsSeen mid new) (IsSeen old new) (seen_wide mid new old new (ap (λ p. p.shape) i.1.4 ∙ ap (λ p. p.shape) i.1.2.3) (ap (λ p. p.process) i.1.4 ∙ ap (λ p. p.process) i.1.2.3) i.3 (starts_same refl)) c.args.e mid.place new.place _
+    let t = takes_as (IsSeen mid new) (IsSeen old new)
+    (seen_wide mid new old new (ap (λ p. p.shape) i.1.4 ∙ ap (λ p. p.shape) i.1.2.3) (ap (λ p. p.process) i.1.4 ∙ ap (λ p. p.process) i.1.2.3) i.3 (starts_same refl))
+    c.args.e mid.place new.place _
     c.in-Ok.ensures.taken in
     let long : length (i.0 ++ t.1 ∷ []) ≡ length i.0 + 1 = length-append i.0 (t.1 ∷ []) in
     (i.0 ++ t.1 ∷ [], draining_more (IsSeen old new) c.args.e i.0 old.place mid.place was new.place _ t, omega (arith, long, i.2), starts_more old.front i.3 after)

@@ -1,4 +1,4 @@
-use Rattle.xh_place.proofs.Common.{rules, arith, ◌≡◌, ℕ, suc, ◌<◌, List, [], ◌∷◌, ◌++◌, length, sym, ap, ◌∙◌, refl, vec_capacity, without, length-keys, less, Item, shown, keys_without, shown_keys}
+use Rattle.xh_place.proofs.Common.{rules, arith, ◌≡◌, ℕ, suc, ◌<◌, List, [], ◌∷◌, ◌++◌, length, sym, ap, ◌∙◌, refl, without, length-keys, less, Item, shown, keys_without, shown_keys}
 use Rattle.xh_place.proofs.Common.{count_room, list_distinct, listed, placed, starts_same, since, moved_last, without_long}
 use Rattle.xh_place.proofs.place.Place.move_last.Goals as goal
 
@@ -12,7 +12,7 @@ push_reserved-requires c =
     (listed c.self.invariant (placed c.self.view_is) c.args.r c.requires.1) in
     let gone : length c.remove.new.list.items ≡ length (without c.args.r xs) =
     ap length (c.remove.ensures.items ∙ ap (less c.args.r) (sym (shown_keys seat.lots rs)) ∙ sym (keys_without c.args.r xs)) ∙ length-keys (without c.args.r xs) in
-    let fits : length c.remove.new.list.items < vec_capacity c.remove.new.list = omega (arith, long, gone, count_room c.self.invariant, c.remove.ensures.room) in search rules
+    let fits : length c.remove.new.list.items < c.remove.new.list.capacity = omega (arith, long, gone, count_room c.self.invariant, c.remove.ensures.room) in search rules
 
 pub invariant_of-self : goal.invariant_of-self
 invariant_of-self c =

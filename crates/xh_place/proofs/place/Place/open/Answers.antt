@@ -1,24 +1,21 @@
-use Rattle.xh_place.proofs.Common.{Claim, rules, arith, ◌≡◌, ℕ, ◌+◌, ◌<◌, List, [], ◌∷◌, ◌++◌, length, refl, sym, ap, ◌∙◌, subst, vec_capacity, with_blocks, Err, None, IfErr, OnOk, arena_tests}
-use Rattle.xh_place.proofs.Common.{◌≤◌, Event, FindsFull, SeatFull, did_only, finds_full, first_refusal, held_record, heard_shows, let_go, lets_go, no_pair_as, place_seen, Tests, start, list_room}
+use Rattle.xh_place.proofs.Common.{Claim, rules, arith, ◌≡◌, ℕ, ◌+◌, ◌<◌, List, [], ◌∷◌, ◌++◌, length, refl, sym, ap, ◌∙◌, subst, with_blocks, Err, None, IfErr, OnOk, arena_tests}
+use Rattle.xh_place.proofs.Common.{◌≤◌, Event, FindsFull, SeatFull, did_only, finds_full, first_refusal, heard_shows, let_go, lets_go, no_pair_as, place_seen, Tests, start, list_room}
 use Rattle.xh_place.proofs.Common.{over_running}
 use Rattle.xh_place.proofs.Common.{total_bound, placed, untested, with_events}
 use Rattle.xh_place.specs.Vaults.{IsNoPair}
 use Rattle.xh_place.proofs.Gained.{both_listed, opened, room_second}
 use Rattle.xh_place.proofs.place.Place.open.Goals as goal
 
-pub make_ends-requires-clause-exist : goal.make_ends-requires-clause-exist
-make_ends-requires-clause-exist g c = held_record c.self.invariant
-
 pub push_reserved-requires : goal.push_reserved-requires
 push_reserved-requires g c =
     let made = c.in_ok-made.ensures.made.2 in
-    let room : length c.self.inside.list.items < vec_capacity c.self.inside.list = list_room c.self.inside.list.items c.self.invariant made.first made.two.first_fresh in search rules
+    let room : length c.self.inside.list.items < c.self.inside.list.capacity = list_room c.self.inside.list.items c.self.invariant made.first made.two.first_fresh in search rules
 
 pub push_reserved-requires-2 : goal.push_reserved-requires-2
 push_reserved-requires-2 g c =
     let rs = c.self.inside.list.items in let first : c.push_reserved.new.self.items ≡ rs ++ c.in_ok-made.made.0 ∷ [] = c.push_reserved.ensures.items in
     let fits = room_second rs c.self.invariant (over_running c.self.inside.state (search rules)) c.in_ok-made.ensures.made.2 in
-    let room : length c.push_reserved.new.self.items < vec_capacity c.push_reserved.new.self =
+    let room : length c.push_reserved.new.self.items < c.push_reserved.new.self.capacity =
     subst (λ (z : List ℕ × ℕ). length z.0 < z.1) (λ i. (sym first i, sym c.push_reserved.ensures.capacity i)) fits in search rules
 
 pub overflow_add-self : goal.overflow_add-self

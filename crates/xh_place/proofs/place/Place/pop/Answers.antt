@@ -8,7 +8,9 @@ take_at-requires g c = let v = placed c.self.view_is in record {
 }
 
 pub invariant_of-self : goal.invariant_of-self
-invariant_of-self g c = (end_did c.self.inside.list.items c.self.invariant (placed c.self.view_is) c.args.e c.requires.end c.take_at.new.seat (Takes c.take_at.result.0) (λ l h. (c.take_at.ensures.seat l h).1)).0
+invariant_of-self g c = (end_did c.self.inside.list.items c.self.invariant (placed c.self.view_is) c.args.e c.requires.end c.take_at.new.seat (Takes c.take_at.result.0)
+    (λ l h. (c.take_at.ensures.seat l h).1)).0
 
 pub returns-clause-took : goal.returns-clause-took
-returns-clause-took g c = (end_did c.self.inside.list.items c.self.invariant (placed c.self.view_is) c.args.e c.requires.end c.take_at.new.seat (Takes c.take_at.result.0) (λ l h. (c.take_at.ensures.seat l h).1)).1
+returns-clause-took g c = (end_did c.self.inside.list.items c.self.invariant (placed c.self.view_is) c.args.e c.requires.end c.take_at.new.seat (Takes c.take_at.result.0)
+    (λ l h. (c.take_at.ensures.seat l h).1)).1

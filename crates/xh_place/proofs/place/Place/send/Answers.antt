@@ -1,5 +1,6 @@
-use Rattle.xh_place.proofs.Common.{arith, ◌≡◌, ℕ, ◌+◌, ◌-◌, ◌≤◌, true, List, refl, sym, ap, ◌∙◌, subst, Some, ◌==◌, list_any, vec_capacity, is_running, Event, Among, keys, put, value_at, away}
-use Rattle.xh_place.proofs.Common.{there_and_back, away_in, end_block, lens, less_all, with_done, Item, item_at, item_in, item_of, shown, with_blocks, with_events, Answers, settled, Posted}
+use Rattle.xh_place.proofs.Common.{arith, ◌≡◌, ℕ, ◌+◌, ◌-◌, ◌≤◌, true, List, refl, sym, ap, ◌∙◌, subst, Some, ◌==◌, list_any, vec_capacity, is_running, Event, Among, keys, put, value_at}
+use Rattle.xh_place.proofs.Common.{away, there_and_back, away_in, end_block, lens, less_all, with_done, Item, item_at, item_in, item_of, shown, with_blocks, with_events, Answers, settled}
+use Rattle.xh_place.proofs.Common.{EndpointOf}
 use Rattle.xh_place.proofs.Common.{Puts, heard, heard_shows, shown_keys, list_distinct, over_running, total_bound, IsNow, placed, place_gone, on_err_weaker, all_found, found}
 use Rattle.xh_place.specs.Bodies.{IsEndAt}
 use Rattle.xh_place.proofs.Common.{Arrived, place_arrived}
@@ -17,7 +18,7 @@ lots g c = values (picked c.args.given.now.items c.self.inside.seat.lots) ++ val
 went : (g : _) (c : After-settle g) → let f = found c.self.invariant (placed c.self.view_is) c.args.e c.requires.end.1 in IsNow
     (with_done (there_and_back c.self.inside.seat.process
     (away (item_in (value_at c.args.e c.self.inside.seat.lots)).content) c.args.given.now.items c.give_all-put.result.back.items) (carrying (lots g c) c.self.inside.seat))
-    c.self.inside.list.items c.self.inside.state c.give_all-put.new.seat c.settle.new.list.items (vec_capacity c.settle.new.list)
+    c.self.inside.list.items c.self.inside.state c.give_all-put.new.seat c.settle.new.list.items c.settle.new.list.capacity
     (c.self.inside.total - c.give_all-put.result.lost + c.give_all-put.result.gained)
     (λ (xs : List (ℕ × Item)). settled c.args.given.now.items (λ r. item_at (value_at r c.give_all-put.new.seat.lots)) (put c.args.e (item_of (c.give_all-put.ensures.end f.lot f.held).0) xs))
 went g c =
@@ -29,7 +30,7 @@ went g c =
     let run : is_running c.self.inside.state ≡ true = ap (λ p. is_running p.state) v ∙ ap is_running c.requires.running in
     given_place rs (over_running c.self.inside.state run)
     (heard (there_and_back seat.process (away (item_in (value_at c.args.e seat.lots)).content) given c.give_all-put.result.back.items) (carries (lots g c) c.self.invariant))
-    f.held end.3 (ap (λ z. z.len) end.2.3) end.1 c.requires.given.0 c.requires.given.1 held a.moved a.others a.back
+    f.held end.3 (ap (λ z. z.len) end.2.becomes) end.1 c.requires.given.0 c.requires.given.1 held a.moved a.others a.back
     (c.settle.ensures.items ∙ (λ i. less_all (c.as_slice.ensures.value i) (λ r. list_any (λ q. q == r) (c.as_slice-2.ensures.value i)) rs)) c.settle.ensures.room sum
 
 pub give_all-put-requires-clause-end : goal.give_all-put-requires-clause-end
@@ -63,8 +64,8 @@ returns-clause-sent g c =
     let log : es ≡ there_and_back old.process (away_in (value_at c.args.e old.blocks)) given (keys (shown last.lots back)) =
     λ i. there_and_back (v i).process (way i) given (sym (shown_keys last.lots back) i) in
     let all = lots g (goal.at.returns-clause-sent g c).After-settle in
-    let does : Posted → Posted → Type 0 = Puts c.args.tag c.args.given.now c.give_all-put.result.put in
-    let now : Item = end_block end.2.1 in let xs' : List (ℕ × Item) = put c.args.e now old.blocks in
+    let does : EndpointOf → EndpointOf → Type 0 = Puts c.args.tag c.args.given.now c.give_all-put.result.put in
+    let now : Item = end_block end.2.after in let xs' : List (ℕ × Item) = put c.args.e now old.blocks in
     let blocks : settled given (λ r. item_at (value_at r last.lots)) (put c.args.e (item_of end.0) old.blocks) ≡ settled given (λ r. value_at r (shown last.lots back)) xs' =
     ap (λ x. settled given (λ r. item_at (value_at r last.lots)) (put c.args.e x old.blocks)) (item_now does f.block end.2)
     ∙ settled_same given (λ r. item_at (value_at r last.lots)) (λ r. value_at r (shown last.lots back)) xs' (λ r h. sym (shown_look last.lots back r (a.back.here r h))) in
@@ -77,7 +78,7 @@ returns-clause-sent g c =
       answered = c.give_all-put.result.put;
       back = shown last.lots back;
       all = refl;
-      made = (end.2.0, end.2.1, c.requires.end.1 ∙ ap (λ x. Some x) (sym f.same ∙ item_was does f.block end.2), refl, end.2.4);
+      made = (end.2.before, end.2.after, c.requires.end.1 ∙ ap (λ x. Some x) (sym f.same ∙ item_was does f.block end.2), refl, end.2.did);
       moved = (
         (went g (goal.at.returns-clause-sent g c).After-settle).1 (with_events (with_moved old (map item_of all)) es) (heard_shows es (carrying all seat) (carries_shows all seat v))
             ∙ (λ i. with_moved (with_events (with_blocks old (blocks i)) (log i)) (items i)),

@@ -1,4 +1,4 @@
-use Rattle.xh_place.proofs.Common.{Shuts, placed, own_record, end_held, end_did}
+use Rattle.xh_place.proofs.Common.{EndpointShuts, placed, own_record, end_held, end_did}
 use Rattle.xh_place.proofs.place.Place.shut.Goals as goal
 
 pub shut_at-requires : goal.shut_at-requires
@@ -8,7 +8,7 @@ shut_at-requires g c = let v = placed c.self.view_is in record {
 }
 
 pub invariant_of-self : goal.invariant_of-self
-invariant_of-self g c = (end_did c.self.inside.list.items c.self.invariant (placed c.self.view_is) c.args.e c.requires.end c.shut_at.new.seat Shuts c.shut_at.ensures).0
+invariant_of-self g c = (end_did c.self.inside.list.items c.self.invariant (placed c.self.view_is) c.args.e c.requires.end c.shut_at.new.seat EndpointShuts c.shut_at.ensures).0
 
 pub returns-clause-shut : goal.returns-clause-shut
-returns-clause-shut g c = (end_did c.self.inside.list.items c.self.invariant (placed c.self.view_is) c.args.e c.requires.end c.shut_at.new.seat Shuts c.shut_at.ensures).1
+returns-clause-shut g c = (end_did c.self.inside.list.items c.self.invariant (placed c.self.view_is) c.args.e c.requires.end c.shut_at.new.seat EndpointShuts c.shut_at.ensures).1

@@ -1,6 +1,6 @@
-use Rattle.xh_place.proofs.Common.{rules, arith, ◌≡◌, ℕ, ◌-◌, ◌<◌, ◌≤◌, List, [], ◌∷◌, ◌++◌, length, refl, sym, ap, ◌∙◌, subst, ⊎_elim, inl, inr, ◌/◌, vec_capacity, put, front, kind_of, rest}
+use Rattle.xh_place.proofs.Common.{rules, arith, ◌≡◌, ℕ, ◌-◌, ◌<◌, ◌≤◌, List, [], ◌∷◌, ◌++◌, length, refl, sym, ap, ◌∙◌, subst, ⊎_elim, inl, inr, ◌/◌, put, front, kind_of, rest}
 use Rattle.xh_place.proofs.Common.{found_at}
-use Rattle.xh_place.proofs.Common.{with_blocks, with_events, split_tests, is_running, Claim, Err, Event, FindsFull, IfErr, did_only, finds_full, full_since, heard, heard_shows, held_record, let_go}
+use Rattle.xh_place.proofs.Common.{with_blocks, with_events, split_tests, is_running, Claim, Err, Event, FindsFull, did_only, finds_full, full_since, heard, heard_shows, let_go}
 use Rattle.xh_place.proofs.Common.{lets_go, start, found}
 use Rattle.xh_place.proofs.Common.{list_room, over_running, place_seen, placed, untested}
 use Rattle.xh_place.specs.Splitting.{IsUncut}
@@ -13,22 +13,19 @@ cut_block-requires-clause-held g c =
     let full : f.lot.len ≡ c.in_ok-len.len = ap (λ x. x.len) f.same ∙ q.3 in
     (f.lot, f.held, f.block, (ap (λ x. kind_of x.content) f.same ∙ q.2, f.block.full.1, f.block.full.0), (q.4.0, q.4.1, subst (λ z. c.args.k < z) (sym full) q.4.2))
 
-pub cut_block-requires-clause-exist : goal.cut_block-requires-clause-exist
-cut_block-requires-clause-exist g c = held_record c.self.invariant
-
 pub invariant_of-self : goal.invariant_of-self
 invariant_of-self g c = let f = c.in_err-rec.ensures.refused.0 in (did_only c.self.inside.list.items c.self.invariant c.cut_block.new.seat (let_go c.self.inside.seat.process f.0) f.3).0
 
 pub push_reserved-requires : goal.push_reserved-requires
 push_reserved-requires g c =
     let f = found c.self.invariant (placed c.self.view_is ∙ c.in_ok-len.ensures.same.0) c.args.r c.in_ok-len.ensures.tested.1.1 in let cut = c.in_ok-rec.ensures.cut f.lot f.held in
-    let below : length c.self.inside.list.items < vec_capacity c.self.inside.list = list_room c.self.inside.list.items c.self.invariant cut.5 cut.2 in search rules
+    let below : length c.self.inside.list.items < c.self.inside.list.capacity = list_room c.self.inside.list.items c.self.invariant cut.5 cut.2 in search rules
 
 pub invariant_of-self-2 : goal.invariant_of-self-2
 invariant_of-self-2 g c =
     let v = placed c.self.view_is ∙ c.in_ok-len.ensures.same.0 in let f = found c.self.invariant v c.args.r c.in_ok-len.ensures.tested.1.1 in let cut = c.in_ok-rec.ensures.cut f.lot f.held in
     let alive = over_running c.self.inside.state (ap (λ p. is_running p.state) v
-    ∙ runs c.args.self.now.place.state (split_tests (found_at c.args.self.now.place c.args.r) c.args.k) c.in_ok-len.ensures.tested.0) in
+    ∙ ap is_running (runs c.args.self.now.place.state (split_tests (found_at c.args.self.now.place c.args.r) c.args.k) c.in_ok-len.ensures.tested.0)) in
     (parted c.cut_block.new.seat c.self.inside.list.items alive
     (heard (Claim c.self.inside.seat.process c.in_ok-rec.rec ∷ []) c.self.invariant) f.held cut.4 cut.5 cut.2 cut.3 cut.7 c.push_reserved.ensures.items c.push_reserved.ensures.capacity).0
 
@@ -36,7 +33,7 @@ pub returns-clause-cut : goal.returns-clause-cut
 returns-clause-cut g c =
     let old = c.args.self.now.place in let q = c.in_ok-len.ensures.tested.1 in let r : ℕ = c.args.r in
     let v = placed c.self.view_is ∙ c.in_ok-len.ensures.same.0 in let f = found c.self.invariant v r q.1 in let cut = c.in_ok-rec.ensures.cut f.lot f.held in
-    let alive = over_running c.self.inside.state (ap (λ p. is_running p.state) v ∙ runs old.state (split_tests (found_at old r) c.args.k) c.in_ok-len.ensures.tested.0) in
+    let alive = over_running c.self.inside.state (ap (λ p. is_running p.state) v ∙ ap is_running (runs old.state (split_tests (found_at old r) c.args.k) c.in_ok-len.ensures.tested.0)) in
     let full : f.lot.len ≡ c.in_ok-len.len = ap (λ x. x.len) f.same ∙ q.3 in
     let tail : cut.1.len ≡ c.in_ok-len.len - c.args.k = omega (arith, full, cut.6, cut.7) in
     let es : List Event = Claim c.self.inside.seat.process c.in_ok-rec.rec ∷ [] in
@@ -54,25 +51,20 @@ returns-clause-cut g c =
         omega (arith, q.3, q.4.2),
       );
       refused = search rules;
-      unmoved = c.cut_block.ensures.tallies;
+      why = untested (start old.state ++ split_tests (found_at old r) c.args.k) _ _ c.in_ok-len.ensures.tested.0 tt;
     }
 
 pub returns-in_err-rec-clause-cut : goal.returns-in_err-rec-clause-cut
 returns-in_err-rec-clause-cut g c =
-    let is : c.from_residual-in_err-rec.result ≡ Err c.in_err-rec.field-0.0 = search rules in let v = placed c.self.view_is ∙ c.in_ok-len.ensures.same.0 in
-    rw is (record {
-      cut = tt;
-      refused = lets_go c.self.inside.list.items c.self.invariant c.cut_block.new.seat (λ cs. length cs ≤ 1) (c.args.r / 256) c.args.self.now.place v c.in_err-rec.ensures.refused.0;
-      unmoved = c.cut_block.ensures.tallies;
-    })
-
-pub returns-in_err-rec-clause-why : goal.returns-in_err-rec-clause-why
-returns-in_err-rec-clause-why g c =
+    let v = placed c.self.view_is ∙ c.in_ok-len.ensures.same.0 in
     let last = c.cut_block.new.seat in let old = c.args.self.now in let mid = c.test_cut.new.self in let e = c.in_err-rec.field-0.0 in
     let rs = c.self.inside.list.items in let new = place_seen last rs c.self.inside.state in let arena : ℕ = c.args.r / 256 in
     let is : c.from_residual-in_err-rec.result ≡ Err e = search rules in
     let why : IsUncut (FindsFull 0 old new arena) e = ⊎_elim
     (λ h. inl (h.0, full_since 0 arena old mid new c.in_ok-len.ensures.same (finds_full rs c.self.invariant last 0 arena mid c.self.view_is h.1)))
     (λ h. inr h) c.in_err-rec.ensures.why in
-    untested (start old.place.state ++ split_tests (found_at old.place c.args.r) c.args.k) (IfErr c.from_residual-in_err-rec.result (IsUncut (FindsFull 0 old new arena)))
-    (λ refused. (c.from_residual-in_err-rec.result ≡ Err refused) × (new.place ≡ old.place)) c.in_ok-len.ensures.tested.0 (rw is why)
+    rw is (record {
+      cut = tt;
+      refused = lets_go rs c.self.invariant last (λ cs. length cs ≤ 1) arena old.place v c.in_err-rec.ensures.refused.0;
+      why = untested (start old.place.state ++ split_tests (found_at old.place c.args.r) c.args.k) (IsUncut (FindsFull 0 old new arena) e) _ c.in_ok-len.ensures.tested.0 why;
+    })

@@ -10,7 +10,8 @@ loop-used-preserved g c =
     let inside : from < length old.place.blocks = started from old.place.blocks mid.place.blocks some i.4 in
     let shape : mid.place.shape ≡ old.place.shape = ap (λ p. p.shape) i.2 in
     let one = swept_by_as (IsSeen old mid) (IsSeen old new) (seen_wide old mid old new refl refl (starts_same refl) after) from used old.place mid.place c.loop-used.bytes i.3 in
-    let two = swept_by_as (IsSeen mid new) (IsSeen old new) (seen_wide mid new old new shape (ap (λ p. p.process) i.2) i.7 (starts_same refl)) from 1 mid.place new.place c.reclaim.result c.reclaim.ensures.swept in
+    let two = swept_by_as (IsSeen mid new) (IsSeen old new) (seen_wide mid new old new shape (ap (λ p. p.process) i.2) i.7 (starts_same refl))
+    from 1 mid.place new.place c.reclaim.result c.reclaim.ensures.swept in
     let by : IsSweptBy (IsSeen old new) from (used + 1) old.place new.place (c.loop-used.bytes + bytes) =
     swept_more (IsSeen old new) from used 1 c.loop-used.bytes bytes old.place mid.place new.place (omega (arith, inside))
     (ap (λ p. p.process) i.2) one (subst (λ n. IsSweptBy (IsSeen old new) from 1 mid.place new.place n) (sym c.from-bytes.ensures) two) in (

@@ -1,23 +1,29 @@
-use Rattle.xh_place.proofs.Common.{inr, ℕ, [], ◌∷◌, refl, subst, ap, ◌∙◌, MAX_BUDGET, IsSwept, with_list, with_more, IsSeen, seen_wide, starts_same, swept_as}
+use Rattle.xh_place.proofs.Common.{inl, inr, ℕ, [], ◌∷◌, refl, subst, ap, ◌∙◌, MAX_BUDGET, IsSwept, with_list, with_more, IsSeen, seen_wide, starts_same, swept_as}
 use Rattle.xh_place.specs.Seen.{brings}
+use Rattle.xh_place.specs.inner.Answers.{Comes}
 use Rattle.xh_place.proofs.place.Place.sweep_late.Goals as goal
 
-pub returns-clause-swept : goal.returns-clause-swept
-returns-clause-swept g c =
+pub returns-in-Here-clause-swept : goal.returns-in-Here-clause-swept
+returns-in-Here-clause-swept g c =
     let old = c.args.self.now in let mid = c.accept.new.self in let new = c.sweep-swept.new.self in let r : ℕ = c.args.r in let d : ℕ = c.args.direction in
-    let t = c.in-Ok.ensures.here.1 in let bytes : ℕ = c.sweep-swept.result.0 in let left : ℕ = c.sweep-swept.result.1 in let came = c.in-Ok.ensures.place in
+    let t = subst (Comes old mid d r) c.in-Here.is c.accept.ensures.got in let bytes : ℕ = c.sweep-swept.result.0 in let left : ℕ = c.sweep-swept.result.1 in let came = c.accept.ensures.place in
     let one = swept_as (IsSeen mid new) (IsSeen old new) (seen_wide mid new old new came.1 came.2 came.3 (starts_same refl))
     c.count-from.result MAX_BUDGET mid.place new.place bytes left c.sweep-swept.ensures.swept in
-    let two = subst (λ p. IsSwept (IsSeen old new) c.count-from.result MAX_BUDGET p new.place bytes left) t.2 one in
+    let two = subst (λ p. IsSwept (IsSeen old new) c.count-from.result MAX_BUDGET p new.place bytes left) t.3 one in
     inr (
       bytes,
       (
-        t.0,
+        t.1,
         left,
-        subst (λ n. IsSwept (IsSeen old new) n MAX_BUDGET (with_more d ((r, t.0) ∷ []) old.place) new.place bytes left) c.count-from.ensures.count two,
-        c.sweep-swept.ensures.list.0 ∙ ap (λ p. with_list p new.place) t.2,
-        t.3,
-        seen_wide old mid old new refl refl (starts_same refl) c.sweep-swept.ensures.list.1 r (brings d t.0) t.4,
+        subst (λ n. IsSwept (IsSeen old new) n MAX_BUDGET (with_more d ((r, t.1) ∷ []) old.place) new.place bytes left) c.count-from.ensures.count two,
+        c.sweep-swept.ensures.list.0 ∙ ap (λ p. with_list p new.place) t.3,
+        t.4,
+        seen_wide old mid old new refl refl (starts_same refl) c.sweep-swept.ensures.list.1 r (brings d t.1) t.5,
       ),
       c.sweep-swept.ensures.back,
     )
+
+pub returns-in-Missing-clause-swept : goal.returns-in-Missing-clause-swept
+returns-in-Missing-clause-swept g c =
+    let old = c.args.self.now in let t = subst (Comes old c.accept.new.self c.args.direction c.args.r) c.in-Missing.is c.accept.ensures.got in
+    inl (t.2, refl, (c.in-Missing.word, t.1, t.3))

@@ -9,7 +9,8 @@ loop-k-preserved c =
     let given = c.args.message.now.blocks.items in let k : ℕ = c.loop-k.k in
     let inside : k < length given = omega (arith, c.loop-k-test.true) in
     let named : record_of c.take_one.result ≡ get_or given k 0 = c.take_one.ensures.record ∙ ap (λ l. get_or l k 0) c.deref.ensures.0 in
-    let before = c.loop-k.invariant.2 in let after = c.take_one.ensures.place.3 in let shape : mid.place.shape ≡ old.place.shape = ap (λ p. p.shape) t.1 in let process : mid.place.process ≡ old.place.process = ap (λ p. p.process) t.1 in
+    let before = c.loop-k.invariant.2 in let after = c.take_one.ensures.place.3 in let shape : mid.place.shape ≡ old.place.shape = ap (λ p. p.shape) t.1 in
+    let process : mid.place.process ≡ old.place.process = ap (λ p. p.process) t.1 in
     let had : AreGot (IsSeen old new) d t.0 c.loop-k.got.items =
     all_got_as (IsSeen old mid) (IsSeen old new) (seen_wide old mid old new refl refl (starts_same refl) after) d t.0 c.loop-k.got.items t.2 in
     let one : IsGot (IsSeen old new) d o.0 c.take_one.result =

@@ -1,4 +1,5 @@
-use Rattle.xh_place.proofs.Common.{refl, ap, ◌∙◌, subst, AreGot, Takes, with_more, IsSeen, all_got_as, seen_wide, starts_same}
+use Rattle.xh_place.proofs.Common.{Err, refl, rules, ap, ◌≡◌, ◌∙◌, subst, AreGot, Takes, with_more, IsSeen, all_got_as, seen_wide, starts_same}
+use Rattle.xh_channel.specs.Refusals.{same_refusal}
 use Rattle.xh_place.proofs.place.Place.take_message.Goals as goal
 
 pub returns-clause-taken : goal.returns-clause-taken
@@ -19,3 +20,9 @@ returns-clause-taken g c =
             (all_got_as (IsSeen c.pop-taken.new.self new) (IsSeen old new) wide c.pop-taken.result.1 got.0 c.take_all-blocks.result.items got.2);
       },
     )
+
+pub returns-in_err-message-clause-taken : goal.returns-in_err-message-clause-taken
+returns-in_err-message-clause-taken g c =
+    let t = c.pop-taken.ensures.took in let none = c.in_err-message.field-0.0 in
+    let is : c.from_residual.result ≡ Err (same_refusal none) = search rules in
+    rw is (none, (t.0, t.1, t.2, t.3, subst (λ r. Takes r t.0 t.1) c.in_err-message.was t.4), refl)

@@ -1,49 +1,25 @@
-use Rattle.xh_records.proofs.Common.{arith, ◌≡◌, ◌≢◌, ℕ, List, ◌+◌, ◌*◌, ◌<◌, ◌≤◌, ◌∙◌, length, get_or, subst, sym, ap, length-append, Deed, Claim, StartsWith, IsEmpty, Held, HasFound}
-use Rattle.xh_records.proofs.History.{starts_itself, starts_twice}
-use Rattle.xh_records.proofs.Lists.{seen_more}
-use Rattle.xh_records.proofs.Looks.{looks_on, gains_on, starts_on, found_on}
+use Rattle.xh_records.proofs.Common.{Claim, IsEmpty, ◌<◌, length, subst, sym}
+use Rattle.std.proofs.lemmas.Result.{on_err_weaker, IfErr-weaker, IfOk-weaker}
+use Rattle.xh_records.proofs.Looks.{looks_on, gains_on, taken_on}
 use Rattle.xh_records.proofs.records.Records.claim.Goals as goal
 
--- what is kept of a word that was seen at the index k
-abbrev Saw : {B : Type 0} → Held B → List (Deed B) → ℕ → ℕ → Type 0
-Saw {B} x now k word = (word ≢ 0) × (front : List (Deed B)) × StartsWith front x.front × StartsWith now front × HasFound k word x front
+pub loop-index-preserved : goal.loop-index-preserved
+loop-index-preserved g c = looks_on c.args.seat.now c.loop-index.seat c.loop-index.invariant c.claim_at.new.seat c.in-Err.ensures.missed.1.2
 
 pub returns-in-Ok-clause-claimed : goal.returns-in-Ok-clause-claimed
-returns-in-Ok-clause-claimed g c = gains_on c.args.seat.now c.loop-index.seat c.loop-index.invariant.looked (λ p. Claim p c.number_at-number.result)
+returns-in-Ok-clause-claimed g c = gains_on c.args.seat.now c.loop-index.seat c.loop-index.invariant (λ p. Claim p c.number_at-r.result)
     (IsEmpty g.B.Fits.is_fit) c.claim_at.new.seat c.in-Ok.ensures.claimed
 
-pub loop-index-preserved : goal.loop-index-preserved
-loop-index-preserved g c =
-    let i = c.loop-index.invariant in
-    let miss = c.in-Err.ensures.missed in
-    let x = c.args.seat.now in let y = c.loop-index.seat in let z = c.claim_at.new.seat in
-    let n : ℕ = c.args.self.now.shape.records in
-    let words = c.loop-index.seen.words.items in
-    let long : length words ≡ c.loop-index.index = i.long in
-    let at = c.number_at-number.ensures in
-    let each = ap (λ h. h.shape.records) i.looked.0 ∙ ap (λ s. s.records) c.requires.own.1 in
-    let later = starts_on y z miss.1.1 z.front (starts_itself z.front) in
-    let found = subst (λ k. HasFound k c.in-Err.word x z.front) (λ j. at.0 j * each j + (at.1 ∙ sym long) j) (found_on x y i.looked _ c.in-Err.word z.front miss.1.0) in record {
-      looked = looks_on x y i.looked z miss.1.1;
-      long = ap length c.push.ensures.items ∙ length-append words _ ∙ ap (λ n. n + 1) long;
-      seen = λ k below. subst (λ l. Saw x z.front (c.args.arena * n + k) (get_or l k 0)) (sym c.push.ensures.items)
-          (seen_more (λ j w. Saw x z.front (c.args.arena * n + j) w) words c.in-Err.word
-          (λ j m. let t = i.seen j (omega arith) in (t.0, t.1, t.2, starts_twice t.1 y.front z.front t.3 later, t.4))
-          (miss.0, z.front, starts_on x y i.looked z.front later, starts_itself z.front, found) k (omega arith));
-    }
+pub returns-clause-claimed : goal.returns-clause-claimed
+returns-clause-claimed g c = IfOk-weaker c.claim_seen.result _ _
+    (λ r. gains_on c.args.seat.now c.loop-index.seat c.loop-index.invariant (λ p. Claim p r) (IsEmpty g.B.Fits.is_fit) c.claim_seen.new.seat) c.claim_seen.ensures.claimed
 
 pub returns-clause-seen : goal.returns-clause-seen
-returns-clause-seen g c =
-    let i = c.loop-index.invariant in
-    let past : c.self.inside.records ≤ c.loop-index.index = c.loop-index-test.false in
-    let most : c.loop-index.index ≤ c.self.inside.records = c.loop-index.auto.index-end in
-    let all : c.args.self.now.shape.records ≡ c.loop-index.index = sym (ap (λ r. r.shape.records) c.self.view_is) ∙ c.self.invariant.records
-    ∙ (let e : c.self.inside.records ≡ c.loop-index.index = omega arith in e) in
-    let own : c.args.seat.now.shape.records ≡ c.args.self.now.shape.records = ap (λ s. s.records) c.requires.own.1 in (
-      i.long ∙ sym all ∙ sym own,
-      λ k below. subst (λ n. Saw c.args.seat.now c.loop-index.seat.front (c.args.arena * n + k) (get_or c.loop-index.seen.words.items k 0)) (sym own)
-          (i.seen k (subst (λ n. k < n) (own ∙ all) below)),
-    )
+returns-clause-seen g c = IfErr-weaker c.claim_seen.result _ _
+    (λ s. taken_on c.args.seat.now c.loop-index.seat c.loop-index.invariant c.args.arena s.words.items c.claim_seen.new.seat) c.claim_seen.ensures.seen
+
+pub returns-clause-missed : goal.returns-clause-missed
+returns-clause-missed g c = on_err_weaker c.claim_seen.result (looks_on c.args.seat.now c.loop-index.seat c.loop-index.invariant c.claim_seen.new.seat) c.claim_seen.ensures.missed
 
 pub slot_of-first-requires : goal.slot_of-first-requires
 slot_of-first-requires g c =

@@ -25,11 +25,11 @@ lent : (g : Over) (c : After-as_slice g) → Lent c.args.seat.now _ _ _ c.seat.i
 lent g c = lends _ _ _ _ _ _ _ _ _ _ _ _ _ (spot_of _ _ _ _ _ c.seat.view_is c.args.self.now _ _ c.requires.own c.requires.exists c.slot_of-slot.ensures.index) c.requires.held.1
 
 place : (g : Over) (c : After-give_slot-k g) → get_elem? c.seat.inside.order.items c.give_slot-k.result ≡ some c.slot_of-slot.result
-place g c = subst (λ z. get_elem? z c.give_slot-k.result ≡ some c.slot_of-slot.result) c.as_slice.ensures.value c.give_slot-k.ensures.place
+place g c = subst (λ z. get_elem? z c.give_slot-k.result ≡ some c.slot_of-slot.result) c.as_slice.ensures c.give_slot-k.ensures.place
 
 pub give_slot-k-requires-clause-listed : goal.give_slot-k-requires-clause-listed
 give_slot-k-requires-clause-listed g c =
-    listed_as _ _ c.seat.inside.token.me.1 _ c.as_slice.ensures.value (lent g (goal.at.give_slot-k-requires-clause-listed g c).After-as_slice).reach.listed
+    listed_as _ _ c.seat.inside.token.me.1 _ c.as_slice.ensures (lent g (goal.at.give_slot-k-requires-clause-listed g c).After-as_slice).reach.listed
 
 pub give_slot-k-requires-clause-lot : goal.give_slot-k-requires-clause-lot
 give_slot-k-requires-clause-lot g c =

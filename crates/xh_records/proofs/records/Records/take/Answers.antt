@@ -1,4 +1,4 @@
-use Rattle.xh_records.proofs.Common.{rules, ◌≡◌, ℕ, ◌<◌, length, refl, sym, ap, ◌∙◌, subst, [], ◌∷◌, ◌++◌, vec_capacity, number_of, holder_of, taking, Deed, adds, carried, carry, deeds_in, events}
+use Rattle.xh_records.proofs.Common.{rules, ◌≡◌, ℕ, ◌<◌, length, refl, sym, ap, ◌∙◌, subst, [], ◌∷◌, ◌++◌, number_of, holder_of, taking, Deed, adds, carried, carry, deeds_in, events}
 use Rattle.xh_records.proofs.Common.{deeds_by, numbered, place_of}
 use Rattle.xh_records.proofs.Deeds.{carried_more, events_more}
 use Rattle.xh_records.proofs.History.{own_more}
@@ -22,7 +22,7 @@ push_reserved-requires g c =
     let slot : ℕ = c.slot_of-slot.result in
     let t = c.in-Ok.ensures.taken in
     let within = inside g (goal.at.push_reserved-requires g c).After-take_slot in
-    let room : length c.seat.inside.order.items < vec_capacity c.seat.inside.order = has_room _ _ _ _ _ slot c.seat.invariant within t.6 in
+    let room : length c.seat.inside.order.items < c.seat.inside.order.capacity = has_room _ _ _ _ _ slot c.seat.invariant within t.6 in
     search rules
 
 pub invariant_of-seat : goal.invariant_of-seat
@@ -67,5 +67,5 @@ returns-in-Err-clause-missed g c =
     let same = c.take_slot.ensures.same in let m = c.in-Err.ensures.missed in (
       m.0,
       held_seen c.args.seat.now _ _ _ c.seat.inside.token.me c.seat.view_is _ _ _ c.seat.invariant _ _ _ _ c.args.number c.in-Err.word same.0 same.1
-          (spot g (goal.at.returns-in-Err-clause-missed g c).After-take_slot).at m.1,
+          (spot g (goal.at.returns-in-Err-clause-missed g c).After-take_slot).at (spot g (goal.at.returns-in-Err-clause-missed g c).After-take_slot).below m.1,
     )

@@ -16,7 +16,7 @@ called g c has = grind (arith, nat_tests)
 
 pub call_in-requires-clause-listed : goal.call_in-requires-clause-listed
 call_in-requires-clause-listed g c =
-    listed_as _ _ c.seat.inside.token.me.1 c.slot_of-slot.result c.as_slice.ensures.value (lent g (goal.at.call_in-requires-clause-listed g c).After-as_slice).reach.listed
+    listed_as _ _ c.seat.inside.token.me.1 c.slot_of-slot.result c.as_slice.ensures (lent g (goal.at.call_in-requires-clause-listed g c).After-as_slice).reach.listed
 
 pub call_in-requires-clause-lot : goal.call_in-requires-clause-lot
 call_in-requires-clause-lot g c = (c.requires.held.0, (lent g (goal.at.call_in-requires-clause-lot g c).After-as_slice).reach.has, c.requires.held.2)

@@ -53,14 +53,14 @@ module _ (g : Over) (c : After-swap_slot-2 g) (b : LentBoth c.args.seat.now _ _ 
       ∙ ap (λ z. (c.seat.inside.token.me.0, z)) (ap (put j y) (put_swap i j x None l b.apart) ∙ put_twice j y None (put i x l))
 
 pub swap_slot-requires-clause-listed : goal.swap_slot-requires-clause-listed
-swap_slot-requires-clause-listed g c = listed_as _ _ c.seat.inside.token.me.1 _ c.as_slice-order.ensures.value
+swap_slot-requires-clause-listed g c = listed_as _ _ c.seat.inside.token.me.1 _ c.as_slice-order.ensures
     (both g (goal.at.swap_slot-requires-clause-listed g c).After-as_slice-order).two.reach.listed
 
 pub unwrap-also-requires : goal.unwrap-also-requires
 unwrap-also-requires g c = is_some _ c.requires.held.1 (c.swap_slot.ensures.value ∙ (both g (goal.at.unwrap-also-requires g c).After-as_slice-order).two.reach.has)
 
 pub turn_to-k-requires : goal.turn_to-k-requires
-turn_to-k-requires g c = listed_as _ _ c.swap_slot.new.token.me.1 _ c.as_slice-order.ensures.value
+turn_to-k-requires g c = listed_as _ _ c.swap_slot.new.token.me.1 _ c.as_slice-order.ensures
     (still_listed _ _ _ None _ _ (both g (goal.at.turn_to-k-requires g c).After-as_slice-order).one.reach.listed (ap (λ m. m.1) c.swap_slot.ensures.token.2))
 
 pub unreachable-requires : goal.unreachable-requires
@@ -77,7 +77,7 @@ pub swap_slot-requires-2-clause-listed : goal.swap_slot-requires-2-clause-listed
 swap_slot-requires-2-clause-listed g c =
     let at = goal.at.swap_slot-requires-2-clause-listed g c in
     let j = c.slot_of-j.result in let b = both g at.After-as_slice-order in
-    listed_as _ _ c.turn_by.new.token.me.1 _ c.as_slice-order.ensures.value
+    listed_as _ _ c.turn_by.new.token.me.1 _ c.as_slice-order.ensures
     (still_listed _ c.slot_of-i.result j _ _ _ (still_listed _ j j None _ _ b.two.reach.listed refl) (ap (λ m. m.1) (left_in g at.After-turn_by)))
 
 pub invariant_of-seat : goal.invariant_of-seat

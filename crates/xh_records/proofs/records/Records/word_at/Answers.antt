@@ -1,4 +1,4 @@
-use Rattle.xh_records.proofs.Common.{◌<◌, sym, ap, ◌∙◌, subst, index_of, SeesMore}
+use Rattle.xh_records.proofs.Common.{◌<◌, ◌%◌, sym, ap, ◌∙◌, subst, index_of, SeesMore}
 use Rattle.xh_records.proofs.Keeps.{looks}
 use Rattle.xh_records.proofs.Numbered.{held_seen}
 use Rattle.xh_records.proofs.Seating.{is_alone}
@@ -17,5 +17,5 @@ pub returns : goal.returns
 returns g c =
     let e = c.load.ensures in
     held_seen c.args.seat.now _ _ _ c.seat.inside.token.me c.seat.view_is _ _ _ c.seat.invariant _ _ _ c.args.slot c.args.number c.load.result e.0 e.1
-    (c.requires.at.0 ∙ ap (λ s. index_of s.records c.args.number) (sym c.requires.own.1))
+    (c.requires.at.0 ∙ ap (λ s. index_of s.records c.args.number) (sym c.requires.own.1)) (subst (λ s. c.args.number % 256 < s.records) (sym c.requires.own.1) c.requires.exists.1)
     (subst (λ k. SeesMore k c.load.result c.seat.inside.token.me c.load.new.seat.me) c.from.ensures e.2)
