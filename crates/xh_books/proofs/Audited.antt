@@ -1,6 +1,6 @@
 -- The lengths of the lots are those of the vaults.
 use Rattle.xh_books.proofs.Common.{All, All-take, ArenaState, Body, List, LotOf, Some, [], all_lengths, ap, arith, div-add-mod, get_or, get_or-flat_map, get_or_from_slice_get, length}
-use Rattle.xh_books.proofs.Common.{length-append, length-lengths, length-map, length-take-le, length_at, length_of, lengths_of, lens_of, mod-lt, mul_comm, refl, same_lists, slice_get, suc}
+use Rattle.xh_books.proofs.Common.{length-append, length-lengths, length-map, length-take-le, length_at, length_of, lengths_of, lens_of, map, mod-lt, mul_comm, refl, same_lists, slice_get, suc}
 use Rattle.xh_books.proofs.Common.{suc-mul, sym, take, zero, ℕ, ◌%◌, ◌*◌, ◌+◌, ◌/◌, ◌<◌, ◌∙◌, ◌∷◌, ◌≡◌}
 
 abbrev pub Each : ℕ → List ArenaState → Type 0
@@ -20,10 +20,10 @@ at_index xs n k e d some each lt =
     ap (λ z. get_or (all_lengths xs) z e) at ∙ get_or-flat_map lengths_of xs a i d e lt (omega (arith, length-lengths here, count, inside))
     ∙ get_or_from_slice_get (lengths_of here) i (length_of i here.cover) e (length_at here i (omega (arith, inside, count)))
 
-pub len_at : (ls : List (LotOf Body)) (k x : ℕ) → slice_get (lens_of ls) k ≡ Some x → (l : LotOf Body) × (slice_get ls k ≡ Some l) × (l.len ≡ x)
-len_at [] k x e = absurd (cc)
-len_at (l ∷ ls) zero x e = (l, refl, let same : l.len ≡ x = cc in same)
-len_at (l ∷ ls) (suc k) x e = len_at ls k x e
+pub at_map : {A B : Type 0} (f : A → B) (xs : List A) (k : ℕ) (y : B) → slice_get (map f xs) k ≡ Some y → (x : A) × (slice_get xs k ≡ Some x) × (f x ≡ y)
+at_map f [] k y e = absurd (cc)
+at_map f (x ∷ xs) zero y e = (x, refl, cc)
+at_map f (x ∷ xs) (suc k) y e = at_map f xs k y e
 
 -- once each was audited
 pub audited : (xs : List ArenaState) (ls : List (LotOf Body)) (n : ℕ) → Each n xs → length ls ≡ length xs * n

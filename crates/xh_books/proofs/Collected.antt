@@ -1,7 +1,7 @@
 -- The vaults take in the accounts: which arenas they have, whether they are full, and what their lines say.
 use Rattle.xh_books.proofs.Common.{AccountOf, All, All-cons, All-head, All-nil, All-tail, AreGathered, IsFull, IsOpen, List, Move, PartsOf, TableId, TallyOf, VaultOf, [], ap, arena_lines, arith}
 use Rattle.xh_books.proofs.Common.{back_of, bytes_out, closed_line, drop, get_or, holes_of, ids_of, length, length-drop, length-map, map, refl, set, slice_index, subst, suc, sum_by, sum_by-cons}
-use Rattle.xh_books.proofs.Common.{sym, take, taken_of, vault_names, with_accounts, with_tallies, with_tally, zero, ℕ, ◌++◌, ◌+◌, ◌<◌, ◌∙◌, ◌∷◌, ◌≡◌}
+use Rattle.xh_books.proofs.Common.{sym, take, taken_of, vault_names, with_tallies, with_tally, zero, ℕ, ◌++◌, ◌+◌, ◌<◌, ◌∙◌, ◌∷◌, ◌≡◌}
 
 -- ---- one account, tally by tally
 
@@ -29,9 +29,6 @@ collect_below vs a z zs e = let l = ap length e in omega (arith, l, length-map (
 
 -- ---- each account has a tally for each vault
 
-abbrev pub Named : List TableId → AccountOf → Type 0
-Named zs a = ids_of a.tallies ≡ zs
-
 pub as_many : (zs : List TableId) (vs : List VaultOf) (ts : List TallyOf) → vault_names vs ≡ zs → ids_of ts ≡ zs → length ts ≡ length vs
 as_many zs vs ts v t = sym (length-map ts (λ (x : TallyOf). x.id)) ∙ ap length (t ∙ sym v) ∙ length-map vs (λ (x : VaultOf). x.id)
 
@@ -50,7 +47,7 @@ abbrev moves_of : ℕ → List AccountOf → List Move → List Move
 moves_of arena [] ms = ms
 moves_of arena (a ∷ rest) ms = moves_of arena rest (move_of arena a ∷ ms)
 
-abbrev collected : ℕ → List AccountOf → List VaultOf → List VaultOf
+abbrev pub collected : ℕ → List AccountOf → List VaultOf → List VaultOf
 collected arena all [] = []
 collected arena all (v ∷ vs) = record v { collected = moves_of arena all v.collected } ∷ collected (suc arena) all vs
 
@@ -61,7 +58,7 @@ first_left (suc k) [] t rest e = absurd (cc)
 first_left zero (x ∷ ts) t rest e = let same : x ≡ t = cc in (λ f. ap f same, cc)
 first_left (suc k) (x ∷ ts) t rest e = first_left k ts t rest e
 
-one_account : (a : AccountOf) (rest : List AccountOf) (k : ℕ) (vs : List VaultOf) (ts : List TallyOf) → length ts ≡ length vs → ts ≡ drop k a.tallies
+pub one_account : (a : AccountOf) (rest : List AccountOf) (k : ℕ) (vs : List VaultOf) (ts : List TallyOf) → length ts ≡ length vs → ts ≡ drop k a.tallies
     → collected k rest (with_tallies vs ts) ≡ collected k (a ∷ rest) vs
 one_account a rest k [] ts e left = refl
 one_account a rest k (v ∷ vs) [] e left = absurd (omega arith)
@@ -71,15 +68,9 @@ one_account a rest k (v ∷ vs) (t ∷ ts) e left =
     let same : record { number = t.number; taken = t.taken; back = t.back } ≡ move_of k a = sym (λ i. record { number = n i; taken = taken i; back = back i }) in
     λ i. record v { collected = moves_of k rest (same i ∷ v.collected) } ∷ one_account a rest (suc k) vs ts (omega arith) first.1 i
 
-none_left : (k : ℕ) (vs : List VaultOf) → vs ≡ collected k [] vs
+pub none_left : (k : ℕ) (vs : List VaultOf) → vs ≡ collected k [] vs
 none_left k [] = refl
 none_left k (v ∷ vs) = ap (λ l. v ∷ l) (none_left (suc k) vs)
-
-by_vault : (zs : List TableId) (vs : List VaultOf) (all : List AccountOf) → vault_names vs ≡ zs → All (Named zs) all → with_accounts vs all ≡ collected 0 all vs
-by_vault zs vs [] e named = none_left 0 vs
-by_vault zs vs (a ∷ rest) e named =
-    by_vault zs (with_tallies vs a.tallies) rest (names_with vs a.tallies ∙ e) (All-tail (Named zs) a rest named)
-    ∙ one_account a rest 0 vs a.tallies (as_many zs vs a.tallies e (All-head (Named zs) a rest named)) refl
 
 -- ---- what they are then
 
@@ -122,10 +113,8 @@ module _ (p : PartsOf) where
       λ i. record { size = length v.arena.cover; out = bytes_out v.arena.cover; holes = length (holes_of v.arena.cover); taken = taken i; back = back i } ∷ lines (suc k) all vs
       (All-tail (IsOpen p) v vs fresh) i
 
-  pub gathered : (vs ws : List VaultOf) (all : List AccountOf) → vault_names vs ≡ p.records.shape.names → All (Named p.records.shape.names) all → All (IsOpen p) vs → length all ≡ p.workers
-      → ws ≡ with_accounts vs all
-      → AreGathered all vs ws
-  gathered vs ws all e named fresh count is = subst (AreGathered all vs) (sym (is ∙ by_vault p.records.shape.names vs all e named)) record {
+  pub gathered : (vs ws : List VaultOf) (all : List AccountOf) → All (IsOpen p) vs → length all ≡ p.workers → ws ≡ collected 0 all vs → AreGathered all vs ws
+  gathered vs ws all fresh count is = subst (AreGathered all vs) (sym is) record {
     names = kept (λ v. v.id) (λ v ms. refl) 0 all vs;
     arenas = kept (λ v. v.arena) (λ v ms. refl) 0 all vs;
     full = full 0 all vs count fresh;

@@ -14,9 +14,9 @@ pub use Rattle.std.specs.{List.cons_option, List.range_with_len, List.sum_by, Li
 pub use Rattle.std.specs.Prelude.{Err, IfOk, IsSomeAnd, None, Ok, Option, Result, Some, count_by, is_some, nat_lt, option_map, slice_get, slice_index}
 pub use Rattle.std.specs.Prelude.{slice_index_or, slice_set, ◌==◌}
 pub use Rattle.xh_arena.specs.Views.{LotOf, Move, TallyOf, VaultOf}
-pub use Rattle.xh_books.specs.{Closing.IsClosed, Flight.IsInFlight, Flight.IsPart, Flight.Stands, Flight.flight_line, Flight.flight_lines, declared.closing.Books.Books}
-pub use Rattle.xh_books.specs.Ledgers.{IsBalanced, all_lengths, arena_line, arena_lines, arenas_of, back_of, bytes_in_flight, bytes_owned, is_listed, place_lines, taken_of}
-pub use Rattle.xh_books.specs.inner.Steps.{AreAt, AreBooks, AreFronts, AreGathered, AreSeats, IsFull, IsSeatOfPlace, closed_line, lens_of, with_accounts, with_tallies, with_tally}
+pub use Rattle.xh_books.specs.{Flight.IsInFlight, Flight.IsPart, Flight.Stands, Flight.flight_line, Flight.flight_lines, declared.closing.Books.Books}
+pub use Rattle.xh_books.specs.Ledgers.{all_lengths, arena_line, arena_lines, arenas_of, back_of, bytes_in_flight, bytes_owned, is_listed, place_lines, taken_of}
+pub use Rattle.xh_books.specs.inner.Steps.{AreAt, AreBooks, AreGathered, AreSeats, IsFull, IsSeatOfPlace, closed_line, lens_of, with_tallies, with_tally}
 unfoldable pub use Rattle.xh_books.specs.inner.Steps.{TellFlight}
 pub use Rattle.xh_calls.proofs.{Lists.below_get, Lists.there}
 pub use Rattle.xh_calls.specs.{Parts.IsOpen, Parts.PartsOf, Parts.vault_names, declared.call.Entry.Entry}

@@ -7,6 +7,4 @@ pub mod Ending
 pub mod Flying
 pub mod Owning
 pub mod FlightLines
-pub mod Closed
 pub mod LedgerLines
-pub mod Kept

@@ -1,12 +1,12 @@
 -- What the places list is what the closed table's lots have, each once.
-use Rattle.xh_books.proofs.Common.{All, AllZip-left, AllZip-right, AreAt, AreFlightLines, AreFronts, AreSeats, Body, Bool, Direction, Ends, FlightLine, Held, Holder, IsHeldBy, IsHolder}
+use Rattle.xh_books.proofs.Common.{All, AllZip-left, AllZip-right, AreAt, AreFlightLines, AreSeats, Body, Bool, Direction, Ends, FlightLine, Held, Holder, IsHeldBy, IsHolder}
 use Rattle.xh_books.proofs.Common.{IsInFlight, IsLotAt, IsPlaceOf, IsSeatOf, IsSeatOfPlace, IsSomeAnd, Item, List, LotOf, MatchOption-at_some, None, Option, PlaceOf, PlaceSeen, Process, RecordsOf}
 use Rattle.xh_books.proofs.Common.{Shape, Some, Stands, StartsWith, TellFlight, ap, arena_of_number, arith, below_get, bytes_in_flight, bytes_owned, elem_slice, false}
 use Rattle.xh_books.proofs.Common.{false_from_ne_true, flight_lines, get_or, get_or_from_slice_get, in_range, index_back, index_of, is_listed, is_there, item_of, length, length-map, lens_of}
 use Rattle.xh_books.proofs.Common.{lot_in, map, mod-lt, never, number_back, number_of, one_holder, option_map, place_of, place_of_number, places_of, refl, same_Some, same_place, slice_elem}
 use Rattle.xh_books.proofs.Common.{slice_get, slice_get-map, subst, sum, sym, there, value_at, word_of, zip, ℕ, ◌%◌, ◌+◌, ◌<◌, ◌∙◌, ◌≡◌, ◌≤◌}
-use Rattle.xh_books.proofs.Common.{Deed, IsLeft, IsPart, carried, deeds_by, events}
-use Rattle.xh_books.proofs.Audited.{len_at}
+use Rattle.xh_books.proofs.Common.{IsLeft, IsPart, carried, deeds_by, events}
+use Rattle.xh_books.proofs.Audited.{at_map}
 use Rattle.xh_books.proofs.FlightLines.{all_full, are_lines, flying_is}
 use Rattle.xh_books.proofs.Flying.{ListsAt, all_lists, listed_at}
 
@@ -16,22 +16,31 @@ there_is : {A : Type 0} (o : Option A) (P : A → Type 0) → IsSomeAnd o P → 
 there_is None P h = absurd h
 there_is (Some x) P h = (x, refl, h)
 
-seat_at : (xs : List (Held Body)) (ps : List PlaceOf) (j : ℕ) (p : PlaceOf) → AreSeats xs ps → slice_get ps j ≡ Some p → (x : Held Body) × (slice_get xs j ≡ Some x) × IsSeatOfPlace x p
-seat_at xs ps j p are at = there_is (slice_get xs j) (λ x. IsSeatOfPlace x p)
-    (MatchOption-at_some (Unit {0}) (λ q. IsSomeAnd (slice_get xs j) (λ x. IsSeatOfPlace x q)) p at (AllZip-right IsSeatOfPlace xs ps are j))
+abbrev IsEnd : Held Body → PlaceSeen → Type 0
+IsEnd x p = IsSeatOfPlace x p.place × (x.front ≡ p.front)
 
-place_at : (xs : List (Held Body)) (ps : List PlaceOf) (j : ℕ) (x : Held Body) → AreSeats xs ps → slice_get xs j ≡ Some x → (p : PlaceOf) × (slice_get ps j ≡ Some p) × IsSeatOfPlace x p
-place_at xs ps j x are at = there_is (slice_get ps j) (IsSeatOfPlace x)
-    (MatchOption-at_some (Unit {0}) (λ y. IsSomeAnd (slice_get ps j) (IsSeatOfPlace y)) x at (AllZip-left IsSeatOfPlace xs ps are j))
+seen_at : (xs : List (Held Body)) (ps : List PlaceSeen) (j : ℕ) (p : PlaceSeen) → AreSeats xs ps → slice_get ps j ≡ Some p → (x : Held Body) × (slice_get xs j ≡ Some x) × IsEnd x p
+seen_at xs ps j p are at = there_is (slice_get xs j) (λ x. IsEnd x p) (MatchOption-at_some (Unit {0}) (λ q. IsSomeAnd (slice_get xs j) (λ x. IsEnd x q)) p at (AllZip-right IsEnd xs ps are j))
+
+seat_at : (xs : List (Held Body)) (ps : List PlaceSeen) (j : ℕ) (p : PlaceOf) → AreSeats xs ps → slice_get (places_of ps) j ≡ Some p → (x : Held Body) × (slice_get xs j ≡ Some x)
+    × IsSeatOfPlace x p
+seat_at xs ps j p are at =
+    let q = at_map (λ (z : PlaceSeen). z.place) ps j p at in let s = seen_at xs ps j q.0 are q.1 in (s.0, s.1, subst (IsSeatOfPlace s.0) q.2 s.2.0)
+
+place_at : (xs : List (Held Body)) (ps : List PlaceSeen) (j : ℕ) (x : Held Body) → AreSeats xs ps → slice_get xs j ≡ Some x → (p : PlaceOf) × (slice_get (places_of ps) j ≡ Some p)
+    × IsSeatOfPlace x p
+place_at xs ps j x are at =
+    let q = there_is (slice_get ps j) (IsEnd x) (MatchOption-at_some (Unit {0}) (λ y. IsSomeAnd (slice_get ps j) (IsEnd y)) x at (AllZip-left IsEnd xs ps are j)) in
+    (q.0.place, slice_get-map (λ (z : PlaceSeen). z.place) ps j ∙ ap (option_map (λ (z : PlaceSeen). z.place)) q.1, q.2.0)
 
 -- the seats are those of the table
-pub seats_own : (all : RecordsOf) (xs : List (Held Body)) (ps : List PlaceOf) (k : ℕ) (x : Held Body) → AreSeats xs ps → All (IsPlaceOf all) ps → slice_get xs k ≡ Some x → IsSeatOf all x
+pub seats_own : (all : RecordsOf) (xs : List (Held Body)) (ps : List PlaceSeen) (k : ℕ) (x : Held Body) → AreSeats xs ps → All (IsPlaceOf all) (places_of ps) → slice_get xs k ≡ Some x → IsSeatOf all x
 seats_own all xs ps k x are of_ at =
-    let q = place_at xs ps k x are at in let own = subst (IsPlaceOf all) (get_or_from_slice_get ps k q.0 q.0 q.1) (of_ k q.0 (below_get ps k q.0 q.1)) in
+    let q = place_at xs ps k x are at in let own = subst (IsPlaceOf all) (get_or_from_slice_get (places_of ps) k q.0 q.0 q.1) (of_ k q.0 (below_get (places_of ps) k q.0 q.1)) in
     (q.2.same.0 ∙ own.0, q.2.same.1 ∙ own.1)
 
 module _ (fits : Body → ℕ → Bool) (all : RecordsOf) (seats : List (Held Body)) (places : List PlaceSeen) (words : List ℕ) (lots : List (LotOf Body))
-    (ends : Ends fits all.shape seats words lots) (are : AreSeats seats (places_of places)) (of_ : All (IsPlaceOf all) (places_of places))
+    (ends : Ends fits all.shape seats words lots) (are : AreSeats seats places) (of_ : All (IsPlaceOf all) (places_of places))
     (some : 0 < all.shape.records) (small : all.shape.records ≤ 256) where
   abbrev n : ℕ
   n = all.shape.records
@@ -40,7 +49,7 @@ module _ (fits : Body → ℕ → Bool) (all : RecordsOf) (seats : List (Held Bo
   ps = places_of places
 
   shape_of : (j : ℕ) (x : Held Body) → slice_get seats j ≡ Some x → x.shape ≡ all.shape
-  shape_of j x at = (seats_own all seats ps j x are of_ at).1
+  shape_of j x at = (seats_own all seats places j x are of_ at).1
 
   -- a block of a place: its record is held by the place's process, and its lot has its length
   record Block (j r m : ℕ) : Type 0 where
@@ -52,7 +61,7 @@ module _ (fits : Body → ℕ → Bool) (all : RecordsOf) (seats : List (Held Bo
 
   block : (j : ℕ) (p : PlaceOf) (r : ℕ) (x : Item) → slice_get ps j ≡ Some p → value_at r p.blocks ≡ Some x → Block j r x.len
   block j p r item at h =
-      let s = seat_at seats ps j p are at in let x = s.0 in
+      let s = seat_at seats places j p are at in let x = s.0 in
       let t = s.2.lists.listed r item h in let l : LotOf Body = t.0 in
       let own = s.2.lists.all r l t.1 in
       let shape : x.shape ≡ all.shape = shape_of j x s.1 in
@@ -86,7 +95,7 @@ module _ (fits : Body → ℕ → Bool) (all : RecordsOf) (seats : List (Held Bo
   -- all lengths are those that the places own, and those of the records in no list
   pub owned : sum (lens_of lots) ≡ bytes_owned ps + bytes_in_flight ps n 0 (lens_of lots)
   owned = all_lists ps n (lens_of lots) some small
-      (λ j d below. (seat_at seats ps j (get_or ps j d) are (there ps j d below)).2.lists.distinct)
+      (λ j d below. (seat_at seats places j (get_or ps j d) are (there ps j d below)).2.lists.distinct)
       (λ j r x lists. let b = block j lists.0 r x lists.1 lists.2 in (b.len, b.inside)) only
 
   -- each lot is that of its record
@@ -95,7 +104,7 @@ module _ (fits : Body → ℕ → Bool) (all : RecordsOf) (seats : List (Held Bo
   is_lot k (Some (Direction d)) l held at = (ends.lots_are k (Some (Direction d)) l held at).0
   is_lot k (Some (Process p)) l held at =
       let end = ends.lots_are k (Some (Process p)) l held at in let x = end.1 in
-      let q = place_at seats ps end.0 x are end.2 in
+      let q = place_at seats places end.0 x are end.2 in
       subst (λ (z : Shape). IsLotAt z k l) (shape_of end.0 x end.2) (q.2.lists.all (number_of x.shape.records k) l end.4).2
 
   pub lots_at : AreAt n all.shape.names lots
@@ -119,7 +128,7 @@ module _ (fits : Body → ℕ → Bool) (all : RecordsOf) (seats : List (Held Bo
       (subst (λ (z : ℕ). 0 < z) len (ends.lots_are k (Some (Direction d)) l held at).1.0, not_listed k (Some (Direction d)) held (λ p e. never d p e))
   stands k m (Some (Process p)) l at len held =
       let end = ends.lots_are k (Some (Process p)) l held at in let x = end.1 in
-      let q = place_at seats ps end.0 x are end.2 in
+      let q = place_at seats places end.0 x are end.2 in
       let number : number_of x.shape.records k ≡ number_of n k = ap (λ (z : Shape). number_of z.records k) (shape_of end.0 x end.2) in
       let value : value_at (number_of n k) q.0.blocks ≡ Some (item_of l) =
       subst (λ (z : ℕ). value_at z q.0.blocks ≡ Some (item_of l)) number (q.2.lists.all (number_of x.shape.records k) l end.4).0 in (
@@ -134,12 +143,12 @@ module _ (fits : Body → ℕ → Bool) (all : RecordsOf) (seats : List (Held Bo
       )
 
   quiet : (k m : ℕ) (h : Option Holder) → slice_get (lens_of lots) k ≡ Some m → IsHeldBy ends.owners k h → Stands ps (number_of n k) m h
-  quiet k m h at held = let t = len_at lots k m at in stands k m h t.0 t.1 t.2 held
+  quiet k m h at held = let t = at_map (λ (l : LotOf Body). l.len) lots k m at in stands k m h t.0 t.1 t.2 held
 
   -- the events of each place are its part of the log, and so is what moved by them
   parts : All (IsPart ends.log) ps
   parts j d below =
-      let p : PlaceOf = get_or ps j d in let s = seat_at seats ps j p are (there ps j d below) in (
+      let p : PlaceOf = get_or ps j d in let s = seat_at seats places j p are (there ps j d below) in (
         sym s.2.events.0 ∙ ends.parts j s.0 s.1 ∙ ap (λ (z : ℕ). events (deeds_by (place_of z) ends.log)) s.2.same.2,
         sym s.2.events.1 ∙ ap (map item_of) (ends.moved j s.0 s.1) ∙ ap (λ (z : ℕ). map item_of (carried (deeds_by (place_of z) ends.log))) s.2.same.2,
       )
@@ -156,27 +165,22 @@ module _ (fits : Body → ℕ → Bool) (all : RecordsOf) (seats : List (Held Bo
   long = sym (length-map lots (λ (l : LotOf Body). l.len) ∙ ends.lots_long)
 
   -- and each has seen a beginning of it
-  seen : AreFronts seats places → All (λ p. StartsWith ends.log p.front) places
-  seen fronts j d below =
-      let p : PlaceSeen = get_or places j d in let at = there places j d below in
-      let s = seat_at seats ps j p.place are (slice_get-map (λ (q : PlaceSeen). q.place) places j ∙ ap (option_map (λ (q : PlaceSeen). q.place)) at) in
-      let same : s.0.front ≡ p.front = same_Some s.0.front p.front (ap (option_map (λ (x : Held Body). x.front)) (sym s.1) ∙ sym (slice_get-map (λ (x : Held Body). x.front) seats j)
-      ∙ ap (λ (l : List (List (Deed Body))). slice_get l j) fronts ∙ slice_get-map (λ (q : PlaceSeen). q.front) places j ∙ ap (option_map (λ (q : PlaceSeen). q.front)) at) in
-      subst (StartsWith ends.log) same (ends.fronts j s.0 s.1)
+  seen : All (λ p. StartsWith ends.log p.front) places
+  seen j d below = let s = seen_at seats places j (get_or places j d) are (there places j d below) in subst (StartsWith ends.log) s.2.1 (ends.fronts j s.0 s.1)
 
-  in_flight : AreFronts seats places → (lines : List FlightLine) → lines ≡ flight_lines (zip words (lens_of lots)) → IsInFlight all.shape places (lens_of lots) lines
-  in_flight fronts lines e = record {
+  in_flight : (lines : List FlightLine) → lines ≡ flight_lines (zip words (lens_of lots)) → IsInFlight all.shape places (lens_of lots) lines
+  in_flight lines e = record {
     log = ends.log;
     theirs = ends.theirs;
     parts = parts;
-    seen = seen fronts;
+    seen = seen;
     owners = ends.owners;
     count = long;
     leads = ends.leads;
     arrives = ends.arrives;
     passed = passed;
     quiet = quiet;
-    full = λ j d below. (seat_at seats ps j (get_or ps j d) are (there ps j d below)).2.whole;
+    full = λ j d below. (seat_at seats places j (get_or ps j d) are (there ps j d below)).2.whole;
     lines_are = e ∙ ap (λ ws. flight_lines (zip ws (lens_of lots))) ends.words_are;
   }
 
@@ -189,7 +193,7 @@ module _ (fits : Body → ℕ → Bool) (all : RecordsOf) (seats : List (Held Bo
       subst (λ (z : ℕ). AreFlightLines z (flight_lines (zip (map word_of ends.owners) (lens_of lots)))) (flying_is ps n 0 ends.owners (lens_of lots) long each)
       (are_lines (zip (map word_of ends.owners) (lens_of lots)) (λ d. all_full d ps n 0 ends.owners (lens_of lots) each))
 
-  pub tell_flight : AreFronts seats places → (lines : List FlightLine) → lines ≡ flight_lines (zip words (lens_of lots)) → TellFlight all.shape places (lens_of lots) lines
+  pub tell_flight : (lines : List FlightLine) → lines ≡ flight_lines (zip words (lens_of lots)) → TellFlight all.shape places (lens_of lots) lines
   unfolding TellFlight in_flight
-  tell_flight fronts lines e =
-      let is = in_flight fronts lines e in (is, subst (λ (ls : List FlightLine). AreFlightLines (bytes_in_flight ps n 0 (lens_of lots)) ls) (sym is.lines_are) are_flight_lines)
+  tell_flight lines e =
+      let is = in_flight lines e in (is, subst (λ (ls : List FlightLine). AreFlightLines (bytes_in_flight ps n 0 (lens_of lots)) ls) (sym is.lines_are) are_flight_lines)

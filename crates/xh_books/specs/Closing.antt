@@ -17,7 +17,7 @@ use Rattle.xh_books.specs.Ledgers.{IsBalanced, all_lengths, arena_lines, arenas_
 -- The locks of the kernel kept lawful histories of its places, each led to the place beside it, and these are all
 -- accounts and looks of the workers that made them. The ledger is of these places, of the kernel's vaults and of the
 -- accounts; the lines of directions are of these places and vaults.
-pub record IsClosed (parts : PartsOf) (accounts : List AccountOf) (looks : List (LookOf Entry)) (l : Ledger) (directions : List FlightLine) : Type 0 where
+pub record AreClosed (parts : PartsOf) (accounts : List AccountOf) (looks : List (LookOf Entry)) (l : Ledger) (directions : List FlightLine) : Type 0 where
   pub places : List PlaceSeen
   pub pens : List (PenOf Entry)
   pub vaults : List VaultOf

@@ -5,7 +5,7 @@ ghost use Rattle.xh_calls.specs.Parts.{IsOpen, vault_names};
 ghost use Rattle.xh_kernel.specs.Places.{places_of};
 ghost use Rattle.xh_model.specs.declared.limits.TheConstants.{MAX_ARENAS, PLACES};
 ghost use Rattle.xh_place.specs.Places.{IsPlaceOf};
-ghost use Rattle.xh_books.specs.Closing.{IsClosed};
+ghost use Rattle.xh_books.specs.Closing.{AreClosed};
 ghost use Rattle.xh_core.specs.Flight.{AreFlightLines};
 ghost use Rattle.xh_books.specs.Flight.{IsInFlight};
 ghost use Rattle.xh_books.specs.inner.Steps.{AreAt, TellFlight, lens_of};
@@ -14,7 +14,7 @@ ghost use Rattle.xh_books.specs.Ledgers.{IsBalanced, all_lengths, arena_lines, a
 use crate::auditing::audit;
 use crate::collecting::gather;
 use crate::flight::flight_lines;
-use crate::lines::{arena_lines, bytes_in, bytes_out, end_places};
+use crate::lines::{arena_lines, end_places};
 use arrayvec::ArrayVec;
 use std::alloc::{AllocError, Global};
 use xh_arena::{Lot, Vault};
@@ -68,8 +68,11 @@ pub(crate) fn ledger(
     ensures out { result.out ≡ sum_by (λ a. a.out) arenas.items }
     ensures all { result.out ≡ result.owned + result.flight }
 {
-    let out = bytes_out(arenas.as_slice());
-    let owned = bytes_in(places.as_slice());
+    let mut out = 0u64;
+    for line in arenas.as_slice() {
+        out += u64::from(line.out);
+    }
+    let owned = places.as_slice().iter().map(|line| line.bytes).sum();
     Ledger {
         arenas,
         places,
@@ -115,36 +118,6 @@ pub fn close_books<N: Names>(
     Ok(Books { ledger, flight })
 }
 
-// Takes a kernel apart whose workers are done, compares what they have seen with the histories of its places,
-// and closes its books.
-fn close<N: Names>(
-    alloc: Global,
-    kernel: Kernel<N>,
-    accounts: Vec<Account<N>>,
-    looks: Vec<Look>,
-) -> Result<Books, Refused>
-    requires accounts { vec_len accounts ≡ N.parts.workers }
-    requires looks { All (λ l. l.table ≡ N.parts.histories) looks.items }
-    ensures closed { IfOk result (λ b. IsClosed N.parts accounts.items looks.items b.ledger b.flight.items) }
-    ensures arenas { IfOk result (λ b. (length b.ledger.arenas.items ≡ length N.parts.records.shape.names) × All (λ a. a.size ≡ N.parts.size) b.ledger.arenas.items) }
-    ensures places { IfOk result (λ b. All (λ line. line.place < PLACES) b.ledger.places.items) }
-    ensures balanced { IfOk result (λ b. IsBalanced b.ledger) }
-    ensures lines { IfOk result (λ b. AreFlightLines b.ledger.flight b.flight.items) }
-    ensures refused { IfErr result (λ e. e ≡ Refused.OutOfMemory) }
-{
-    match kernel.finish(alloc, accounts, looks) {
-        Ok(
-            Finished {
-                vaults,
-                places,
-                records,
-                accounts,
-            },
-        ) => close_books(alloc, vaults, places, records, accounts),
-        Err(refused) => Err(refused),
-    }
-}
-
 /// Ends a kernel by what was done on it: takes it apart, compares what its workers have seen with the histories of its
 /// places, and closes its books. What was done is an answer, with the accounts and the looks of all workers; or it
 /// failed, and the kernel is let go. Answers with the books what was done.
@@ -157,7 +130,7 @@ pub fn close_kernel<N: Names, A: Drop, E: From<AllocError>>(
 ) -> Result<(A, Books), E>
     requires accounts { IfOk done (λ d. vec_len d.1 ≡ N.parts.workers) }
     requires looks { IfOk done (λ d. All (λ l. l.table ≡ N.parts.histories) d.2.items) }
-    ensures closed { IfOk result (λ r. (d : _) × (done ≡ Ok d) × (r.0 ≡ d.0) × IsClosed N.parts d.1.items d.2.items r.1.ledger r.1.flight.items) }
+    ensures closed { IfOk result (λ r. (d : _) × (done ≡ Ok d) × (r.0 ≡ d.0) × AreClosed N.parts d.1.items d.2.items r.1.ledger r.1.flight.items) }
     ensures arenas { IfOk result (λ r. (length r.1.ledger.arenas.items ≡ length N.parts.records.shape.names) × All (λ a. a.size ≡ N.parts.size) r.1.ledger.arenas.items) }
     ensures places { IfOk result (λ r. All (λ line. line.place < PLACES) r.1.ledger.places.items) }
     ensures balanced { IfOk result (λ r. IsBalanced r.1.ledger) }
@@ -165,8 +138,18 @@ pub fn close_kernel<N: Names, A: Drop, E: From<AllocError>>(
     ensures refused { IfErr result (λ e. (done ≡ Err e) ⊎ ((why : _) × E.from_gives why e)) }
 {
     match done {
-        Ok((answer, accounts, looks)) => match close(alloc, kernel, accounts, looks) {
-            Ok(books) => Ok((answer, books)),
+        Ok((answer, accounts, looks)) => match kernel.finish(alloc, accounts, looks) {
+            Ok(
+                Finished {
+                    vaults,
+                    places,
+                    records,
+                    accounts,
+                },
+            ) => match close_books(alloc, vaults, places, records, accounts) {
+                Ok(books) => Ok((answer, books)),
+                Err(_refused) => Err(E::from(AllocError)),
+            },
             Err(_refused) => Err(E::from(AllocError)),
         },
         Err(error) => {

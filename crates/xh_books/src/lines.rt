@@ -1,10 +1,10 @@
 // The lines of a ledger.
-ghost use Rattle.std.specs.Prelude.{◌≡◌, ◌+◌, ◌<◌, ◌≤◌, ◌^◌, ◌++◌, [], All, IfOk, length, map, vec_len};
+ghost use Rattle.std.specs.Prelude.{◌≡◌, ◌+◌, ◌<◌, ◌≤◌, ◌++◌, [], All, IfOk, length, map, vec_len};
 ghost use Rattle.std.specs.List.{cons_option, sum_by};
 ghost use Rattle.arrayvec.specs.ArrayVec.{array_vec_len};
 ghost use Rattle.xh_model.specs.declared.limits.TheConstants.{MAX_ARENAS, PLACES};
 ghost use Rattle.xh_kernel.specs.Places.{places_of};
-ghost use Rattle.xh_books.specs.inner.Steps.{AreBooks, AreFronts, AreSeats, IsFull, closed_line};
+ghost use Rattle.xh_books.specs.inner.Steps.{AreBooks, AreSeats, IsFull, closed_line};
 ghost use Rattle.xh_books.specs.Ledgers.{bytes_owned, place_lines};
 
 use arrayvec::ArrayVec;
@@ -45,26 +45,6 @@ pub(crate) fn arena_lines(vaults: &[Vault]) -> ArrayVec<ArenaLine, ARENA_LINES>
     lines
 }
 
-// The bytes that all arenas handed out.
-pub(crate) fn bytes_out(lines: &[ArenaLine]) -> u64
-    requires { length lines.now ≤ MAX_ARENAS }
-    ensures { result ≡ sum_by (λ l. l.out) lines.now }
-{
-    let mut out = 0u64;
-    for line in lines {
-        out += u64::from(line.out);
-    }
-    out
-}
-
-// The bytes that all places own.
-pub(crate) fn bytes_in(lines: &[PlaceLine]) -> u64
-    requires { sum_by (λ l. l.bytes) lines.now < 2 ^ 64 }
-    ensures { result ≡ sum_by (λ l. l.bytes) lines.now }
-{
-    lines.iter().map(|line| line.bytes).sum()
-}
-
 // One line more, where there is one.
 fn push_line(lines: &mut ArrayVec<PlaceLine, PLACE_LINES>, line: Option<PlaceLine>)
     requires { array_vec_len lines.old < PLACES }
@@ -81,8 +61,7 @@ pub(crate) fn end_places(
     places: Vec<Place>,
 ) -> Result<(Vec<Seat<Body>>, ArrayVec<PlaceLine, PLACE_LINES>), AllocError>
     requires { vec_len places ≤ PLACES }
-    ensures seats { IfOk result (λ r. AreSeats r.0.items (places_of places.items)) }
-    ensures fronts { IfOk result (λ r. AreFronts r.0.items places.items) }
+    ensures seats { IfOk result (λ r. AreSeats r.0.items places.items) }
     ensures lines { IfOk result (λ r. r.1.items ≡ place_lines (places_of places.items)) }
     ensures owned { IfOk result (λ r. sum_by (λ l. l.bytes) r.1.items ≡ bytes_owned (places_of places.items)) }
 {

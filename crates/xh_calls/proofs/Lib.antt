@@ -1,7 +1,6 @@
 pub mod Common
 pub mod Same
 pub mod Lists
-pub mod Taking
 pub mod Fresh
 pub mod Made
 pub mod Moved
@@ -9,5 +8,4 @@ pub mod Vaulted
 pub mod Asking
 pub mod Started
 pub mod Looks
-pub mod Opened
 pub mod Wiring

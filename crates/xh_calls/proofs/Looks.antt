@@ -40,9 +40,7 @@ module _ (p e : ℕ) (s t : PlaceSeen) (why : Refused) (runs : first_refusal (st
     go : (n : NoMessage) → EndDoes e s.place t.place (EndTakes (Err n)) → why ≡ same_refusal n → (why ≡ Empty) ⊎ (why ≡ closed)
     go none.Empty d h = inl h
     go (none.PeerClosed back) d h = inr (h ∙ ap (λ (xs : List ℕ). PeerClosed (record { items = xs })) d.4.answer.0)
-    go none.OutOfMemory d h = absurd d.4.answer
-    go none.BadSize d h = absurd d.4.answer
-    go none.NoChannel d h = absurd d.4.answer
+    go n d h = absurd d.4.answer
 
 -- ---- looks one after the other
 

@@ -27,6 +27,3 @@ makings_more new w n size wear vs ls more names v blank made is lots = (
         (split_at ls more k l at),
   ),
 )
-
-pub new_vault : (w n size wear : ℕ) (v : VaultOf) → v.workers ≡ w → v.collected ≡ [] → 0 < w → v.arena.records ≡ n → length v.arena.cover ≡ size → v.arena.limit ≡ wear → IsNew w n size wear v
-new_vault w n size wear v a b c d e f = (a, b, c, d, e, f)

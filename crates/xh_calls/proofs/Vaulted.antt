@@ -46,9 +46,9 @@ module _ (p : PartsOf) (a : ℕ) where
       refused.0,
     )
 
-  stays : (v w : VaultOf) → IsVaultOf p a v → w ≡ record v { arena = w.arena; back = w.back } → w.arena.records ≡ v.arena.records
+  stays : (v w : VaultOf) (back : ℕ) → IsVaultOf p a v → w ≡ record v { arena = w.arena; back = back } → w.arena.records ≡ v.arena.records
       → length w.arena.cover ≡ length v.arena.cover → w.arena.limit ≡ v.arena.limit → IsVaultOf p a w
-  stays v w is books records size limit = (
+  stays v w back is books records size limit = (
     is.0 ∙ ap Some (sym (ap (λ (z : VaultOf). z.id) books)),
     (ap (λ (z : VaultOf). z.workers) books ∙ is.1.0, ap (λ (z : VaultOf). z.collected) books ∙ is.1.1, is.1.2, records ∙ is.1.3, size ∙ is.1.4, limit ∙ is.1.5),
   )
@@ -58,16 +58,16 @@ module _ (p : PartsOf) (a : ℕ) where
         → IfOk result (λ at. IsVaultCarved n at v w lot lot' tally tally')
         → IfErr result (λ e. RefusesCarve n v.arena e × (w ≡ v) × (lot' ≡ lot) × (tally' ≡ tally)) → IsVaultOf p a w
     carve_stays n v w lot lot' tally tally' (Ok at) is done refused =
-        stays v w is (done.books ∙ ap (λ z. record v { arena = w.arena; back = z }) (sym (ap (λ (z : VaultOf). z.back) done.books)))
+        stays v w _ is done.books
         (carved_records lot.index n at v.arena w.arena done.arena) (carved_size lot.index n at v.arena w.arena done.arena) (ap (λ (z : ArenaState). z.limit) done.arena.change)
     carve_stays n v w lot lot' tally tally' (Err e) is done refused = subst (IsVaultOf p a) (sym refused.1) is
 
     pub cut_stays : (k : ℕ) (v w : VaultOf) (head head' tail tail' : LotOf B) → IsVaultOf p a v → IsVaultCut k v w head head' tail tail' → IsVaultOf p a w
     cut_stays k v w head head' tail tail' is done =
-        stays v w is (done.books ∙ ap (λ z. record v { arena = w.arena; back = z }) (sym (ap (λ (z : VaultOf). z.back) done.books)))
+        stays v w _ is done.books
         (cut_records head.index tail.index k v.arena w.arena done.arena) (cut_size head.index tail.index k v.arena w.arena done.arena) (ap (λ (z : ArenaState). z.limit) done.arena.change)
 
     pub back_stays : (v w : VaultOf) (lot lot' : LotOf B) (tally tally' : TallyOf) → IsVaultOf p a v → IsVaultGivenBack v w lot lot' tally tally' → IsVaultOf p a w
     back_stays v w lot lot' tally tally' is done =
-        stays v w is (done.books ∙ ap (λ z. record v { arena = w.arena; back = z }) (sym (ap (λ (z : VaultOf). z.back) done.books)))
+        stays v w _ is done.books
         (back_records lot.index v.arena w.arena done.arena) (back_size lot.index v.arena w.arena done.arena) (ap (λ (z : ArenaState). z.limit) done.arena.change)

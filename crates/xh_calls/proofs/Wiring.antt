@@ -6,25 +6,21 @@ use Rattle.xh_calls.proofs.Common.{last, refl, start, status_at, subst, with_blo
 use Rattle.xh_model.specs.Keyed.{without}
 use Rattle.xh_place.proofs.Swept.{last_bytes}
 
-passes_end : (n : ℕ) (c : Content) (channel side : ℕ) → IsEndAt c channel side → first_refusal (end_tests (Some (record { len = n; kind = kind_of c }))) ≡ None
-passes_end n (bytes xs) channel side at = absurd at
-passes_end n (endpoint e) channel side at = refl
-
-long_end : (c : Content) (n channel side : ℕ) → IsEndAt c channel side → Fits c n → n ≡ END_BYTES
-long_end (bytes xs) n channel side at fits = absurd at
-long_end (endpoint e) n channel side at fits = fits
+is_end : (n : ℕ) (c : Content) (channel side : ℕ) → IsEndAt c channel side → Fits c n → (first_refusal (end_tests (Some (record { len = n; kind = kind_of c }))) ≡ None) × (n ≡ END_BYTES)
+is_end n (bytes xs) channel side at fits = absurd at
+is_end n (endpoint e) channel side at fits = (refl, fits)
 
 -- side 0 was closed
 pub closes_again : (p r channel : ℕ) (before after : List TallyOf) (old new : PlaceSeen) (result : Result ℕ Refused) → first_refusal (start (status_at p old.place)) ≡ None → AreBlocks old.place.blocks
     → HasLow channel r old.place
     → (n : ℕ) × Closes (status_at p old.place) r n old new result × HasGivenBack n before after → (n : ℕ) × ClosesAgain p channel r old new n × HasGivenBack n before after
 closes_again p r channel before after old new result none blocks low h =
-    let x = low.0 in let n = h.0 in
+    let x = low.0 in let n = h.0 in let end = is_end x.len x.content channel 0 low.2 (blocks.whole r x low.1).1 in
     let tests : first_refusal (end_tests (found old.place r)) ≡ None = ap (λ (o : Option Item). first_refusal (end_tests (option_map header_of o))) low.1
-    ∙ passes_end x.len x.content channel 0 low.2 in
+    ∙ end.0 in
     let d : IsClosed r old new n result = subst (λ (o : Option Refused). MatchOption o (IsClosed r old new n result) (λ refused. (result ≡ Err refused) × IsUntouched old new n))
     (first_later (start (status_at p old.place)) (end_tests (found old.place r)) none ∙ tests) h.1 in
-    let long : x.len ≡ END_BYTES = long_end x.content x.len channel 0 low.2 (blocks.whole r x low.1).1 in
+    let long : x.len ≡ END_BYTES = end.1 in
     let front = without r old.place.blocks in
     let whole : last r old.place.blocks ≡ front ++ (r, x) ∷ [] = ap (λ (o : Option Item). front ++ alone r o) low.1 in
     let some : x.len ≤ n = last_bytes (IsSeen old new) front r x (with_blocks old.place (last r old.place.blocks)) new.place n d.0 whole d.1 in

@@ -77,28 +77,15 @@ impl<N: Names> Arenas<N> {
         ensures open_vaults { IfOk result (λ v. All (IsOpen N.parts) v.items) }
         ensures few { IfOk result (λ v. vec_len v ≤ MAX_ARENAS) }
     {
-        let Arenas {
-            count,
-            size: _,
-            histories: _,
-            arena0,
-            arena1,
-            arena2,
-            arena3,
-            arena4,
-            arena5,
-            arena6,
-            arena7,
-        } = self;
-        let mut vaults = Vec::with_capacity(alloc, usize::from(count))?;
-        arena0.into_inner().into_inner().put_back(&mut vaults);
-        arena1.into_inner().into_inner().put_back(&mut vaults);
-        arena2.into_inner().into_inner().put_back(&mut vaults);
-        arena3.into_inner().into_inner().put_back(&mut vaults);
-        arena4.into_inner().into_inner().put_back(&mut vaults);
-        arena5.into_inner().into_inner().put_back(&mut vaults);
-        arena6.into_inner().into_inner().put_back(&mut vaults);
-        arena7.into_inner().into_inner().put_back(&mut vaults);
+        let mut vaults = Vec::with_capacity(alloc, usize::from(self.count))?;
+        self.arena0.into_inner().into_inner().put_back(&mut vaults);
+        self.arena1.into_inner().into_inner().put_back(&mut vaults);
+        self.arena2.into_inner().into_inner().put_back(&mut vaults);
+        self.arena3.into_inner().into_inner().put_back(&mut vaults);
+        self.arena4.into_inner().into_inner().put_back(&mut vaults);
+        self.arena5.into_inner().into_inner().put_back(&mut vaults);
+        self.arena6.into_inner().into_inner().put_back(&mut vaults);
+        self.arena7.into_inner().into_inner().put_back(&mut vaults);
         Ok(vaults)
     }
 }
@@ -107,14 +94,14 @@ impl<N: Names> Arenas<N> {
 macro_rules! at_arena {
     ($lent:expr, $arena:expr, $call:ident($($with:expr),*)) => {
         match $arena {
-            0 => Kept::$call($lent.rt, &$lent.arenas.arena0, &$lent.arenas.histories, &mut $lent.front, $arena, $($with),*),
-            1 => Kept::$call($lent.rt, &$lent.arenas.arena1, &$lent.arenas.histories, &mut $lent.front, $arena, $($with),*),
-            2 => Kept::$call($lent.rt, &$lent.arenas.arena2, &$lent.arenas.histories, &mut $lent.front, $arena, $($with),*),
-            3 => Kept::$call($lent.rt, &$lent.arenas.arena3, &$lent.arenas.histories, &mut $lent.front, $arena, $($with),*),
-            4 => Kept::$call($lent.rt, &$lent.arenas.arena4, &$lent.arenas.histories, &mut $lent.front, $arena, $($with),*),
-            5 => Kept::$call($lent.rt, &$lent.arenas.arena5, &$lent.arenas.histories, &mut $lent.front, $arena, $($with),*),
-            6 => Kept::$call($lent.rt, &$lent.arenas.arena6, &$lent.arenas.histories, &mut $lent.front, $arena, $($with),*),
-            7 => Kept::$call($lent.rt, &$lent.arenas.arena7, &$lent.arenas.histories, &mut $lent.front, $arena, $($with),*),
+            0 => $lent.arenas.arena0.lock($lent.rt).$call(&$lent.arenas.histories, &mut $lent.front, $arena, $($with),*),
+            1 => $lent.arenas.arena1.lock($lent.rt).$call(&$lent.arenas.histories, &mut $lent.front, $arena, $($with),*),
+            2 => $lent.arenas.arena2.lock($lent.rt).$call(&$lent.arenas.histories, &mut $lent.front, $arena, $($with),*),
+            3 => $lent.arenas.arena3.lock($lent.rt).$call(&$lent.arenas.histories, &mut $lent.front, $arena, $($with),*),
+            4 => $lent.arenas.arena4.lock($lent.rt).$call(&$lent.arenas.histories, &mut $lent.front, $arena, $($with),*),
+            5 => $lent.arenas.arena5.lock($lent.rt).$call(&$lent.arenas.histories, &mut $lent.front, $arena, $($with),*),
+            6 => $lent.arenas.arena6.lock($lent.rt).$call(&$lent.arenas.histories, &mut $lent.front, $arena, $($with),*),
+            7 => $lent.arenas.arena7.lock($lent.rt).$call(&$lent.arenas.histories, &mut $lent.front, $arena, $($with),*),
             _ => unreachable!(),
         }
     };
@@ -146,12 +133,7 @@ impl<'a, N: Names, R: Wait> Lent<'a, N, R> {
     pub(crate) fn end(self, seen: &mut Front<Vault>)
         ensures { seen.new ≡ self.entry.front }
     {
-        let Lent {
-            rt: _,
-            arenas: _,
-            front,
-        } = self;
-        *seen = front;
+        *seen = self.front;
     }
 }
 

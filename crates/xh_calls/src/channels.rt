@@ -1,22 +1,21 @@
 //! Channels are opened, for one process or toward another.
-ghost use Rattle.std.specs.Prelude.{◌≡◌, ℕ, ◌+◌, ◌*◌, ◌<◌, ◌++◌, Err, IfErr, IfOk, MatchResult, Ok, false, length, true, ⊤};
+ghost use Rattle.std.specs.Prelude.{◌≡◌, ℕ, ◌+◌, ◌*◌, ◌<◌, ◌++◌, Err, IfErr, IfOk, MatchResult, None, Ok, false, length, true};
 ghost use Rattle.xh_channel.specs.Pairs.{IsPair};
 ghost use Rattle.xh_channel.specs.Endpoint.{EndpointOf};
 ghost use Rattle.xh_core.specs.declared.status.Status.TheVariants as status;
 ghost use Rattle.xh_core.specs.Calls.{arena_tests, start};
-ghost use Rattle.xh_core.specs.Refusing.{Tested};
+ghost use Rattle.xh_core.specs.Refusing.{Tested, first_refusal};
 ghost use Rattle.xh_model.specs.declared.limits.TheConstants.{CHANNELS, END_BYTES};
 ghost use Rattle.xh_place.specs.Ending.{HasGivenBack};
-ghost use Rattle.xh_place.specs.Ends.{AreListed, IsUnopened, Opens};
+ghost use Rattle.xh_place.specs.Ends.{AreListed, Opens};
 ghost use Rattle.xh_place.specs.Places.{IsPlaceOf};
 ghost use Rattle.xh_place.specs.Seen.{FindsFull, IsSamePlace, PlaceSeen, Stays};
 ghost use Rattle.xh_records.specs.History.{StartsWith};
 ghost use Rattle.xh_place.specs.Tallies.{took};
 ghost use Rattle.xh_records.specs.Seats.{IsRecord};
-ghost use Rattle.xh_calls.specs.Channels.{GoesBy, OpensChannel};
+ghost use Rattle.xh_calls.specs.Channels.{GoesBy, IsNoChannel, OpensChannel};
 ghost use Rattle.xh_calls.specs.Places.{IsServed, IsTillOf, status_at};
 ghost use Rattle.xh_calls.specs.Vaults.{AsksVault};
-ghost use Rattle.xh_calls.specs.inner.Opening.{LacksSpace};
 ghost use Rattle.xh_calls.specs.Wires.{ClosesAgain, HasLow, OpensToward, ReceivesOr, toward_high};
 
 use crate::arenas::Lent;
@@ -28,7 +27,7 @@ use crate::wired::Wired;
 use std::sync::Wait;
 use xh_channel::Endpoint;
 use xh_core::{Block, Contract, Refused};
-use xh_place::{Desk, Gate, Place, Unopened};
+use xh_place::{Desk, Gate, Place};
 
 // Both ends of a new channel, with a contract or without.
 fn open_channel<N: Names, R: Wait>(
@@ -46,24 +45,6 @@ fn open_channel<N: Names, R: Wait>(
     Ok(ends)
 }
 
-// Where the ends could not be listed their channel is free again.
-fn finish<N: Names, R: Wait>(
-    rt: &R,
-    heap: &Heap<N>,
-    opened: Result<(Block, Block), Unopened>,
-) -> Result<(Block, Block), Refused>
-    requires { IfErr opened (λ u. IsPair u.low u.high) }
-    ensures { MatchResult opened (λ ends. result ≡ Ok ends) (λ u. result ≡ Err u.why) }
-{
-    match opened {
-        Ok(ends) => Ok(ends),
-        Err(Unopened { why, low, high }) => {
-            heap.channels.cancel(rt, low, high);
-            Err(why)
-        }
-    }
-}
-
 impl<N: Names> Heap<N> {
     // The tests of an open that come before the channel's.
     fn test_open(&self, place: &Place, p: u16, arena: u32) -> Result<(), Refused>
@@ -76,7 +57,7 @@ impl<N: Names> Heap<N> {
         Ok(())
     }
 
-    // Both ends of a channel that was opened come to the process.
+    // Both ends of a channel that was opened come to the process; or the channel is free again.
     fn open_ends<R: Wait, G: Gate>(
         &self,
         rt: &R,
@@ -86,13 +67,14 @@ impl<N: Names> Heap<N> {
         arena: u32,
         till: &mut Till,
         gate: &G,
-    ) -> Result<(Block, Block), Unopened>
+    ) -> Result<(Block, Block), Refused>
         requires served { IsServed N.parts place.old.place till.old }
         requires fresh { IsPair low high }
+        requires passed { first_refusal (start place.old.place.state ++ arena_tests arena (length place.old.place.shape.names)) ≡ None }
         ensures same { IsSamePlace place.old place.new × IsTillOf N.parts till.new }
-        ensures opened { Opens arena low high place.old.place place.new.place till.old.tallies.items till.new.tallies.items result }
-        ensures why { IsUnopened (start place.old.place.state ++ arena_tests arena (length place.old.place.shape.names)) (place.new.place ≡ place.old.place)
-            (LacksSpace N.parts arena (FindsFull 1 place.old place.new arena) till.old.seen till.new.seen) result }
+        ensures opened { MatchResult result (λ ends. Opens arena low high place.old.place place.new.place till.old.tallies.items till.new.tallies.items (Ok ends))
+            (λ why. Opens arena low high place.old.place place.new.place till.old.tallies.items till.new.tallies.items (Err (record { why = why; low = low; high = high }))) }
+        ensures why { IfErr result (λ e. IsNoChannel N.parts ⊥ (FindsFull 1 place.old place.new arena) arena e × AsksVault N.parts arena (2 * END_BYTES) till.old.seen till.new.seen e) }
     {
         let tallies = till.tallies.as_mut_slice();
         let mut lent = Lent::new(rt, &self.arenas, &mut till.seen);
@@ -106,7 +88,13 @@ impl<N: Names> Heap<N> {
         };
         let answer = place.open(&mut desk, low, high, arena);
         lent.end(&mut till.seen);
-        answer
+        match answer {
+            Ok(ends) => Ok(ends),
+            Err(unopened) => {
+                self.channels.cancel(rt, unopened.low, unopened.high);
+                Err(unopened.why)
+            }
+        }
     }
 
     /// As `Kernel::open`, by whoever has the place's lock; the channel goes by the contract, or by none.
@@ -129,8 +117,7 @@ impl<N: Names> Heap<N> {
     {
         self.test_open(place, p, arena)?;
         let (low, high) = open_channel(rt, self, contract)?;
-        let opened = self.open_ends(rt, place, low, high, arena, till, gate);
-        finish(rt, self, opened)
+        self.open_ends(rt, place, low, high, arena, till, gate)
     }
 
     /// As `open`; then side 1 is passed on the direction toward it, and leaves the process.

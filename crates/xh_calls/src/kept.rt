@@ -2,7 +2,6 @@
 ghost use Rattle.std.specs.Prelude.{◌≡◌, ◌⊎◌, ◌+◌, ◌-◌, ◌%◌, ◌<◌, ◌≤◌, length, slice_get, Some, take, drop, All, IfErr, OnErr, OnOk};
 ghost use Rattle.std.specs.Vec.{vec_capacity};
 ghost use Rattle.std.specs.Vec.Iter.{into_iter_items};
-ghost use Rattle.xh_history.specs.Histories.{fresh_pen};
 ghost use Rattle.xh_model.specs.Arena.{IsGoodCut};
 ghost use Rattle.xh_model.specs.declared.limits.TheConstants.{MAX_ARENAS, UNIT};
 ghost use Rattle.xh_calls.specs.Parts.{IsOpen, vault_names};
@@ -10,9 +9,7 @@ ghost use Rattle.xh_calls.specs.Vaults.{IsRefusedBy};
 ghost use Rattle.xh_calls.specs.inner.Making.{AreFreshFrom};
 
 use crate::names::Names;
-use crossbeam_utils::CachePadded;
 use std::marker::{Model, PhantomData};
-use std::sync::{Mutex, Wait};
 use std::vec::IntoIter;
 use xh_arena::{Lot, Refused, Tally, Vault};
 use xh_history::{Front, Histories, Nothing, Pen};
@@ -37,19 +34,6 @@ impl<N: Names, const A: u8> Model for Kept<N, A> {
 }
 
 impl<N: Names, const A: u8> Kept<N, A> {
-    // The pen of the history of arena A, which is the next one.
-    fn next_pen(pens: &mut IntoIter<Pen<Vault>>) -> Pen<Vault>
-        requires arena { A < MAX_ARENAS }
-        requires pens { AreFreshFrom A (into_iter_items pens.old) N.parts.vaults }
-        ensures pen { result ≡ fresh_pen N.parts.vaults A }
-        ensures pens { AreFreshFrom (A + 1) (into_iter_items pens.new) N.parts.vaults }
-    {
-        let Some(pen) = pens.next() else {
-            unreachable!()
-        };
-        pen
-    }
-
     // The next vault, which is that of arena A, where there is one, and the next pen.
     pub(crate) fn next(rest: &mut IntoIter<Vault>, pens: &mut IntoIter<Pen<Vault>>) -> Kept<N, A>
         requires arena { A < MAX_ARENAS }
@@ -60,18 +44,14 @@ impl<N: Names, const A: u8> Kept<N, A> {
         ensures open_vaults { All (IsOpen N.parts) (into_iter_items rest.new) }
         ensures pens { AreFreshFrom (A + 1) (into_iter_items pens.new) N.parts.vaults }
     {
-        let pen = Kept::<N, A>::next_pen(pens);
-        match rest.next() {
-            Some(vault) => Kept {
-                vault: Some(vault),
-                pen,
-                of: PhantomData,
-            },
-            None => Kept {
-                vault: None,
-                pen,
-                of: PhantomData,
-            },
+        let Some(pen) = pens.next() else {
+            unreachable!()
+        };
+        let vault = rest.next();
+        Kept {
+            vault,
+            pen,
+            of: PhantomData,
         }
     }
 
@@ -84,20 +64,15 @@ impl<N: Names, const A: u8> Kept<N, A> {
         ensures open_vaults { All (IsOpen N.parts) vaults.new.items }
         ensures room { vec_capacity vaults.new ≡ vec_capacity vaults.old }
     {
-        let Kept {
-            vault,
-            pen: _,
-            of: _,
-        } = self;
+        let Kept { vault, .. } = self;
         if let Some(vault) = vault {
             vaults.push_reserved(vault);
         }
     }
 
-    // As `Vault::carve`, under the lock of the arena, which is A. The worker enters it in the arena's history.
-    pub(crate) fn carve<R: Wait>(
-        rt: &R,
-        lock: &CachePadded<Mutex<Kept<N, A>>>,
+    // As `Vault::carve`, of the arena A. The worker enters it in the arena's history.
+    pub(crate) fn carve(
+        &mut self,
         histories: &Histories<Vault, Nothing>,
         front: &mut Front<Vault>,
         arena: u8,
@@ -117,20 +92,17 @@ impl<N: Names, const A: u8> Kept<N, A> {
         ensures front { front.new.table ≡ front.old.table }
         ensures why { IfErr result (IsRefusedBy N.parts arena n front.old front.new) }
     {
-        let mut guard = lock.lock(rt);
-        let kept: &mut Kept<N, A> = &mut guard;
-        let Some(vault) = &mut kept.vault else {
+        let Some(vault) = &mut self.vault else {
             unreachable!()
         };
         let answer = vault.carve(lot, tally, n);
-        histories.add(&mut kept.pen, front, None, &*vault);
+        histories.add(&mut self.pen, front, None, &*vault);
         answer
     }
 
-    // As `Vault::cut`, under the lock of the arena, which is A. The worker enters it in the arena's history.
-    pub(crate) fn cut<R: Wait>(
-        rt: &R,
-        lock: &CachePadded<Mutex<Kept<N, A>>>,
+    // As `Vault::cut`, of the arena A. The worker enters it in the arena's history.
+    pub(crate) fn cut(
+        &mut self,
         histories: &Histories<Vault, Nothing>,
         front: &mut Front<Vault>,
         arena: u8,
@@ -147,19 +119,16 @@ impl<N: Names, const A: u8> Kept<N, A> {
         ensures head { head.new ≡ record head.old { len = k } }
         ensures tail { tail.new ≡ record tail.old { len = head.old.len - k } }
     {
-        let mut guard = lock.lock(rt);
-        let kept: &mut Kept<N, A> = &mut guard;
-        let Some(vault) = &mut kept.vault else {
+        let Some(vault) = &mut self.vault else {
             unreachable!()
         };
         vault.cut(head, tail, k);
-        histories.add(&mut kept.pen, front, None, &*vault);
+        histories.add(&mut self.pen, front, None, &*vault);
     }
 
-    // As `Vault::give_back`, under the lock of the arena, which is A. The worker enters it in the arena's history.
-    pub(crate) fn give_back<R: Wait>(
-        rt: &R,
-        lock: &CachePadded<Mutex<Kept<N, A>>>,
+    // As `Vault::give_back`, of the arena A. The worker enters it in the arena's history.
+    pub(crate) fn give_back(
+        &mut self,
         histories: &Histories<Vault, Nothing>,
         front: &mut Front<Vault>,
         arena: u8,
@@ -174,12 +143,10 @@ impl<N: Names, const A: u8> Kept<N, A> {
         ensures lot { lot.new ≡ record lot.old { len = 0 } }
         ensures tally { tally.new ≡ record tally.old { back = tally.old.back + lot.old.len } }
     {
-        let mut guard = lock.lock(rt);
-        let kept: &mut Kept<N, A> = &mut guard;
-        let Some(vault) = &mut kept.vault else {
+        let Some(vault) = &mut self.vault else {
             unreachable!()
         };
         vault.give_back(lot, tally);
-        histories.add(&mut kept.pen, front, None, &*vault);
+        histories.add(&mut self.pen, front, None, &*vault);
     }
 }

@@ -6,7 +6,6 @@ mod arenas;
 mod blocks;
 mod call;
 mod channels;
-mod endings;
 mod heap;
 mod kept;
 mod making;

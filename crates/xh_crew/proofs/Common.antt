@@ -12,5 +12,4 @@ pub use Rattle.xh_script.specs.declared.command.Line.{Line}
 pub use Rattle.xh_script.specs.declared.replies.Answered.{Answered}
 pub use Rattle.xh_script.specs.declared.replies.Reply.{Reply}
 pub use Rattle.xh_session.specs.Bindings.{Bindings, no_bindings, number_of, process_at}
-pub use Rattle.xh_session.specs.Plans.{World}
-pub use Rattle.xh_session.specs.Worlds.{world_of}
+pub use Rattle.xh_session.specs.Plans.{World, world_of}

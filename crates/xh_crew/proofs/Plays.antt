@@ -1,9 +1,9 @@
 -- Lemmas on how lines are played, and on which reply is whose.
-use Rattle.xh_crew.proofs.Common.{Answered, AreAnswersTo, Bindings, Bool, Line, List, Plays, Reply, World, [], add-one, ap, append-nil, append_assoc, arith, drop, drop-cons, drop_of_length-le, false}
-use Rattle.xh_crew.proofs.Common.{filter, get_or, if◌then◌else◌, length, length-map, map, nat_tests, nil_from_length, part, part_of, refl, set, subst, suc, sym, true, zero, ℕ, ◌++◌, ◌+◌, ◌<◌, ◌==◌}
+use Rattle.xh_crew.proofs.Common.{Answered, Bindings, Bool, Line, List, Plays, Reply, World, [], add-one, ap, append-nil, append_assoc, arith, drop, drop-cons, drop_of_length-le, false}
+use Rattle.xh_crew.proofs.Common.{filter, get_or, if◌then◌else◌, length, map, nat_tests, nil_from_length, part, part_of, refl, set, subst, suc, sym, true, zero, ℕ, ◌++◌, ◌+◌, ◌<◌, ◌==◌}
 use Rattle.xh_crew.proofs.Common.{◌∙◌, ◌∷◌, ◌≡◌, ◌≤◌}
-use Rattle.std.proofs.Common.{take}
-use Rattle.xh_crew.specs.inner.Jobs.{behind, filled, next_of}
+use Rattle.std.proofs.Common.{take, ◌≢◌}
+use Rattle.std.proofs.lemmas.List.{get_or-set_other, get_or-set_same}
 use Rattle.xh_crew.specs.Plays.{AllZipFrom, replies_in}
 
 -- ---- a loop that plays those of the lines that pass a test
@@ -35,6 +35,12 @@ pub continues_end : {S : Type 0} (Step : World S → Line → Reply → World S 
     → length lines ≤ i → Continues Step own old lines so_far now i → Plays Step old (filter own lines) so_far now
 continues_end Step own old now lines so_far i past h =
     subst (λ rs. Plays Step old (filter own lines) rs now) (append-nil so_far) (h [] now (subst (λ ls. Plays Step now (filter own ls) [] now) (sym (drop_of_length-le lines past)) refl))
+
+pub is_own : (p k n : ℕ) → n ≡ p → n ≡ k → (p == k) ≡ true
+is_own p k n is same = grind (arith, nat_tests)
+
+pub is_other : (p k n : ℕ) → n ≡ p → n ≢ k → (p == k) ≡ false
+is_other p k n is apart = grind (arith, nat_tests)
 
 pub plays_length : {S : Type 0} (Step : World S → Line → Reply → World S → Type 0) (old : World S) (lines : List Line) (replies : List Reply) (new : World S)
     → Plays Step old lines replies new → length replies ≡ length lines
@@ -83,61 +89,62 @@ left_more f ys more x rest later all e r h =
 
 -- ---- which reply is whose
 
--- there are as many answers as lines
-pub as_long : (lines : List Line) (answers : List Answered) → AreAnswersTo lines answers → length answers ≡ length lines
-as_long lines answers same = sym (length-map answers (λ a. a.line)) ∙ ap length same ∙ length-map lines (λ l. l.number)
-
-pub set_lines : (answers : List Answered) (i : ℕ) (a : Answered) (reply : Reply) → map (λ x. x.line) (set answers i (record (get_or answers i a) { reply = reply })) ≡ map (λ x. x.line) answers
-set_lines [] i a reply = refl
-set_lines (x ∷ answers) zero a reply = refl
-set_lines (x ∷ answers) (suc i) a reply = ap (λ ns. x.line ∷ ns) (set_lines answers i a reply)
+if_more : (own : Bool) (x : Reply) (rs more late : List Reply) → more ≡ rs ++ late → (if own then x ∷ more else more) ≡ (if own then x ∷ rs else rs) ++ late
+if_more true x rs more late e = ap (λ l. x ∷ l) e
+if_more false x rs more late e = e
 
 module _ (b : Bindings) (k : ℕ) where
-  pub fill_own : (lines : List Line) (answers : List Answered) (i : ℕ) (line : Line) (a : Answered) (replies : List Reply) → i < length lines → length answers ≡ length lines
-      → (part_of b (get_or lines i line) == k) ≡ true
-      → take i answers ++ filled b k (drop i lines) (drop i answers) replies
-      ≡ take (suc i) (set answers i (record (get_or answers i a) { reply = next_of replies }))
-      ++ filled b k (drop (suc i) lines) (drop (suc i) (set answers i (record (get_or answers i a) { reply = next_of replies }))) (behind replies)
-  fill_own [] answers i line a replies below long own = absurd (omega arith)
-  fill_own (l ∷ lines) [] i line a replies below long own = absurd (omega arith)
-  fill_own (l ∷ lines) (x ∷ answers) zero line a replies below long own = rw own refl
-  fill_own (l ∷ lines) (x ∷ answers) (suc i) line a replies below long own = ap (λ rest. x ∷ rest) (fill_own lines answers i line a replies (omega arith) (omega arith) own)
+  -- one more answer is the next of its part, and of no other
+  replies_more : (lines : List Line) (answers : List Answered) (i : ℕ) (line : Line) (a : Answered) → i < length lines → get_or lines i line ≡ line → length answers ≡ i
+      → replies_in b k (take (suc i) lines) (answers ++ a ∷ []) ≡ replies_in b k (take i lines) answers ++ (if part_of b line == k then a.reply ∷ [] else [])
+  replies_more [] answers i line a below e long = absurd (omega arith)
+  replies_more (l ∷ lines) [] zero line a below e long = ap (λ z. if part_of b z == k then a.reply ∷ [] else []) e
+  replies_more (l ∷ lines) [] (suc i) line a below e long = absurd (omega arith)
+  replies_more (l ∷ lines) (x ∷ answers) zero line a below e long = absurd (omega arith)
+  replies_more (l ∷ lines) (x ∷ answers) (suc i) line a below e long =
+      if_more (part_of b l == k) x.reply _ _ _ (replies_more lines answers i line a (omega arith) e (omega arith))
 
-  pub fill_other : (lines : List Line) (answers : List Answered) (i : ℕ) (line : Line) (replies : List Reply) → i < length lines → length answers ≡ length lines
-      → (part_of b (get_or lines i line) == k) ≡ false
-      → take i answers ++ filled b k (drop i lines) (drop i answers) replies ≡ take (suc i) answers ++ filled b k (drop (suc i) lines) (drop (suc i) answers) replies
-  fill_other [] answers i line replies below long other = absurd (omega arith)
-  fill_other (l ∷ lines) [] i line replies below long other = absurd (omega arith)
-  fill_other (l ∷ lines) (x ∷ answers) zero line replies below long other = rw other refl
-  fill_other (l ∷ lines) (x ∷ answers) (suc i) line replies below long other = ap (λ rest. x ∷ rest) (fill_other lines answers i line replies (omega arith) (omega arith) other)
+  -- what was told with what is left is the same after it, and enough is left
+  told_more : (own : Bool) (p : ℕ) (told : List Reply) (reply : Reply) (rest : List Reply) (parts : List (List Reply)) (all : List Reply) → (p == k) ≡ own → p < length parts
+      → get_or parts p [] ≡ reply ∷ rest → told ++ get_or parts k [] ≡ all → (told ++ (if own then reply ∷ [] else [])) ++ get_or (set parts p rest) k [] ≡ all
+  told_more true p told reply rest parts all is below first h =
+      let same : p ≡ k = grind (arith, nat_tests) in
+      let now_ : get_or (set parts p rest) k [] ≡ rest = ap (λ n. get_or (set parts p rest) n []) (sym same) ∙ get_or-set_same parts p rest [] below in
+      rw now_ (append_assoc told (reply ∷ []) rest ∙ ap (λ l. told ++ l) (sym first ∙ ap (λ n. get_or parts n []) same) ∙ h)
+  told_more false p told reply rest parts all is below first h =
+      let apart : k ≢ p = grind (arith, nat_tests) in
+      rw (get_or-set_other parts p k rest [] apart, append-nil told) h
 
-  -- the numbers of the lines stay
-  pub filled_lines : (lines : List Line) (answers : List Answered) (replies : List Reply) → map (λ a. a.line) (filled b k lines answers replies) ≡ map (λ a. a.line) answers
-  filled_lines [] answers replies = refl
-  filled_lines (line ∷ lines) [] replies = refl
-  filled_lines (line ∷ lines) (a ∷ answers) replies = at (part_of b line == k) (filled_lines lines answers) where
-    at : (own : Bool) → ((rs : List Reply) → map (λ x. x.line) (filled b k lines answers rs) ≡ map (λ x. x.line) answers)
-        → map (λ x. x.line) (if own then record a { reply = next_of replies } ∷ filled b k lines answers (behind replies) else a ∷ filled b k lines answers replies)
-        ≡ a.line ∷ map (λ x. x.line) answers
-    at true same = ap (λ ns. a.line ∷ ns) (same (behind replies))
-    at false same = ap (λ ns. a.line ∷ ns) (same replies)
+  left_enough : (own : Bool) (p : ℕ) (reply : Reply) (rest : List Reply) (parts : List (List Reply)) (line : Line) (lines : List Line) → (p == k) ≡ own → p < length parts
+      → get_or parts p [] ≡ reply ∷ rest → length (get_or parts k []) ≡ length (if own then line ∷ part b k lines else part b k lines)
+      → length (get_or (set parts p rest) k []) ≡ length (part b k lines)
+  left_enough true p reply rest parts line lines is below first h =
+      let same : p ≡ k = grind (arith, nat_tests) in
+      let now_ : get_or (set parts p rest) k [] ≡ rest = ap (λ n. get_or (set parts p rest) n []) (sym same) ∙ get_or-set_same parts p rest [] below in
+      let was : get_or parts k [] ≡ reply ∷ rest = ap (λ n. get_or parts n []) (sym same) ∙ first in
+      omega (arith, ap (λ l. length l) now_, ap (λ l. length l) was, h)
+  left_enough false p reply rest parts line lines is below first h =
+      let apart : k ≢ p = grind (arith, nat_tests) in
+      rw (get_or-set_other parts p k rest [] apart) h
 
-  -- the part has these replies then
-  pub filled_own : (lines : List Line) (answers : List Answered) (replies : List Reply) → length answers ≡ length lines → length replies ≡ length (part b k lines)
-      → replies_in b k lines (filled b k lines answers replies) ≡ replies
-  filled_own [] answers replies long enough = sym (nil_from_length replies enough)
-  filled_own (line ∷ lines) [] replies long enough = absurd (omega arith)
-  filled_own (line ∷ lines) (a ∷ answers) replies long enough = at (part_of b line == k) refl replies enough (λ rs e. filled_own lines answers rs (omega arith) e) where
-    at : (own : Bool) → (part_of b line == k) ≡ own → (rs : List Reply) → length rs ≡ length (part b k (line ∷ lines))
-        → ((rs : List Reply) → length rs ≡ length (part b k lines) → replies_in b k lines (filled b k lines answers rs) ≡ rs)
-        → replies_in b k (line ∷ lines) (filled b k (line ∷ lines) (a ∷ answers) rs) ≡ rs
-    at true own [] e same = let f = rw own at e in absurd (omega (arith, f))
-    at true own (r ∷ rs) e same = let f = rw own at e in rw (own, own) (ap (λ l. r ∷ l) (same rs (omega (arith, f))))
-    at false own rs e same = let f = rw own at e in rw (own, own) (same rs f)
+  pub next_told : (lines : List Line) (answers : List Answered) (i : ℕ) (line : Line) (reply : Reply) (rest : List Reply) (parts : List (List Reply)) (all : List Reply) → i < length lines
+      → get_or lines i line ≡ line → length answers ≡ i → part_of b line < length parts → get_or parts (part_of b line) [] ≡ reply ∷ rest
+      → replies_in b k (take i lines) answers ++ get_or parts k [] ≡ all
+      → replies_in b k (take (i + 1) lines) (answers ++ record { line = line.number; reply = reply } ∷ []) ++ get_or (set parts (part_of b line) rest) k [] ≡ all
+  next_told lines answers i line reply rest parts all below e long within first h =
+      rw (add-one i, replies_more lines answers i line (record { line = line.number; reply = reply }) below e long)
+      (told_more (part_of b line == k) (part_of b line) (replies_in b k (take i lines) answers) reply rest parts all refl within first h)
 
-  -- and each other part those that it had
-  pub filled_other : (j : ℕ) (lines : List Line) (answers : List Answered) (replies : List Reply) → (j == k) ≡ false
-      → replies_in b j lines (filled b k lines answers replies) ≡ replies_in b j lines answers
-  filled_other j [] answers replies apart = refl
-  filled_other j (line ∷ lines) [] replies apart = refl
-  filled_other j (line ∷ lines) (a ∷ answers) replies apart = grind (arith, nat_tests, filled_other j lines answers (behind replies) apart, filled_other j lines answers replies apart, apart)
+  pub next_enough : (lines : List Line) (i : ℕ) (line : Line) (reply : Reply) (rest : List Reply) (parts : List (List Reply)) → i < length lines → get_or lines i line ≡ line
+      → part_of b line < length parts → get_or parts (part_of b line) [] ≡ reply ∷ rest → length (get_or parts k []) ≡ length (part b k (drop i lines))
+      → length (get_or (set parts (part_of b line) rest) k []) ≡ length (part b k (drop (i + 1) lines))
+  next_enough lines i line reply rest parts below e within first h =
+      left_enough (part_of b line == k) (part_of b line) reply rest parts line (drop (i + 1) lines) refl within first (h ∙ ap (λ ls. length (part b k ls)) (drop_at lines i line below e))
+
+-- of a line's part a reply is left
+pub some_left : (b : Bindings) (lines : List Line) (i : ℕ) (line : Line) (n : ℕ) → i < length lines → get_or lines i line ≡ line → n ≡ length (part b (part_of b line) (drop i lines)) → 0 < n
+some_left b lines i line n below e enough =
+    let own : (part_of b line == part_of b line) ≡ true = grind (arith, nat_tests) in
+    let more : length (part b (part_of b line) (drop i lines)) ≡ suc (length (part b (part_of b line) (drop (i + 1) lines))) =
+    ap (λ ls. length (part b (part_of b line) ls)) (drop_at lines i line below e) ∙ (rw own refl) in
+    omega (arith, enough, more)

@@ -1,11 +1,11 @@
 -- Lemmas on whole runs: what all have played is what the answers tell.
-use Rattle.xh_crew.proofs.Common.{Answered, AreAnswersTo, ArePlayed, Bindings, Bool, Does, DoesAmong, IsHand, Joins, LAST, Left, Line, List, None, PLACES, PlaceIsDone, Plays, Reply}
-use Rattle.xh_crew.proofs.Common.{ap, arith, began, false, if◌then◌else◌, length, length-map, map, nat_tests, number_of, part, process_at, refl, subst, suc, sym, true, world_of, ℕ, ◌+◌}
+use Rattle.xh_crew.proofs.Common.{Answered, ArePlayed, Bindings, Bool, Does, DoesAmong, IsHand, Joins, LAST, Left, Line, List, None, PLACES, PlaceIsDone, Plays, Reply}
+use Rattle.xh_crew.proofs.Common.{ap, arith, began, false, get_or, if◌then◌else◌, length, map, nat_tests, number_of, part, process_at, refl, subst, suc, sym, true, world_of, zero, ℕ, ◌+◌, ◌++◌}
 use Rattle.xh_crew.proofs.Common.{World, [], ◌<◌, ◌==◌, ◌∙◌, ◌∷◌, ◌≡◌, ◌≤◌}
 use Rattle.std.proofs.Math.Dec.{eqb-suc-zero}
 use Rattle.xh_model.specs.declared.row.Row.{Row}
-use Rattle.xh_crew.proofs.Plays.{as_long, filled_lines, filled_other, filled_own, plays_length, zips_count}
-use Rattle.xh_crew.specs.inner.Jobs.{filled, filled_all}
+use Rattle.xh_crew.proofs.Plays.{plays_length, zips_count}
+use Rattle.xh_crew.specs.inner.Jobs.{AreEnough, AreTold}
 use Rattle.xh_crew.specs.declared.crew.Hand.{Hand}
 use Rattle.xh_crew.specs.declared.crew.Hand.TheVariants.{Idle, Works}
 use Rattle.xh_crew.specs.declared.job.Done.{Done}
@@ -13,9 +13,6 @@ use Rattle.xh_crew.specs.declared.job.Shared.{Shared}
 use Rattle.xh_crew.specs.Plays.{AllZipFrom, PlayAll, PlaysPlace, is_placed, process_of, replies_in}
 use Rattle.xh_script.specs.Forms.{is_head}
 use Rattle.xh_session.specs.Questions.{Answer, Question}
-
-same_length : (xs ys : List Answered) → map (λ a. a.line) ys ≡ map (λ a. a.line) xs → length ys ≡ length xs
-same_length xs ys e = sym (length-map ys (λ a. a.line)) ∙ ap length e ∙ length-map xs (λ a. a.line)
 
 -- ---- the head
 
@@ -40,6 +37,18 @@ pub no_part : (b : Bindings) (k : ℕ) (lines : List Line) → k < PLACES → pr
 no_part b k [] below none = refl
 no_part b k (line ∷ lines) below none = grind (arith, nat_tests, no_part b k lines below none, none)
 
+-- the replies of the places from one on, and behind them those of the last part
+abbrev behind : {M : Type 0} → List (Done M) → List Reply → List (List Reply)
+behind dones rests = map (λ done. done.replies.items) dones ++ rests ∷ []
+
+at_last : {M : Type 0} (dones : List (Done M)) (rests : List Reply) → get_or (behind dones rests) (length dones) [] ≡ rests
+at_last [] rests = refl
+at_last (done ∷ dones) rests = at_last dones rests
+
+pub behind_count : {M : Type 0} (dones : List (Done M)) (rests : List Reply) → length (map (λ done. done.replies.items) dones ++ rests ∷ []) ≡ suc (length dones)
+behind_count [] rests = refl
+behind_count (done ∷ dones) rests = ap suc (behind_count dones rests)
+
 module _ {M S : Type 0} (state : M → S) (did : S → (q : Question) → Answer q → S → Type 0) where
   -- what was joined of a place is what is left of it
   pub place_joined : {G : Type 0} (shared : Shared G) (k : ℕ) (machine : M) (hand : Hand M G) (done : Done M) → IsHand state shared k machine hand → Joins state did hand done
@@ -59,61 +68,49 @@ module _ {M S : Type 0} (state : M → S) (did : S → (q : Question) → Answer
     abbrev AreDone : ℕ → List M → List (Done M) → Type 0
     AreDone = AllZipFrom (PlaceIsDone state did ready lines)
 
-    -- filling in the places from k on changes no earlier part
-    all_lines : (k : ℕ) (answers : List Answered) (dones : List (Done M)) → map (λ a. a.line) (filled_all ready.names k lines answers dones) ≡ map (λ a. a.line) answers
-    all_lines k answers [] = refl
-    all_lines k answers (done ∷ dones) = all_lines (suc k) (filled ready.names (suc k) lines answers done.replies.items) dones ∙ filled_lines ready.names (suc k) lines answers done.replies.items
+    enough_behind : (k : ℕ) (olds : List M) (dones : List (Done M)) (rests : List Reply) → AreDone k olds dones → k + length dones ≡ PLACES → length rests ≡ length (part ready.names LAST lines)
+        → (j : ℕ) → k + j ≤ PLACES → length (get_or (behind dones rests) j []) ≡ length (part ready.names (suc (k + j)) lines)
+    enough_behind k [] [] rests p count last zero within = last ∙ ap (λ n. length (part ready.names (suc n) lines)) (omega arith)
+    enough_behind k [] [] rests p count last (suc j) within = absurd (omega arith)
+    enough_behind k [] (done ∷ dones) rests p count last j within = absurd p
+    enough_behind k (old ∷ olds) [] rests p count last j within = absurd p
+    enough_behind k (old ∷ olds) (done ∷ dones) rests (p, ps) count last zero within =
+        plays_length (DoesAmong did lines) _ _ _ _ p.1 ∙ ap (λ n. length (part ready.names (suc n) lines)) (omega arith)
+    enough_behind k (old ∷ olds) (done ∷ dones) rests (p, ps) count last (suc j) within =
+        enough_behind (suc k) olds dones rests ps (omega arith) last j (omega arith) ∙ ap (λ n. length (part ready.names (suc n) lines)) (omega arith)
 
-    all_other : (j k : ℕ) (answers : List Answered) (dones : List (Done M)) → j ≤ k
-        → replies_in ready.names j lines (filled_all ready.names k lines answers dones) ≡ replies_in ready.names j lines answers
-    all_other j k answers [] before = refl
-    all_other j k answers (done ∷ dones) before = all_other j (suc k) (filled ready.names (suc k) lines answers done.replies.items) dones (omega arith)
-        ∙ filled_other ready.names (suc k) j lines answers done.replies.items (grind (arith, nat_tests))
+    pub all_enough : (olds : List M) (heads rests : List Reply) (dones : List (Done M)) → AreDone 0 olds dones → length dones ≡ PLACES
+        → length heads ≡ length (part ready.names 0 lines) → length rests ≡ length (part ready.names LAST lines) → AreEnough ready.names lines (heads ∷ behind dones rests)
+    all_enough olds heads rests dones places count head rest zero within = head
+    all_enough olds heads rests dones places count head rest (suc k) within =
+        enough_behind 0 olds dones rests places (omega (arith, count)) rest k (omega arith) ∙ ap (λ n. length (part ready.names (suc n) lines)) (omega arith)
 
     -- and each place has its replies
-    module _ (contracts : List (List Row)) (last : List Answered) where
-      places_played : (k : ℕ) (olds : List M) (dones : List (Done M)) (answers : List Answered) → length answers ≡ length lines → k + length dones ≡ PLACES
-          → ((j : ℕ) → j ≤ PLACES → replies_in ready.names j lines last ≡ replies_in ready.names j lines (filled_all ready.names k lines answers dones)) → AreDone k olds dones
-          → AllZipFrom (PlaysPlace did contracts lines last ready) k (map state olds) (map state (map (λ done. done.machine) dones))
-      places_played k [] [] answers long count same p = tt
-      places_played k [] (done ∷ dones) answers long count same p = absurd p
-      places_played k (old ∷ olds) [] answers long count same p = absurd p
-      places_played k (old ∷ olds) (done ∷ dones) answers long count same (p, ps) =
-          let now_ = filled ready.names (suc k) lines answers done.replies.items in
-          let own = sym (same (suc k) (omega arith) ∙ all_other (suc k) (suc k) now_ dones (omega arith)
-          ∙ filled_own ready.names (suc k) lines answers done.replies.items long (plays_length (DoesAmong did lines) _ _ _ _ p.1)) in (
+    module _ (contracts : List (List Row)) (answers : List Answered) where
+      places_played : (k : ℕ) (olds : List M) (dones : List (Done M)) (rests : List Reply) → AreDone k olds dones
+          → ((j : ℕ) → j < length dones → get_or (behind dones rests) j [] ≡ replies_in ready.names (suc (k + j)) lines answers)
+          → AllZipFrom (PlaysPlace did contracts lines answers ready) k (map state olds) (map state (map (λ done. done.machine) dones))
+      places_played k [] [] rests p told = tt
+      places_played k [] (done ∷ dones) rests p told = absurd p
+      places_played k (old ∷ olds) [] rests p told = absurd p
+      places_played k (old ∷ olds) (done ∷ dones) rests (p, ps) told =
+          let own = told 0 (omega arith) ∙ ap (λ n. replies_in ready.names (suc n) lines answers) (omega arith) in (
             (p.0, subst (λ rs. Plays (DoesAmong did lines) (record ready { machine = state old }) (part ready.names (suc k) lines) rs p.0) own p.1, p.2),
-            places_played (suc k) olds dones now_ (same_length answers now_ (filled_lines ready.names (suc k) lines answers done.replies.items) ∙ long) (omega arith) same ps,
+            places_played (suc k) olds dones rests ps (λ j below. told (suc j) (omega arith) ∙ ap (λ n. replies_in ready.names (suc n) lines answers) (omega arith)),
           )
 
-    -- all that was played
-    module _ (contracts : List (List Row)) (blank : List Answered) (heads rests : List Reply) (dones : List (Done M)) (answer_all : AreAnswersTo lines blank) where
-      abbrev headed : List Answered
-      headed = filled ready.names 0 lines blank heads
-
-      abbrev placed : List Answered
-      placed = filled_all ready.names 0 lines headed dones
-
-      headed_lines : AreAnswersTo lines headed
-      headed_lines = filled_lines ready.names 0 lines blank heads ∙ answer_all
-
-      before_last : (j : ℕ) → j ≤ PLACES → replies_in ready.names j lines (filled ready.names LAST lines placed rests) ≡ replies_in ready.names j lines placed
-      before_last j before = filled_other ready.names LAST j lines placed rests (grind (arith, nat_tests))
-
-      pub all_played : (first last : S) (end : World S) (olds : List M) → length olds ≡ PLACES → Plays (Does did) (began first contracts) (part ready.names 0 lines) heads ready
-          → AreDone 0 olds dones → Plays (Does did) ready (part ready.names LAST lines) rests end → end.machine ≡ last
-          → PlayAll did contracts lines (filled ready.names LAST lines placed rests) first (map state olds) last (map state (map (λ done. done.machine) dones))
-      all_played first last end olds count head places rest left = record {
+      pub all_played : (first : S) (end : World S) (olds : List M) (heads rests : List Reply) (dones : List (Done M)) → length dones ≡ PLACES
+          → Plays (Does did) (began first contracts) (part ready.names 0 lines) heads ready → AreDone 0 olds dones → Plays (Does did) ready (part ready.names LAST lines) rests end
+          → AreTold ready.names lines answers (heads ∷ behind dones rests)
+          → PlayAll did contracts lines answers first (map state olds) end.machine (map state (map (λ done. done.machine) dones))
+      all_played first end olds heads rests dones count head places rest told = record {
         ready = ready;
         end = end;
-        head = subst (λ rs. Plays (Does did) (began first contracts) (part ready.names 0 lines) rs ready)
-            (sym (before_last 0 (omega arith) ∙ all_other 0 0 headed dones (omega arith)
-            ∙ filled_own ready.names 0 lines blank heads (as_long lines blank answer_all) (plays_length (Does did) _ _ _ _ head))) head;
-        places = places_played contracts (filled ready.names LAST lines placed rests) 0 olds dones headed (as_long lines headed headed_lines)
-            (omega (arith, zips_count (PlaceIsDone state did ready lines) 0 olds dones places, count)) before_last places;
+        head = subst (λ rs. Plays (Does did) (began first contracts) (part ready.names 0 lines) rs ready) (sym (told 0 (omega arith))) head;
+        places = places_played 0 olds dones rests places (λ j below. sym (told (suc j) (omega (arith, count))) ∙ ap (λ n. replies_in ready.names (suc n) lines answers) (omega arith));
         rest = subst (λ rs. Plays (Does did) ready (part ready.names LAST lines) rs end)
-            (sym (filled_own ready.names LAST lines placed rests (as_long lines placed (all_lines 0 headed dones ∙ headed_lines)) (plays_length (Does did) _ _ _ _ rest))) rest;
-        left = left;
+            (sym (told LAST (omega arith) ∙ ap (λ n. get_or (behind dones rests) n []) (sym count) ∙ at_last dones rests)) rest;
+        left = refl;
       }
 
 -- as many machines are left

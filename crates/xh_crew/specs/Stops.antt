@@ -4,5 +4,5 @@ use Rattle.xh_script.specs.declared.fault.Fault.{Fault}
 use Rattle.xh_script.specs.declared.fault.Fault.TheVariants.{Gate, Memory}
 
 -- a run stops so: memory was refused, or the gate stopped a worker, which one that always lets them through doesn't
-abbrev pub Stops : Bool → Fault → Type 0
-Stops always fault = (fault ≡ Memory) ⊎ ((fault ≡ Gate) × (always ≢ true))
+abbrev pub MayStop : Bool → Fault → Type 0
+MayStop always fault = (fault ≡ Memory) ⊎ ((fault ≡ Gate) × (always ≢ true))

@@ -1,11 +1,12 @@
 //! A thread for each place that has a process.
 ghost use Rattle.std.specs.Prelude.{◌≡◌, ◌<◌, ◌≤◌, [], IfOk, MatchResult, OnOk, vec_len};
 ghost use Rattle.xh_model.specs.declared.limits.TheConstants.{PLACES};
-ghost use Rattle.xh_crew.specs.inner.Jobs.{AreHands, AreJoined, ArePlaces, IsHand, IsJob, Joins};
-ghost use Rattle.xh_crew.specs.Stops.{Stops};
+ghost use Rattle.xh_crew.specs.inner.Jobs.{ArePlaces, IsHand, IsJob, Joins};
+ghost use Rattle.xh_crew.specs.Plays.{AllZipFrom};
+ghost use Rattle.xh_crew.specs.Stops.{MayStop};
 
 use crate::job::{Done, Job, Shared};
-use crate::play::is_in;
+use crate::play::part_of;
 use std::alloc::{AllocError, Global};
 use std::snapshot::Snapshot;
 use std::sync::Wait;
@@ -13,7 +14,7 @@ use std::thread;
 use std::thread::{Promise, PromisedHandle, Scope, Threads};
 use xh_place::Gate;
 use xh_script::{Fault, Line};
-use xh_session::{Machine, Names as Bindings, Session};
+use xh_session::{Machine, Session};
 
 /// That a worker's job is done, or it was stopped.
 #[derive(Drop)]
@@ -35,16 +36,6 @@ enum Hand<'s, 'a, M: Machine, G: Gate> {
     Idle(M),
 }
 
-fn count_of(names: &Bindings, lines: &[Line], number: u8) -> usize {
-    let mut count = 0usize;
-    for line in lines {
-        if is_in(names, line, number) {
-            count = count.saturating_add(1);
-        }
-    }
-    count
-}
-
 // The job of a place, with what the names stand for after the head, and room for its replies.
 fn job<'a, M: Machine, G>(
     alloc: Global,
@@ -55,7 +46,9 @@ fn job<'a, M: Machine, G>(
     requires { place < PLACES }
     ensures { IfOk result (IsJob M.state shared.now place machine) }
 {
-    let room = Vec::with_capacity(alloc, count_of(shared.ready, shared.lines, place + 1))?;
+    let number = place + 1;
+    let own = |line: &&Line| part_of(shared.ready, line) == number;
+    let room = Vec::with_capacity(alloc, shared.lines.iter().filter(own).count())?;
     let names = shared.ready.copy(alloc)?;
     Ok(Job {
         session: Session {
@@ -110,7 +103,7 @@ fn start_all<
 ) -> Result<(), AllocError>
     requires empty { hands.old.items ≡ [] }
     requires count { vec_len machines ≤ PLACES }
-    ensures { OnOk result (AreHands M.state shared.now machines.items hands.new.items) }
+    ensures { OnOk result (AllZipFrom (IsHand M.state shared.now) 0 machines.items hands.new.items) }
 {
     let mut started = shared.started.lock(rt);
     let mut place = 0u8;
@@ -125,7 +118,7 @@ fn start_all<
 impl<'s, 'a, M: Machine, G: Gate> Hand<'s, 'a, M, G> {
     // What the place leaves.
     fn join<R: Threads>(self, rt: &R, alloc: Global) -> Result<Done<M>, Fault>
-        ensures { MatchResult result (Joins M.state M.did self.entry) (Stops G.always) }
+        ensures { MatchResult result (Joins M.state M.did self.entry) (MayStop G.always) }
     {
         match self {
             Hand::Works(handle) => handle.join(rt),
@@ -145,7 +138,7 @@ fn join_all<'s, 'a: 's, M: Machine, R: Threads, G: Gate>(
     mut dones: Vec<Done<M>>,
 ) -> Result<Vec<Done<M>>, Fault>
     requires { dones.items ≡ [] }
-    ensures { MatchResult result (λ dones. AreJoined M.state M.did hands.entry.items dones.items) (Stops G.always) }
+    ensures { MatchResult result (λ dones. AllZipFrom (λ _ hand done. Joins M.state M.did hand done) 0 hands.entry.items dones.items) (MayStop G.always) }
 {
     let mut ended = Ok(());
     for hand in hands {
@@ -174,7 +167,7 @@ fn run_in<
     shared: &'s Shared<'a, G>,
 ) -> Result<Vec<Done<M>>, Fault>
     requires { vec_len machines ≤ PLACES }
-    ensures { MatchResult result (λ dones. ArePlaces M.state M.did shared.now machines.items dones.items) (Stops G.always) }
+    ensures { MatchResult result (λ dones. ArePlaces M.state M.did shared.now machines.items dones.items) (MayStop G.always) }
 {
     let dones = Vec::with_capacity(alloc, machines.len())?;
     let mut hands = Vec::with_capacity(alloc, machines.len())?;
@@ -195,14 +188,14 @@ pub(crate) fn work_all<'s, 'a: 's, M: Machine + Send, R: Threads + Wait + Sync, 
     shared: &'s Shared<'a, G>,
 ) -> Result<Vec<Done<M>>, Fault>
     requires { vec_len machines ≤ PLACES }
-    ensures { MatchResult result (λ dones. ArePlaces M.state M.did shared.now machines.items dones.items) (Stops G.always) }
+    ensures { MatchResult result (λ dones. ArePlaces M.state M.did shared.now machines.items dones.items) (MayStop G.always) }
 {
     thread::scope(
         thread::scope_env(),
         rt,
         |scope| -> Result<Vec<Done<M>>, Fault>
             requires { vec_len machines ≤ PLACES }
-            ensures { MatchResult result (λ dones. ArePlaces M.state M.did shared.entry.now machines.items dones.items) (Stops G.always) }
+            ensures { MatchResult result (λ dones. ArePlaces M.state M.did shared.entry.now machines.items dones.items) (MayStop G.always) }
         { run_in(scope, rt, alloc, machines, shared) },
     )
 }

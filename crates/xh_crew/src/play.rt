@@ -1,11 +1,11 @@
 //! How a worker does its job.
-ghost use Rattle.std.specs.Prelude.{◌≡◌, ◌==◌, ◌<◌, [], suc, IfOk, IfErr};
+ghost use Rattle.std.specs.Prelude.{◌≡◌, ◌<◌, ◌≤◌, [], suc, IfOk, IfErr};
 ghost use Rattle.std.specs.List.{list_any};
 ghost use Rattle.xh_model.specs.declared.limits.TheConstants.{PLACES};
-ghost use Rattle.xh_crew.specs.Plays.{DoesAmong, Plays, is_placed, names_another, names_renewed, part, part_of, renews};
+ghost use Rattle.xh_crew.specs.Plays.{DoesAmong, LAST, Plays, is_placed, names_another, names_renewed, part, part_of, renews};
 ghost use Rattle.xh_crew.specs.inner.Jobs.{Hears, Leaves};
-ghost use Rattle.xh_crew.specs.Stops.{Stops};
-ghost use Rattle.xh_session.specs.Worlds.{world_of};
+ghost use Rattle.xh_crew.specs.Stops.{MayStop};
+ghost use Rattle.xh_session.specs.Plans.{world_of};
 
 use crate::job::{Done, Job, Shared};
 use std::alloc::Global;
@@ -20,18 +20,14 @@ fn is_placed(names: &Bindings, process: u8) -> bool
     ensures { result ≡ is_placed names.now process }
 {
     let number = names.number(process);
-    if number >= u16::from(PLACES) {
-        return false;
-    }
-    match names.process_at(number as u8) {
-        Some(latest) => latest == process,
-        None => false,
-    }
+    number < u16::from(PLACES)
+        && matches!(names.process_at(number as u8), Some(latest) if latest == process)
 }
 
 /// The part of a run to which a line belongs.
 pub(crate) fn part_of(names: &Bindings, line: &Line) -> u8
-    ensures { result ≡ part_of names.now line.now }
+    ensures is { result ≡ part_of names.now line.now }
+    ensures within { result ≤ LAST }
 {
     let process = line.command.name(0);
     if line.command.form.is_head() {
@@ -41,13 +37,6 @@ pub(crate) fn part_of(names: &Bindings, line: &Line) -> u8
     } else {
         1 + PLACES
     }
-}
-
-/// Whether a line belongs to the part of a number.
-pub(crate) fn is_in(names: &Bindings, line: &Line, number: u8) -> bool
-    ensures { result ≡ (part_of names.now line.now == number) }
-{
-    part_of(names, line) == number
 }
 
 fn names_another(form: Form) -> bool
@@ -126,12 +115,12 @@ fn play<'a, M: Machine, R: Wait, G: Gate>(
     requires { (place < PLACES) × (room.items ≡ []) }
     ensures played { IfOk result (λ replies. Plays (DoesAmong M.did shared.now.lines.now) (world_of M.state session.old) (part shared.now.ready.now (suc place) shared.now.lines.now) replies.items
         (world_of M.state session.new)) }
-    ensures stopped { IfErr result (Stops G.always) }
+    ensures stopped { IfErr result (MayStop G.always) }
 {
     let mut replies = room;
     let mut command = 0u32;
     for line in shared.lines {
-        if is_in(shared.ready, line, place + 1) {
+        if part_of(shared.ready, line) == place + 1 {
             if !shared.gate.before(place, command) {
                 return Err(Fault::Gate);
             }

@@ -1,87 +1,66 @@
 //! The replies to the lines of a script, out of those of its parts, and what they tell.
-ghost use Rattle.std.specs.Prelude.{◌≡◌, ◌≤◌, IfOk, OnOk, map, replicate, vec_len};
+ghost use Rattle.std.specs.Prelude.{◌≡◌, ◌≤◌, [], ◌∷◌, ◌++◌, IfOk, map, replicate, suc, vec_len};
 ghost use Rattle.std.specs.Vec.Iter.{into_iter_items};
-ghost use Rattle.xh_crew.specs.inner.Jobs.{behind, filled, filled_all, next_of};
-ghost use Rattle.xh_crew.specs.Plays.{AreAnswersTo, names_after, numbers_after, told};
+ghost use Rattle.xh_crew.specs.inner.Jobs.{AreEnough, AreTold};
+ghost use Rattle.xh_crew.specs.Plays.{AreAnswersTo, LAST, names_after, numbers_after, told};
 ghost use Rattle.xh_model.specs.declared.limits.TheConstants.{PLACES};
 ghost use Rattle.xh_session.specs.Bindings.{no_bindings};
 
 use crate::job::Done;
-use crate::play::is_in;
+use crate::play::part_of;
 use std::alloc::{AllocError, Global};
 use std::vec::IntoIter;
 use xh_core::PLACE_LINES;
-use xh_model::limits::PLACES;
+use xh_model::limits::{MAX_WORKERS, PLACES};
 use xh_script::{Answered, Line, Reply};
 use xh_session::Names as Bindings;
 
-/// An answer to each line, whose reply is yet to come.
-pub(crate) fn answers_to(alloc: Global, lines: &[Line]) -> Result<Vec<Answered>, AllocError>
-    ensures { IfOk result (λ answers. AreAnswersTo lines.now answers.items) }
+/// The machines of the places, and the replies of all parts. There is room for one more machine.
+pub(crate) fn parts_of<M: Drop>(
+    alloc: Global,
+    first: Vec<Reply>,
+    dones: Vec<Done<M>>,
+    last: Vec<Reply>,
+) -> Result<(Vec<M>, Vec<IntoIter<Reply>>), AllocError>
+    ensures machines { IfOk result (λ r. r.0.items ≡ map (λ done. done.machine) dones.items) }
+    ensures parts { IfOk result (λ r. map into_iter_items r.1.items ≡ first.items ∷ (map (λ done. done.replies.items) dones.items ++ last.items ∷ [])) }
 {
-    let mut answers = Vec::with_capacity(alloc, lines.len())?;
-    for line in lines {
-        answers.push(Answered {
-            line: line.number,
-            reply: Reply::Started(0),
-        })?;
+    let mut machines = Vec::with_capacity(alloc, usize::from(MAX_WORKERS))?;
+    let mut parts = Vec::with_capacity(alloc, usize::from(PLACES) + 2)?;
+    parts.push(first.into_iter())?;
+    for done in dones {
+        let Done { machine, replies } = done;
+        machines.push(machine)?;
+        parts.push(replies.into_iter())?;
     }
-    Ok(answers)
+    parts.push(last.into_iter())?;
+    Ok((machines, parts))
 }
 
-// The next reply; some other where none is left.
-fn next_of(replies: &mut IntoIter<Reply>) -> Reply
-    ensures { (result ≡ next_of (into_iter_items replies.old)) × (into_iter_items replies.new ≡ behind (into_iter_items replies.old)) }
-{
-    match replies.next() {
-        Some(reply) => reply,
-        None => Reply::Started(0),
-    }
-}
-
-/// Each line of a part has the next of its replies.
-pub(crate) fn fill(
-    names: &Bindings,
-    lines: &[Line],
-    number: u8,
-    replies: Vec<Reply>,
-    answers: &mut [Answered],
-)
-    requires { AreAnswersTo lines.now answers.old }
-    ensures same { AreAnswersTo lines.now answers.new }
-    ensures filled { answers.new ≡ filled names.now number lines.now answers.old replies.items }
-{
-    let mut replies = replies.into_iter();
-    for at in 0..lines.len() {
-        if is_in(names, &lines[at], number) {
-            answers[at].reply = next_of(&mut replies);
-        }
-    }
-}
-
-/// The lines of the places have their replies: the machines that did them.
-pub(crate) fn fill_all<M: Drop>(
+/// An answer to each line: the next of the replies of its part.
+pub(crate) fn answers_of(
     alloc: Global,
     names: &Bindings,
     lines: &[Line],
-    dones: Vec<Done<M>>,
-    answers: &mut [Answered],
-) -> Result<Vec<M>, AllocError>
-    requires count { vec_len dones ≤ PLACES }
-    requires answers { AreAnswersTo lines.now answers.old }
-    ensures same { OnOk result (AreAnswersTo lines.now answers.new) }
-    ensures machines { IfOk result (λ machines. machines.items ≡ map (λ done. done.machine) dones.items) }
-    ensures filled { OnOk result (answers.new ≡ filled_all names.now 0 lines.now answers.old dones.items) }
+    mut parts: Vec<IntoIter<Reply>>,
+) -> Result<Vec<Answered>, AllocError>
+    requires count { vec_len parts ≡ suc LAST }
+    requires enough { AreEnough names.now lines.now (map into_iter_items parts.items) }
+    ensures same { IfOk result (λ answers. AreAnswersTo lines.now answers.items) }
+    ensures told { IfOk result (λ answers. AreTold names.now lines.now answers.items (map into_iter_items parts.items)) }
 {
-    let mut machines = Vec::with_capacity(alloc, dones.len())?;
-    let mut place = 0u8;
-    for done in dones {
-        let Done { machine, replies } = done;
-        fill(names, lines, place + 1, replies, answers);
-        machines.push(machine)?;
-        place += 1;
+    let mut answers = Vec::with_capacity(alloc, lines.len())?;
+    for line in lines {
+        let part = usize::from(part_of(names, line));
+        let Some(reply) = parts[part].next() else {
+            unreachable!()
+        };
+        answers.push(Answered {
+            line: line.number,
+            reply,
+        })?;
     }
-    Ok(machines)
+    Ok(answers)
 }
 
 // The line has this reply. Where it tells that a process was started, that is the latest of its place, unless one with a

@@ -1,16 +1,16 @@
 //! The run itself: the head, the workers, and what they leave.
-ghost use Rattle.std.specs.Prelude.{◌≡◌, ◌≤◌, IfErr, IfOk, MatchResult, OnOk, length, map, vec_len};
+ghost use Rattle.std.specs.Prelude.{◌≡◌, ◌≤◌, IfErr, IfOk, MatchResult, length, map, vec_len};
 ghost use Rattle.xh_model.specs.declared.limits.TheConstants.{MAX_WORKERS, PLACES};
 ghost use Rattle.xh_crew.specs.Plays.{AllZipFrom, AreAnswersTo, ArePlayed, Does, HasNames, PlayAll, Plays, part};
 ghost use Rattle.xh_crew.specs.inner.Jobs.{PlaceIsDone};
 ghost use Rattle.xh_session.specs.Bindings.{no_bindings};
-ghost use Rattle.xh_crew.specs.Stops.{Stops};
-ghost use Rattle.xh_session.specs.Worlds.{world_of};
+ghost use Rattle.xh_crew.specs.Stops.{MayStop};
+ghost use Rattle.xh_session.specs.Plans.{world_of};
 
 use crate::crew::work_all;
 use crate::job::{Done, Shared};
-use crate::play::is_in;
-use crate::replies::{answers_to, fill, fill_all, latest};
+use crate::play::part_of;
+use crate::replies::{answers_of, latest, parts_of};
 use std::alloc::{AllocError, Global};
 use std::sync::{Mutex, Wait};
 use std::thread::Threads;
@@ -39,7 +39,7 @@ fn run_part<'a, M: Machine>(
 {
     let mut replies = Vec::new(alloc);
     for line in lines {
-        if is_in(names, line, number) {
+        if part_of(names, line) == number {
             replies.push(head.step(alloc, &line.command))?;
         }
     }
@@ -56,7 +56,7 @@ fn work<'a, M: Machine + Send, R: Threads + Wait + Sync, G: Gate + Sync>(
     gate: &'a G,
 ) -> Result<Vec<Done<M>>, Fault>
     requires { vec_len machines ≤ PLACES }
-    ensures { MatchResult result (λ dones. AllZipFrom (PlaceIsDone M.state M.did (world_of M.state head.entry.now) lines.entry.now) 0 machines.items dones.items) (Stops G.always) }
+    ensures { MatchResult result (λ dones. AllZipFrom (PlaceIsDone M.state M.did (world_of M.state head.entry.now) lines.entry.now) 0 machines.items dones.items) (MayStop G.always) }
 {
     let shared = Shared {
         lines,
@@ -77,25 +77,22 @@ fn play_all<M: Machine + Send, R: Threads + Wait + Sync, G: Gate + Sync>(
     head: &mut Session<'_, M>,
     lines: &[Line],
     gate: &G,
-    answers: &mut [Answered],
-) -> Result<Vec<M>, Fault>
+) -> Result<(Vec<M>, Vec<Answered>), Fault>
     requires count { vec_len machines ≡ PLACES }
     requires names { head.old.names ≡ no_bindings }
-    requires answers { AreAnswersTo lines.now answers.old }
-    ensures played { IfOk result (λ r. PlayAll M.did head.old.contracts.now lines.now answers.new
-        (M.state head.old.machine) (map M.state machines.items) (M.state head.new.machine) (map M.state r.items)) }
-    ensures answers { OnOk result (AreAnswersTo lines.now answers.new) }
-    ensures stopped { IfErr result (Stops G.always) }
+    ensures played { IfOk result (λ r. PlayAll M.did head.old.contracts.now lines.now r.1.items
+        (M.state head.old.machine) (map M.state machines.items) (M.state head.new.machine) (map M.state r.0.items)) }
+    ensures answers { IfOk result (λ r. AreAnswersTo lines.now r.1.items) }
+    ensures stopped { IfErr result (MayStop G.always) }
 {
     let names = Bindings::new(alloc)?;
     let first = run_part(alloc, head, &names, lines, 0)?;
     let ready = head.names.copy(alloc)?;
-    fill(&ready, lines, 0, first, answers);
     let dones = work(rt, alloc, machines, head, lines, gate)?;
-    let machines = fill_all(alloc, &ready, lines, dones, answers)?;
     let last = run_part(alloc, head, &ready, lines, 1 + PLACES)?;
-    fill(&ready, lines, 1 + PLACES, last, answers);
-    Ok(machines)
+    let (machines, parts) = parts_of(alloc, first, dones, last)?;
+    let answers = answers_of(alloc, &ready, lines, parts)?;
+    Ok((machines, answers))
 }
 
 /// Runs a script with the first machine for the head and, at the end, for the processes without a place, and the others
@@ -114,7 +111,7 @@ pub fn run_on<M: Machine + Send, R: Threads + Wait + Sync, G: Gate + Sync>(
     ensures played { IfOk result (λ o. ArePlayed M.did script.now.contracts.items script.now.lines.items o.answers.items (map M.state machines.items) (map M.state o.machines.items)) }
     ensures answers { IfOk result (λ o. AreAnswersTo script.now.lines.items o.answers.items) }
     ensures names { IfOk result (λ o. HasNames script.now.processes.items script.now.lines.items o.answers.items o.names.items × (length o.names.items ≡ PLACES)) }
-    ensures stopped { IfErr result (Stops G.always) }
+    ensures stopped { IfErr result (MayStop G.always) }
 {
     let mut head = Session {
         machine: machines.remove(0),
@@ -122,15 +119,13 @@ pub fn run_on<M: Machine + Send, R: Threads + Wait + Sync, G: Gate + Sync>(
         contracts: &script.contracts,
     };
     let lines = script.lines.as_slice();
-    let mut answers = answers_to(alloc, lines)?;
-    let answered = answers.as_mut_slice();
-    let played = play_all(rt, alloc, machines, &mut head, lines, gate, answered);
+    let played = play_all(rt, alloc, machines, &mut head, lines, gate);
     let Session {
         machine,
         names: _,
         contracts: _,
     } = head;
-    let mut machines = played?;
+    let (mut machines, answers) = played?;
     machines.insert(0, machine)?;
     let names = latest(alloc, lines, answers.as_slice())?;
     let names = names.by_place(alloc, &script.processes)?;

@@ -1,7 +1,7 @@
 //! A job's run: a kernel is made, the job works on it, and its books are closed.
 ghost use Rattle.std.specs.Prelude.{◌≡◌, IfOk, List};
 ghost use Rattle.xh_kernel.specs.Histories.{IsLaw};
-ghost use Rattle.xh_books.specs.Closing.{IsClosed};
+ghost use Rattle.xh_books.specs.Closing.{AreClosed};
 ghost use Rattle.xh_books.specs.Ledgers.{IsBalanced};
 ghost use Rattle.xh_calls.specs.declared.call.Entry.{Entry};
 ghost use Rattle.xh_calls.specs.Parts.{AreMadeBy, PartsOf};
@@ -137,7 +137,7 @@ fn run_named<N: Names + Send + Sync, R: Threads + Wait + Clock + Sync, J: Job + 
     requires law { IsLaw N.parts N.leads }
     ensures balanced { IfOk result (λ c. IsBalanced c.books.ledger) }
     ensures lines { IfOk result (λ c. AreFlightLines c.books.ledger.flight c.books.flight.items) }
-    ensures closed { IfOk result (λ c. (accounts : List AccountOf) × (looks : List (LookOf Entry)) × IsClosed N.parts accounts looks c.books.ledger c.books.flight.items) }
+    ensures closed { IfOk result (λ c. (accounts : List AccountOf) × (looks : List (LookOf Entry)) × AreClosed N.parts accounts looks c.books.ledger c.books.flight.items) }
 {
     let (kernel, mut accounts, looks) = Kernel::<N>::new(alloc, parts)?;
     let worked = work_on(rt, alloc, &kernel, &mut accounts, count, job);
@@ -164,7 +164,7 @@ pub fn run<R: Threads + Wait + Clock + Sync, J: Job + Sync>(
     ensures balanced { IfOk result (λ c. IsBalanced c.books.ledger) }
     ensures lines { IfOk result (λ c. AreFlightLines c.books.ledger.flight c.books.flight.items) }
     ensures closed { IfOk result (λ c. (parts : PartsOf) × (accounts : List AccountOf) × (looks : List (LookOf Entry))
-        × AreMadeBy config MAX_WORKERS parts × IsClosed parts accounts looks c.books.ledger c.books.flight.items) }
+        × AreMadeBy config MAX_WORKERS parts × AreClosed parts accounts looks c.books.ledger c.books.flight.items) }
 {
     if count == 0 || count > PLACES {
         return Err(Refused::BadSize);

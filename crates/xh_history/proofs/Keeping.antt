@@ -1,30 +1,44 @@
 -- Each step keeps the rule.
 use Rattle.std.proofs.Common.{◌≡◌, ◌≢◌, ℕ, zero, suc, ◌*◌, ◌<◌, ◌≤◌, List, [], ◌∷◌, ◌++◌, length, length-set, set, get_or, cond, eqb, refl, sym, ap, ◌∙◌, subst, ⊎_elim, arith, append_assoc, append-nil, get_or-set_same}
-use Rattle.std.proofs.Common.{get_or-set_other, replicate, eq-eqb, ne_eqb}
-use Rattle.std.specs.Prelude.{◌==◌, Bool, MatchOption, Option, Some, true, false, slice_set, unwrap_or}
-use Rattle.std.proofs.lemmas.List.{set-get_or, get_or-replicate}
+use Rattle.std.proofs.Common.{eqb-true, get_or-set_other, le-ltb, lt-ltb, ltb, ltb-false, ltb-true, replicate, ne_eqb}
+use Rattle.std.proofs.lemmas.Bool.{eqb-false}
+use Rattle.std.specs.Prelude.{◌==◌, Bool, Some, true, false, slice_set}
+use Rattle.std.proofs.lemmas.List.{get_or-replicate}
 use mathlib.Core.Option.{some, none, some-ne-none, some-injective}
-use mathlib.Core.Logic.{dite}
-use native.Mathlib.Decide.{ℕ_discrete}
 use lib.ListN.{get_elem?}
-use Rattle.atomic_table.specs.Table.{Me, step, keeps, Allows, Splits, Joins, opening}
+use Rattle.atomic_table.specs.Table.{Allows, Joins, Me, Splits, State, keeps, opening, step, stepped}
 use Rattle.atomic_table.specs.Seated.{TableId}
 use Rattle.atomic_table.proofs.Lists.{at_set, set_else}
 use Rattle.xh_history.specs.declared.view.View.{View}
 use Rattle.xh_model.specs.declared.limits.TheConstants.{PLACES}
 use Rattle.xh_history.specs.Histories.{History, HasSeen, Shown, StartsWith, calls_of, at, last_of}
-use Rattle.xh_history.specs.inner.Views.{AreShown, Compared, Fits, IsFront, IsFrontOrNone, IsKept, Looked, front_of, Serves, Writes, both, first_view, place_alone, signed, spent, with_calls, without_place, without_worker}
+use Rattle.xh_history.specs.inner.Views.{Fits, IsFront, IsFrontOrNone, IsKept, Looked, front_of, Serves, Writes, both, first_view, place_alone, signed, spent, with_calls, without_place, without_worker}
 use Rattle.xh_history.specs.inner.Views.{all_words, onlooker, place_of, stride, worker_alone}
 
 -- the function with another value at one number
 abbrev but : {A : Type 0} → (ℕ → A) → ℕ → A → ℕ → A
 but f p x q = cond (eqb q p) x (f q)
 
-but_here : {A : Type 0} (f : ℕ → A) (p : ℕ) (x : A) → but f p x p ≡ x
-but_here f p x = ap (λ b. cond b x (f p)) (eq-eqb p p refl)
+-- what holds of each of its values
+at_each : {A : Type 0} (P : ℕ → A → Type 0) (f : ℕ → A) (p : ℕ) (x : A) → P p x → ((q : ℕ) → q ≢ p → P q (f q)) → (q : ℕ) → P q (but f p x q)
+at_each {A} P f p x here other q = go (eqb q p) refl where
+  go : (b : Bool) → eqb q p ≡ b → P q (cond b x (f q))
+  go true e = subst (λ (m : ℕ). P m x) (sym (eqb-true q p e)) here
+  go false e = other q (eqb-false q p e)
 
-but_else : {A : Type 0} (f : ℕ → A) (p : ℕ) (x : A) (q : ℕ) → q ≢ p → but f p x q ≡ f q
-but_else f p x q n = ap (λ b. cond b x (f q)) (ne_eqb q p n)
+-- who has the numbers, once those from one to before another are given to a seat
+abbrev given : (ℕ → ℕ) → ℕ → ℕ → ℕ → ℕ → ℕ
+given f low high to q = cond (ltb q high) (cond (ltb q low) (f q) to) (f q)
+
+given_here : (f : ℕ → ℕ) (low high to q : ℕ) → (low ≤ q) × (q < high) → to ≡ given f low high to q
+given_here f low high to q within = sym (ap (λ (b : Bool). cond b (cond (ltb q low) (f q) to) (f q)) (lt-ltb q high within.1) ∙ ap (λ (b : Bool). cond b (f q) to) (le-ltb q low within.0))
+
+given_else : (f : ℕ → ℕ) (low high to j q : ℕ) → j ≡ f q → ((low ≤ q) × (q < high) → ⊥) → j ≡ given f low high to q
+given_else f low high to j q is out = is ∙ go (ltb q high) (ltb q low) refl refl where
+  go : (a b : Bool) → ltb q high ≡ a → ltb q low ≡ b → f q ≡ cond a (cond b (f q) to) (f q)
+  go false b e e' = refl
+  go true true e e' = refl
+  go true false e e' = absurd (out (ltb-false q low e', ltb-true q high e))
 
 module _ {E : Type 0} (shows : ℕ → ℕ → E → Type 0) where
   calls_append : (k : ℕ) (xs ys : History E) → calls_of k (xs ++ ys) ≡ calls_of k xs ++ calls_of k ys
@@ -53,16 +67,15 @@ module _ {E : Type 0} (shows : ℕ → ℕ → E → Type 0) where
   )
 
   -- one view changes
-  pub set_each : (P Q : ℕ → View E → Type 0) (views : List (View E)) (id : ℕ) (w : View E) → ((j : ℕ) (u : View E) → get_elem? views j ≡ some u → P j u) → Q id w
-      → ((j : ℕ) (u : View E) → j ≢ id → P j u → Q j u)
+  set_each : (Q : ℕ → View E → Type 0) (views : List (View E)) (id : ℕ) (w : View E) → Q id w → ((j : ℕ) (u : View E) → j ≢ id → get_elem? views j ≡ some u → Q j u)
       → (j : ℕ) (u : View E) → get_elem? (set views id w) j ≡ some u → Q j u
-  set_each P Q views id w all here others j u e = ⊎_elim
+  set_each Q views id w here others j u e = ⊎_elim
       (λ (t : (j ≡ id) × (w ≡ u)). subst (λ (k : ℕ). Q k u) (sym t.0) (subst (λ (x : View E). Q id x) t.1 here))
-      (λ (t : (j ≢ id) × (get_elem? views j ≡ some u)). others j u t.0 (all j u t.1))
+      (λ (t : (j ≢ id) × (get_elem? views j ≡ some u)). others j u t.0 t.1)
       (at_set views id j w u e)
 
   -- and one more view
-  pub push_each : (P : ℕ → View E → Type 0) (views : List (View E)) (w : View E) → ((j : ℕ) (u : View E) → get_elem? views j ≡ some u → P j u) → P (length views) w
+  push_each : (P : ℕ → View E → Type 0) (views : List (View E)) (w : View E) → ((j : ℕ) (u : View E) → get_elem? views j ≡ some u → P j u) → P (length views) w
       → (j : ℕ) (u : View E) → get_elem? (views ++ w ∷ []) j ≡ some u → P j u
   push_each P [] w all last zero u e = subst (λ (x : View E). P 0 x) (some-injective w u e) last
   push_each P [] w all last (suc j) u e = absurd (some-ne-none u (sym e))
@@ -74,25 +87,45 @@ module _ {E : Type 0} (shows : ℕ → ℕ → E → Type 0) where
   last_push (y ∷ []) x = refl
   last_push (y ∷ z ∷ zs) x = last_push (z ∷ zs) x
 
-  -- the word shows the call that was added
-  pub shown_push : (p : ℕ) (h : History E) (k : ℕ) (e : E) (n : ℕ) → shows p n e → Shown shows p (h ++ (k, e) ∷ []) n
-  shown_push p h k e n is = subst (λ (o : Option (ℕ × E)). MatchOption o (n ≡ 0) (λ c. shows p n c.1)) (sym (last_push h (k, e))) is
-
   starts_itself : (seen h : History E) → h ≡ seen → StartsWith h seen
   starts_itself seen h e = ([], e ∙ sym (append-nil seen))
 
   starts_on : (a b c : History E) → StartsWith a b → StartsWith b c → StartsWith a c
   starts_on a b c x y = (y.0 ++ x.0, x.1 ∙ ap (λ (l : History E). l ++ x.0) y.1 ∙ append_assoc c y.0 x.0)
 
-  -- what is shown of one place, history and worker, by others that are the same
-  pub shown_of : (p q : ℕ) (h h' : History E) (j k : ℕ) (es : List E) (word word' : Option ℕ) → p ≡ q → h ≡ h' → j ≡ k → word ≡ word'
-      → ((n : ℕ) → Shown shows q h' n → Shown shows q (h' ++ signed k es) (unwrap_or word n)) → (n : ℕ) → Shown shows p h n → Shown shows p (h ++ signed j es) (unwrap_or word' n)
-  shown_of p q h h' j k es word word' place same worker told is n was =
-      let there : Shown shows q h' n = subst (λ (x : History E). Shown shows q x n) same (subst (λ (m : ℕ). Shown shows m h n) place was) in
-      let here : Shown shows q (h' ++ signed k es) (unwrap_or word' n) = subst (λ (o : Option ℕ). Shown shows q (h' ++ signed k es) (unwrap_or o n)) told (is n there) in
-      subst (λ (m : ℕ). Shown shows m (h ++ signed j es) (unwrap_or word' n)) (sym place)
-      (subst (λ (x : History E). Shown shows q (x ++ signed j es) (unwrap_or word' n)) (sym same)
-      (subst (λ (m : ℕ). Shown shows q (h' ++ signed m es) (unwrap_or word' n)) (sym worker) here))
+  -- A step after which a seat has seen the history of a place to its end, to which more came, or nothing. Nothing came where another seat writes the place, and no call of a worker whom another serves.
+  extends : {S : Type 0} (s : State S (View E)) (told : IsKept shows s) (id word : ℕ) (me : Me S (View E)) (p m : ℕ) (mine new more : History E) → get_elem? s.views id ≡ some me.0
+      → word ≡ stride * p → p < PLACES → p < length me.0.fronts → new ≡ told.0 p ++ more → Shown shows p new m → ((q : ℕ) → Writes me.0 q → mine ≡ but told.0 p new q)
+      → ((j : ℕ) (u : View E) → j ≢ id → Fits told.0 told.1 told.2 j u → (Writes u p → more ≡ []) × ((k : ℕ) → Serves u k → calls_of k more ≡ []))
+      → IsKept shows (stepped s word m id me.1 (record me.0 { history = mine; fronts = slice_set me.0.fronts p new }) keeps)
+  extends s told id word me p m mine new more here aligned inside long longer shown whole apart =
+      let v : View E = me.0 in
+      let h = told.0 in
+      let h' = but h p new in
+      let f = told.4 id v here in
+      let w : View E = record v { history = mine; fronts = slice_set v.fronts p new } in
+      let ends : at w.fronts p ≡ new = get_or-set_same v.fronts p new [] long in
+      let own : Fits h' told.1 told.2 id w = record {
+        whole = whole;
+        writer = f.writer;
+        begun = at_each (λ q x. StartsWith x (at w.fronts q)) h p new (starts_itself (at w.fronts p) new (sym ends))
+            (λ q ne. subst (λ (x : History E). StartsWith (h q) x) (sym (get_or-set_other v.fronts p q new [] ne)) (f.begun q));
+        seen = λ k sv. at_each (λ q x. HasSeen k (at w.fronts q) x) h p new (sees_all k new (at w.fronts p) ends)
+            (λ q ne. subst (λ (x : History E). HasSeen k x (h q)) (sym (get_or-set_other v.fronts p q new [] ne)) (f.seen k sv q));
+        server = f.server;
+      } in
+      let other : (j : ℕ) (u : View E) → j ≢ id → get_elem? s.views j ≡ some u → Fits h' told.1 told.2 j u = λ j u ne e. let g = told.4 j u e in let t = apart j u ne g in record {
+        whole = at_each (λ q x. Writes u q → u.history ≡ x) h p new (λ st. g.whole p st ∙ sym (longer ∙ ap (λ (l : History E). h p ++ l) (t.0 st) ∙ append-nil (h p))) (λ q _. g.whole q);
+        writer = g.writer;
+        begun = at_each (λ q x. StartsWith x (at u.fronts q)) h p new (starts_on new (h p) (at u.fronts p) (more, longer) (g.begun p)) (λ q _. g.begun q);
+        seen = λ k sv. at_each (λ q x. HasSeen k (at u.fronts q) x) h p new
+            (subst (HasSeen k (at u.fronts p)) (sym longer) (sees_more k (at u.fronts p) (h p) more (g.seen k sv p) (t.1 k sv))) (λ q _. g.seen k sv q);
+        server = g.server;
+      } in
+      let last = at_each (λ q x. q < PLACES → Shown shows q x (get_or (set s.words word m) (stride * q) 0)) h p new
+      (λ _. subst (λ (i : ℕ). Shown shows p new (get_or (set s.words word m) i 0)) aligned (subst (Shown shows p new) (sym (get_or-set_same s.words word m 0 (omega (arith, told.3.0, aligned, inside)))) shown))
+      (λ q ne below. subst (Shown shows q (h q)) (sym (get_or-set_other s.words word (stride * q) m 0 (λ e. ne (omega (arith, e, aligned))))) (told.3.1 q below)) in
+      (h', told.1, told.2, (length-set s.words word m ∙ told.3.0, last), set_each (Fits h' told.1 told.2) s.views id w own other)
 
   -- a step by which the worker's calls come to the history of the place, whose word is kept or becomes another, and shows the last of them
   pub adds : {S : Type 0} (slots id word : ℕ) (f : ℕ → ℕ) (me : Me S (View E)) (es : List E) → word ≡ stride * me.0.place → me.0.places_end ≡ suc me.0.place → me.0.workers_end ≡ suc me.0.worker
@@ -103,52 +136,22 @@ module _ {E : Type 0} (shows : ℕ → ℕ → E → Type 0) where
       let v : View E = me.0 in
       let p : ℕ = v.place in
       let k : ℕ = v.worker in
-      let h = told.0 in
-      let words = told.3 in
+      let n : ℕ = get_or s.words word 0 in
       let mine = told.4 id v here in
       let writes : Writes v p = (omega arith, omega (arith, one_place)) in
       let serves : Serves v k = (omega arith, omega (arith, one_worker)) in
       let whole = mine.whole p writes in
-      let new = v.history ++ signed k es in
-      let h' = but h p new in
-      let w = with_calls es v in
-      let n = get_or s.words word 0 in
-      let is_new : (q : ℕ) → q ≡ p → h' q ≡ new = λ q e. ap h' e ∙ but_here h p new in
-      let longer : (q : ℕ) → StartsWith (h' q) (h q) = λ q. dite (ℕ_discrete q p)
-      (λ e. (signed k es, is_new q e ∙ ap (λ l. l ++ signed k es) (whole ∙ ap h (sym e)))) (λ ne. starts_itself (h q) (h' q) (but_else h p new q ne)) in
-      let mine' : Fits h' told.1 told.2 id w = record {
-        whole = λ q st. let same : q ≡ p = omega (arith, st.0, st.1, one_place) in sym (is_new q same);
-        writer = mine.writer;
-        begun = λ q. dite (ℕ_discrete q p)
-            (λ e. starts_itself (at w.fronts q) (h' q) (is_new q e ∙ sym (ap (at w.fronts) e ∙ get_or-set_same v.fronts p new [] (omega (arith, inside, long)))))
-            (λ ne. subst (λ (x : History E). StartsWith (h' q) x) (sym (get_or-set_other v.fronts p q new [] ne)) (starts_on (h' q) (h q) (at v.fronts q) (longer q) (mine.begun q)));
-        seen = λ j sv q. dite (ℕ_discrete q p)
-            (λ e. sees_all j (h' q) (at w.fronts q) (ap (at w.fronts) e ∙ get_or-set_same v.fronts p new [] (omega (arith, inside, long)) ∙ sym (is_new q e)))
-            (λ ne. subst (λ (x : History E). HasSeen j x (h' q)) (sym (get_or-set_other v.fronts p q new [] ne)) (subst (HasSeen j (at v.fronts q)) (sym (but_else h p new q ne)) (mine.seen j sv q)));
-        server = mine.server;
-      } in
-      let other : (j : ℕ) (u : View E) → j ≢ id → Fits h told.1 told.2 j u → Fits h' told.1 told.2 j u = λ j u ne g. record {
-        whole = λ q st. g.whole q st ∙ sym (but_else h p new q (λ e. ne (g.writer q st ∙ ap told.1 e ∙ sym (mine.writer p writes))));
-        writer = g.writer;
-        begun = λ q. starts_on (h' q) (h q) (at u.fronts q) (longer q) (g.begun q);
-        seen = λ j' sv q. dite (ℕ_discrete q p)
-            (λ e. subst (HasSeen j' (at u.fronts q)) (sym (is_new q e ∙ ap (λ l. l ++ signed k es) (whole ∙ ap h (sym e))))
-            (sees_more j' (at u.fronts q) (h q) (signed k es) (g.seen j' sv q) (others_calls k j' es (λ same. ne (g.server j' sv ∙ ap told.2 (sym same) ∙ sym (mine.server k serves))))))
-            (λ n'. subst (HasSeen j' (at u.fronts q)) (sym (but_else h p new q n')) (g.seen j' sv q));
-        server = g.server;
-      } in
-      let before : Shown shows p v.history n = subst (λ (x : History E). Shown shows p x n) (sym whole) (subst (λ (m : ℕ). Shown shows p (h p) (get_or s.words m 0)) (sym aligned) (words.1 p inside)) in
-      let last : (q : ℕ) → q < PLACES → Shown shows q (h' q) (get_or (set s.words word (f n)) (stride * q) 0) = λ q below. dite (ℕ_discrete q p)
-      (λ e. subst (λ (m : ℕ). Shown shows m (h' m) (get_or (set s.words word (f n)) (stride * m) 0)) (sym e)
-      (subst (λ (m : ℕ). Shown shows p (h' p) (get_or (set s.words word (f n)) m 0)) aligned
-      (subst (λ (m : ℕ). Shown shows p (h' p) m) (sym (get_or-set_same s.words word (f n) 0 (omega (arith, words.0, aligned, inside))))
-      (subst (λ (x : History E). Shown shows p x (f n)) (sym (but_here h p new)) (shown n before)))))
-      (λ ne. subst (λ (m : ℕ). Shown shows q (h' q) m) (sym (get_or-set_other s.words word (stride * q) (f n) 0 (λ e. ne (omega (arith, e, aligned)))))
-      (subst (λ (x : History E). Shown shows q x (get_or s.words (stride * q) 0)) (sym (but_else h p new q ne)) (words.1 q below))) in (
-        w,
+      let new : History E = v.history ++ signed k es in
+      let before : Shown shows p v.history n = subst (λ (x : History E). Shown shows p x n) (sym whole) (subst (λ (m : ℕ). Shown shows p (told.0 p) (get_or s.words m 0)) (sym aligned) (told.3.1 p inside)) in (
+        with_calls es v,
         keeps,
         tt,
-        (h', told.1, told.2, (length-set s.words word (f n) ∙ words.0, last), set_each (Fits h told.1 told.2) (Fits h' told.1 told.2) s.views id w told.4 mine' other),
+        extends s told id word me p (f n) new new (signed k es) here aligned inside (omega (arith, inside, long)) (ap (λ (l : History E). l ++ signed k es) whole) (shown n before)
+            (at_each (λ q x. Writes v q → new ≡ x) told.0 p new (λ _. refl) (λ q ne st. absurd (ne (omega (arith, st.0, st.1, one_place)))))
+            (λ j u ne g. (
+              λ st. absurd (ne (g.writer p st ∙ sym (mine.writer p writes))),
+              λ j' sv. others_calls k j' es (λ same. ne (g.server j' sv ∙ ap told.2 (sym same) ∙ sym (mine.server k serves))),
+            )),
         (refl, subst (HasSeen k (at v.fronts p)) (sym whole) (mine.seen k serves p)),
       )
 
@@ -158,215 +161,111 @@ module _ {E : Type 0} (shows : ℕ → ℕ → E → Type 0) where
   looks slots id word me aligned inside long s told len here fits =
       let v : View E = me.0 in
       let p : ℕ = place_of word in
-      let h = told.0 in
       let mine = told.4 id v here in
       let later = (mine.begun p).0 in
-      let there : at v.fronts p ++ later ≡ h p = sym (mine.begun p).1 in
-      let fronts' = slice_set v.fronts p (at v.fronts p ++ later) in
-      let w = record v { fronts = fronts' } in
-      let is : (q : ℕ) → q ≡ p → at fronts' q ≡ h q = λ q e. ap (at fronts') e ∙ get_or-set_same v.fronts p (at v.fronts p ++ later) [] (omega (arith, inside, long)) ∙ there ∙ ap h (sym e) in
-      let mine' : Fits h told.1 told.2 id w = record {
-        whole = mine.whole;
-        writer = mine.writer;
-        begun = λ q. dite (ℕ_discrete q p) (λ e. starts_itself (at fronts' q) (h q) (sym (is q e)))
-            (λ ne. subst (λ (x : History E). StartsWith (h q) x) (sym (get_or-set_other v.fronts p q (at v.fronts p ++ later) [] ne)) (mine.begun q));
-        seen = λ j sv q. dite (ℕ_discrete q p) (λ e. sees_all j (h q) (at fronts' q) (is q e))
-            (λ ne. subst (λ (x : History E). HasSeen j x (h q)) (sym (get_or-set_other v.fronts p q (at v.fronts p ++ later) [] ne)) (mine.seen j sv q));
-        server = mine.server;
-      } in (
-        w,
+      let new : History E = at v.fronts p ++ later in
+      let there : new ≡ told.0 p = sym (mine.begun p).1 in
+      let whole : Writes v p → v.history ≡ new = λ st. mine.whole p st ∙ sym there in
+      let shown : Shown shows p new (get_or s.words word 0) = subst (λ (x : History E). Shown shows p x (get_or s.words word 0)) (sym there)
+      (subst (λ (m : ℕ). Shown shows p (told.0 p) (get_or s.words m 0)) (sym aligned) (told.3.1 p inside)) in (
+        record v { fronts = slice_set v.fronts p new },
         keeps,
         tt,
-        (
-          h,
-          told.1,
-          told.2,
-          subst (AreShown shows h) (sym (set-get_or s.words word 0)) told.3,
-          set_each (Fits h told.1 told.2) (Fits h told.1 told.2) s.views id w told.4 mine' (λ j u n g. g),
-        ),
-        (
-          later,
-          refl,
-          subst (λ (x : History E). Shown shows p x (get_or s.words word 0)) (sym there)
-              (subst (λ (m : ℕ). Shown shows p (h p) (get_or s.words m 0)) (sym aligned) (told.3.1 p inside)),
-        ),
+        extends s told id word me p (get_or s.words word 0) v.history new [] here aligned inside (omega (arith, inside, long)) (there ∙ sym (append-nil (told.0 p))) shown
+            (at_each (λ q x. Writes v q → v.history ≡ x) told.0 p new whole (λ q _. mine.whole q)) (λ j u ne g. (λ _. refl, λ k sv. refl)),
+        (later, refl, shown, whole),
       )
 
-  -- a load by which what was taken in is compared
-  pub compares : {S : Type 0} (slots id word : ℕ) (me : Me S (View E)) → me.0.places_end ≡ suc me.0.place → Allows (IsKept shows) slots id me word (λ n. n) (Compared (step slots word 0 0 none) me)
-  compares slots id word me one_place s told len here fits =
-      let v : View E = me.0 in
-      let h = told.0 in
-      let mine = told.4 id v here in
-      let writes : Writes v v.place = (omega arith, omega (arith, one_place)) in (
-        v,
-        keeps,
-        tt,
-        (
-          h,
-          told.1,
-          told.2,
-          subst (AreShown shows h) (sym (set-get_or s.words word 0)) told.3,
-          set_each (Fits h told.1 told.2) (Fits h told.1 told.2) s.views id v told.4 mine (λ j u n g. g),
-        ),
-        (refl, subst (λ (x : History E). StartsWith x (at v.fronts v.place)) (sym (mine.whole v.place writes)) (mine.begun v.place)),
-      )
+  -- what a seat has of another's view
+  record Part (u v : View E) : Type 0 where
+    places : (q : ℕ) → Writes u q → Writes v q × (u.history ≡ v.history)
+    workers : (k : ℕ) → Serves u k → Serves v k × (u.fronts ≡ v.fronts)
+    fronts : (q : ℕ) → StartsWith (at v.fronts q) (at u.fronts q)
 
-  -- the first place goes to a new seat
-  pub place_splits : {S : Type 0} (id : ℕ) (v : View E) → v.place < v.places_end → Splits {S = S} (IsKept shows) id v (without_place v) (place_alone v)
-  place_splits id v some_left s told here =
-      let p : ℕ = v.place in
+  part : (h : ℕ → History E) (writer_of server_of writer_of' server_of' : ℕ → ℕ) (id id' : ℕ) (u v : View E) → Part u v → Fits h writer_of server_of id v
+      → ((q : ℕ) → Writes u q → id' ≡ writer_of' q) → ((k : ℕ) → Serves u k → id' ≡ server_of' k) → Fits h writer_of' server_of' id' u
+  part h writer_of server_of writer_of' server_of' id id' u v p f writer server = record {
+    whole = λ q st. let t = p.places q st in t.1 ∙ f.whole q t.0;
+    writer = writer;
+    begun = λ q. starts_on (h q) (at v.fronts q) (at u.fronts q) (f.begun q) (p.fronts q);
+    seen = λ k sv q. let t = p.workers k sv in subst (λ (x : List (History E)). HasSeen k (at x q) (h q)) (sym t.1) (f.seen k t.0 q);
+    server = server;
+  }
+
+  -- a part of a seat's view goes to a new seat
+  splits : {S : Type 0} (id : ℕ) (v left right : View E) → Part left v → Part right v → ((q : ℕ) → Writes left q → Writes right q → ⊥) → ((k : ℕ) → Serves left k → Serves right k → ⊥)
+      → Splits {S = S} (IsKept shows) id v left right
+  splits id v left right l r no_place no_worker s told here =
       let f = told.4 id v here in
-      let n = length (set s.views id (without_place v)) in
-      let writer_of = but told.1 p n in
-      let mine : Writes v p = (omega arith, some_left) in
-      let left : Fits told.0 writer_of told.2 id (without_place v) = record {
-        whole = λ q st. f.whole q (omega (arith, st.0), st.1);
-        writer = λ q st. f.writer q (omega (arith, st.0), st.1) ∙ sym (but_else told.1 p n q (λ e. omega (arith, e, st.0)));
-        begun = f.begun;
-        seen = f.seen;
-        server = f.server;
-      } in
-      let right : Fits told.0 writer_of told.2 n (place_alone v) = record {
-        whole = λ q st. f.whole q (st.0, omega (arith, st.1, some_left));
-        writer = λ q st. let same : q ≡ p = omega (arith, st.0, st.1) in sym (ap writer_of same ∙ but_here told.1 p n);
-        begun = λ q. (told.0 q, refl);
-        seen = λ k sv. absurd (omega (arith, sv.1));
-        server = λ k sv. absurd (omega (arith, sv.1));
-      } in
-      let other : (j : ℕ) (u : View E) → j ≢ id → Fits told.0 told.1 told.2 j u → Fits told.0 writer_of told.2 j u = λ j u ne g. record {
+      let n = length (set s.views id left) in
+      let writer_of = given told.1 right.place right.places_end n in
+      let server_of = given told.2 right.worker right.workers_end n in
+      let mine : Fits told.0 writer_of server_of id left = part told.0 told.1 told.2 writer_of server_of id id left v l f
+      (λ q st. given_else told.1 right.place right.places_end n id q (f.writer q (l.places q st).0) (no_place q st))
+      (λ k sv. given_else told.2 right.worker right.workers_end n id k (f.server k (l.workers k sv).0) (no_worker k sv)) in
+      let new : Fits told.0 writer_of server_of n right = part told.0 told.1 told.2 writer_of server_of id n right v r f
+      (given_here told.1 right.place right.places_end n) (given_here told.2 right.worker right.workers_end n) in
+      let other : (j : ℕ) (u : View E) → j ≢ id → get_elem? s.views j ≡ some u → Fits told.0 writer_of server_of j u = λ j u ne e. let g = told.4 j u e in record {
         whole = g.whole;
-        writer = λ q st. g.writer q st ∙ sym (but_else told.1 p n q (λ e. ne (g.writer q st ∙ ap told.1 e ∙ sym (f.writer p mine))));
+        writer = λ q st. given_else told.1 right.place right.places_end n j q (g.writer q st) (λ st'. ne (g.writer q st ∙ sym (f.writer q (r.places q st').0)));
         begun = g.begun;
         seen = g.seen;
-        server = g.server;
+        server = λ k sv. given_else told.2 right.worker right.workers_end n j k (g.server k sv) (λ sv'. ne (g.server k sv ∙ sym (f.server k (r.workers k sv').0)));
       } in (
         told.0,
         writer_of,
-        told.2,
-        told.3,
-        push_each (Fits told.0 writer_of told.2) (set s.views id (without_place v)) (place_alone v)
-            (set_each (Fits told.0 told.1 told.2) (Fits told.0 writer_of told.2) s.views id (without_place v) told.4 left other) right,
-      )
-
-  -- the first worker goes to a new seat
-  pub worker_splits : {S : Type 0} (id : ℕ) (v : View E) → v.worker < v.workers_end → Splits {S = S} (IsKept shows) id v (without_worker v) (worker_alone v)
-  worker_splits id v some_left s told here =
-      let k : ℕ = v.worker in
-      let f = told.4 id v here in
-      let n = length (set s.views id (without_worker v)) in
-      let server_of = but told.2 k n in
-      let mine : Serves v k = (omega arith, some_left) in
-      let left : Fits told.0 told.1 server_of id (without_worker v) = record {
-        whole = f.whole;
-        writer = f.writer;
-        begun = f.begun;
-        seen = λ q sv. f.seen q (omega (arith, sv.0), sv.1);
-        server = λ q sv. f.server q (omega (arith, sv.0), sv.1) ∙ sym (but_else told.2 k n q (λ e. omega (arith, e, sv.0)));
-      } in
-      let right : Fits told.0 told.1 server_of n (worker_alone v) = record {
-        whole = λ q st. absurd (omega (arith, st.1));
-        writer = λ q st. absurd (omega (arith, st.1));
-        begun = f.begun;
-        seen = λ q sv. f.seen q (sv.0, omega (arith, sv.1, some_left));
-        server = λ q sv. let same : q ≡ k = omega (arith, sv.0, sv.1) in sym (ap server_of same ∙ but_here told.2 k n);
-      } in
-      let other : (j : ℕ) (u : View E) → j ≢ id → Fits told.0 told.1 told.2 j u → Fits told.0 told.1 server_of j u = λ j u ne g. record {
-        whole = g.whole;
-        writer = g.writer;
-        begun = g.begun;
-        seen = g.seen;
-        server = λ q sv. g.server q sv ∙ sym (but_else told.2 k n q (λ e. ne (g.server q sv ∙ ap told.2 e ∙ sym (f.server k mine))));
-      } in (
-        told.0,
-        told.1,
         server_of,
         told.3,
-        push_each (Fits told.0 told.1 server_of) (set s.views id (without_worker v)) (worker_alone v)
-            (set_each (Fits told.0 told.1 told.2) (Fits told.0 told.1 server_of) s.views id (without_worker v) told.4 left other) right,
+        push_each (Fits told.0 writer_of server_of) (set s.views id left) right (set_each (Fits told.0 writer_of server_of) s.views id left mine other) new,
       )
 
-  -- a seat that serves nobody takes in one that serves one worker
-  pub joins : {S : Type 0} (id : ℕ) (v : View E) (from : ℕ) (w : View E) → v.workers_end ≤ v.worker → w.workers_end ≡ suc w.worker → Joins {S = S} (IsKept shows) id v from w (both v w) spent
-  joins id v from w nobody one s told here apart there =
-      let k : ℕ = w.worker in
+  all_seen : (v : View E) (q : ℕ) → StartsWith (at v.fronts q) (at v.fronts q)
+  all_seen v q = starts_itself (at v.fronts q) (at v.fronts q) refl
+
+  -- the first place
+  pub place_splits : {S : Type 0} (id : ℕ) (v : View E) → v.place < v.places_end → Splits {S = S} (IsKept shows) id v (without_place v) (place_alone v)
+  place_splits id v some_left = splits id v (without_place v) (place_alone v)
+      record { places = λ q st. ((omega (arith, st.0), st.1), refl); workers = λ k sv. (sv, refl); fronts = all_seen v }
+      record { places = λ q st. ((st.0, omega (arith, st.1, some_left)), refl); workers = λ k sv. absurd (omega (arith, sv.1)); fronts = λ q. (at v.fronts q, refl) }
+      (λ q a b. omega (arith, a.0, b.1)) (λ k a b. omega (arith, b.1))
+
+  -- the first worker
+  pub worker_splits : {S : Type 0} (id : ℕ) (v : View E) → v.worker < v.workers_end → Splits {S = S} (IsKept shows) id v (without_worker v) (worker_alone v)
+  worker_splits id v some_left = splits id v (without_worker v) (worker_alone v)
+      record { places = λ q st. (st, refl); workers = λ k sv. ((omega (arith, sv.0), sv.1), refl); fronts = all_seen v }
+      record { places = λ q st. absurd (omega (arith, st.1)); workers = λ k sv. ((sv.0, omega (arith, sv.1, some_left)), refl); fronts = all_seen v }
+      (λ q a b. omega (arith, b.1)) (λ k a b. omega (arith, a.0, b.1))
+
+  -- what was seen alone
+  pub onlooks : {S : Type 0} (id : ℕ) (v : View E) → Splits {S = S} (IsKept shows) id v v (onlooker v)
+  onlooks id v = splits id v v (onlooker v)
+      record { places = λ q st. (st, refl); workers = λ k sv. (sv, refl); fronts = all_seen v }
+      record { places = λ q st. absurd (omega (arith, st.1)); workers = λ k sv. absurd (omega (arith, sv.1)); fronts = all_seen v }
+      (λ q a b. omega (arith, b.1)) (λ k a b. omega (arith, b.1))
+
+  -- a seat takes in whom another serves, and what that has seen
+  pub joins : {S : Type 0} (id : ℕ) (v : View E) (from : ℕ) (w : View E) → Joins {S = S} (IsKept shows) id v from w (both v w) spent
+  joins id v from w s told here apart there =
       let f = told.4 id v here in
       let g : Fits told.0 told.1 told.2 from w = told.4 from w (sym (set_else s.views id from (both v w) apart) ∙ there) in
-      let server_of = but told.2 k id in
-      let serves : Serves w k = (omega arith, omega (arith, one)) in
-      let mine : Fits told.0 told.1 server_of id (both v w) = record {
-        whole = f.whole;
-        writer = f.writer;
-        begun = g.begun;
-        seen = g.seen;
-        server = λ q sv. let same : q ≡ k = omega (arith, sv.0, sv.1, one) in sym (ap server_of same ∙ but_here told.2 k id);
-      } in
-      let nothing : Fits told.0 told.1 server_of from spent = record {
-        whole = λ q st. absurd (omega (arith, st.1));
-        writer = λ q st. absurd (omega (arith, st.1));
-        begun = λ q. (told.0 q, refl);
-        seen = λ q sv. absurd (omega (arith, sv.1));
-        server = λ q sv. absurd (omega (arith, sv.1));
-      } in
-      let other : (j : ℕ) (u : View E) → j ≢ id → Fits told.0 told.1 told.2 j u → (j ≢ from → Fits told.0 told.1 server_of j u) = λ j u _ x ne. record {
+      let server_of = given told.2 w.worker w.workers_end id in
+      let mine : Fits told.0 told.1 server_of id (both v w) = record { whole = f.whole; writer = f.writer; begun = g.begun; seen = g.seen; server = given_here told.2 w.worker w.workers_end id } in
+      let nothing : Fits told.0 told.1 server_of from spent = part told.0 told.1 told.2 told.1 server_of from from spent w
+      record { places = λ q st. absurd (omega (arith, st.1)); workers = λ k sv. absurd (omega (arith, sv.1)); fronts = λ q. (at w.fronts q, refl) } g
+      (λ q st. absurd (omega (arith, st.1))) (λ k sv. absurd (omega (arith, sv.1))) in
+      let other : (j : ℕ) (u : View E) → j ≢ id → get_elem? s.views j ≡ some u → j ≢ from → Fits told.0 told.1 server_of j u = λ j u _ e ne. let x = told.4 j u e in record {
         whole = x.whole;
         writer = x.writer;
         begun = x.begun;
         seen = x.seen;
-        server = λ q sv. x.server q sv ∙ sym (but_else told.2 k id q (λ e. ne (x.server q sv ∙ ap told.2 e ∙ sym (g.server k serves))));
-      } in
-      let P : ℕ → View E → Type 0 = λ j u. j ≢ from → Fits told.0 told.1 server_of j u in (
+        server = λ k sv. given_else told.2 w.worker w.workers_end id j k (x.server k sv) (λ sv'. ne (x.server k sv ∙ sym (g.server k sv')));
+      } in (
         told.0,
         told.1,
         server_of,
         told.3,
-        set_each P (Fits told.0 told.1 server_of) (set s.views id (both v w)) from spent (set_each (Fits told.0 told.1 told.2) P s.views id (both v w) told.4 (λ _. mine) other) nothing
-            (λ j u ne x. x ne),
-      )
-
-  -- a new seat that only looks
-  pub onlooks : {S : Type 0} (id : ℕ) (v : View E) → Splits {S = S} (IsKept shows) id v v (onlooker v)
-  onlooks id v s told here =
-      let f = told.4 id v here in
-      let new : (j : ℕ) → Fits told.0 told.1 told.2 j (onlooker v) = λ j. record {
-        whole = λ p st. absurd (omega (arith, st.1));
-        writer = λ p st. absurd (omega (arith, st.1));
-        begun = f.begun;
-        seen = λ k sv. absurd (omega (arith, sv.1));
-        server = λ k sv. absurd (omega (arith, sv.1));
-      } in (
-        told.0,
-        told.1,
-        told.2,
-        told.3,
-        push_each (Fits told.0 told.1 told.2) (set s.views id v) (onlooker v) (set_each (Fits told.0 told.1 told.2) (Fits told.0 told.1 told.2) s.views id v told.4 f (λ j u n g. g)) (new _),
-      )
-
-  -- the seat of a place takes in what a look has seen
-  pub looks_join : {S : Type 0} (id : ℕ) (v : View E) (from : ℕ) (w : View E) → w.workers_end ≡ 0 → Joins {S = S} (IsKept shows) id v from w (both v w) spent
-  looks_join id v from w nobody s told here apart there =
-      let f = told.4 id v here in
-      let g : Fits told.0 told.1 told.2 from w = told.4 from w (sym (set_else s.views id from (both v w) apart) ∙ there) in
-      let mine : Fits told.0 told.1 told.2 id (both v w) = record {
-        whole = f.whole;
-        writer = f.writer;
-        begun = g.begun;
-        seen = λ k sv. absurd (omega (arith, sv.1, nobody));
-        server = λ k sv. absurd (omega (arith, sv.1, nobody));
-      } in
-      let nothing : Fits told.0 told.1 told.2 from spent = record {
-        whole = λ q st. absurd (omega (arith, st.1));
-        writer = λ q st. absurd (omega (arith, st.1));
-        begun = λ q. (told.0 q, refl);
-        seen = λ q sv. absurd (omega (arith, sv.1));
-        server = λ q sv. absurd (omega (arith, sv.1));
-      } in
-      let one = set_each (Fits told.0 told.1 told.2) (Fits told.0 told.1 told.2) s.views id (both v w) told.4 mine (λ j u n x. x) in (
-        told.0,
-        told.1,
-        told.2,
-        told.3,
-        set_each (Fits told.0 told.1 told.2) (Fits told.0 told.1 told.2) (set s.views id (both v w)) from spent one nothing (λ j u n x. x),
+        set_each (Fits told.0 told.1 server_of) (set s.views id (both v w)) from spent nothing
+            (λ j u ne e. set_each (λ i x. i ≢ from → Fits told.0 told.1 server_of i x) s.views id (both v w) (λ _. mine) other j u e ne),
       )
 
   empties : (n p : ℕ) → at {E = E} (replicate n []) p ≡ []

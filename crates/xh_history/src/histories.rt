@@ -4,11 +4,9 @@ ghost use Rattle.xh_history.specs.Histories.{FrontOf, HasSeen, PenOf, Sees, Show
 ghost use Rattle.xh_history.specs.inner.Views.{place_of, signed, stride, view_from};
 ghost use Rattle.xh_model.specs.declared.limits.TheConstants.{PLACES};
 
-use crate::front::Front;
-use crate::look::Look;
-use crate::pen::Pen;
+use crate::seats::{Front, Look, Pen};
 use crate::steps::{
-    Adds, Compares, FirstPlace, FirstWorker, Looks, OneHistory, Onlooker, Says, Shows, TakesIn,
+    Adds, FirstPlace, FirstWorker, Looks, OneHistory, Onlooker, Says, Shows, TakesIn,
 };
 use crate::view::View;
 use atomic_table::{Badge, Seat, Table};
@@ -51,6 +49,7 @@ impl<E, S: Shows<E>> Model for Histories<E, S> {
 
 impl<E, S: Shows<E>> Histories<E, S> {
     /// Empty histories: the pen of each place, the fronts of so many workers, and so many looks.
+    #[tactic(auto, using(crate::proofs::Keeping::onlooks, crate::proofs::Keeping::worker_splits, crate::proofs::Keeping::place_splits))]
     pub fn new(
         alloc: Global,
         workers: u8,
@@ -61,98 +60,27 @@ impl<E, S: Shows<E>> Histories<E, S> {
         ensures looks { IfOk result (λ r. (vec_len r.3 ≡ looks) × All (λ l. l ≡ fresh_look r.0) r.3.items) }
     {
         let (table, mut first) = Table::of_words(alloc, &[0; PLACES as usize * STRIDE], &())?;
-        let histories = Histories { table };
-        let looks = histories.looks(alloc, &mut first, looks)?;
-        let fronts = histories.fronts(alloc, &mut first, workers)?;
-        let pens = histories.pens(alloc, first, workers)?;
-        Ok((histories, pens, fronts, looks))
-    }
-
-    #[tactic(auto, using(crate::proofs::Keeping::onlooks))]
-    fn next_look(&self, first: &mut Seat<(), View<E>>) -> Look<E>
-        requires { (first.old.table_id ≡ self.now) × (first.old.me.0 ≡ view_from 0 0) }
-        ensures same { (first.new.table_id ≡ self.now) × (first.new.me.0 ≡ view_from 0 0) }
-        ensures look { result ≡ fresh_look self.now }
-    {
-        Look {
-            seat: self.table.shared.split_seat::<Onlooker>(first),
+        let mut lookers = Vec::with_capacity(alloc, usize::from(looks))?;
+        for _ in 0..looks {
+            let seat = table.shared.split_seat::<Onlooker>(&mut first);
+            lookers.push(Look { seat })?;
         }
-    }
-
-    fn looks(
-        &self,
-        alloc: Global,
-        first: &mut Seat<(), View<E>>,
-        count: u8,
-    ) -> Result<Vec<Look<E>>, AllocError>
-        requires { (first.old.table_id ≡ self.now) × (first.old.me.0 ≡ view_from 0 0) }
-        ensures same { IfOk result (λ _. (first.new.table_id ≡ self.now) × (first.new.me.0 ≡ view_from 0 0)) }
-        ensures looks { IfOk result (λ v. (vec_len v ≡ count) × All (λ l. l ≡ fresh_look self.now) v.items) }
-    {
-        let mut looks = Vec::with_capacity(alloc, usize::from(count))?;
-        for _ in 0..count {
-            looks.push(self.next_look(first))?;
-        }
-        Ok(looks)
-    }
-
-    // The first seat has the workers from the number on.
-    #[tactic(auto, using(crate::proofs::Keeping::worker_splits))]
-    fn next_front(&self, first: &mut Seat<(), View<E>>, number: u8) -> Front<E>
-        requires { (first.old.table_id ≡ self.now) × (first.old.me.0 ≡ view_from 0 number) }
-        ensures same { (first.new.table_id ≡ self.now) × (first.new.me.0 ≡ view_from 0 (number + 1)) }
-        ensures front { result ≡ fresh_front self.now number }
-    {
-        let seat = self.table.shared.split_seat::<FirstWorker>(first);
-        Front {
-            badge: seat.into_badge(),
-        }
-    }
-
-    fn fronts(
-        &self,
-        alloc: Global,
-        first: &mut Seat<(), View<E>>,
-        workers: u8,
-    ) -> Result<Vec<Front<E>>, AllocError>
-        requires { (first.old.table_id ≡ self.now) × (first.old.me.0 ≡ view_from 0 0) }
-        ensures same { IfOk result (λ _. (first.new.table_id ≡ self.now) × (first.new.me.0 ≡ view_from 0 workers)) }
-        ensures fronts { IfOk result (λ v. (vec_len v ≡ workers) × ((k : ℕ) (d : FrontOf E) → k < workers → slice_index_or v.items k d ≡ fresh_front self.now k)) }
-    {
         let mut fronts = Vec::with_capacity(alloc, usize::from(workers))?;
         for number in 0..workers {
-            fronts.push(self.next_front(first, number))?;
+            let seat = table.shared.split_seat::<FirstWorker>(&mut first);
+            fronts.push(Front {
+                badge: seat.into_badge(),
+            })?;
         }
-        Ok(fronts)
-    }
-
-    // The first seat has the places from the number on, and the workers from another on.
-    #[tactic(auto, using(crate::proofs::Keeping::place_splits))]
-    fn next_pen(&self, first: &mut Seat<(), View<E>>, number: u8, workers: u8) -> Pen<E>
-        requires { (first.old.table_id ≡ self.now) × (first.old.me.0 ≡ view_from number workers) × (number < PLACES) }
-        ensures same { (first.new.table_id ≡ self.now) × (first.new.me.0 ≡ view_from (number + 1) workers) }
-        ensures pen { result ≡ fresh_pen self.now number }
-    {
-        Pen {
-            seat: self.table.shared.split_seat::<FirstPlace>(first),
-            number,
-        }
-    }
-
-    fn pens(
-        &self,
-        alloc: Global,
-        mut first: Seat<(), View<E>>,
-        workers: u8,
-    ) -> Result<Vec<Pen<E>>, AllocError>
-        requires { (first.table_id ≡ self.now) × (first.me.0 ≡ view_from 0 workers) }
-        ensures { IfOk result (λ v. (vec_len v ≡ PLACES) × ((k : ℕ) (d : PenOf E) → k < PLACES → slice_index_or v.items k d ≡ fresh_pen self.now k)) }
-    {
         let mut pens = Vec::with_capacity(alloc, usize::from(PLACES))?;
-        for number in 0..PLACES {
-            pens.push(self.next_pen(&mut first, number, workers))?;
+        for place in 0..PLACES {
+            let seat = table.shared.split_seat::<FirstPlace>(&mut first);
+            pens.push(Pen {
+                seat,
+                number: place,
+            })?;
         }
-        Ok(pens)
+        Ok((Histories { table }, pens, fronts, lookers))
     }
 
     // The worker adds these calls, and sees the place's history to its end. The place's word becomes this one, or
@@ -221,6 +149,7 @@ impl<E, S: Shows<E>> Histories<E, S> {
     }
 
     /// Shows that what the look has seen of the pen's place is a beginning of the place's one history.
+    #[tactic(auto, using(crate::proofs::Keeping::onlooks, crate::proofs::Keeping::joins))]
     pub fn compare_look(&self, pen: &mut Pen<E>, look: &mut Look<E>)
         requires { (pen.old.table ≡ self.now) × (look.old.table ≡ self.now) }
         ensures same { (pen.new ≡ pen.old) × (look.new ≡ look.old) }
@@ -229,6 +158,6 @@ impl<E, S: Shows<E>> Histories<E, S> {
         let shared = &self.table.shared;
         let seen = shared.split_seat::<Onlooker>(&mut look.seat);
         shared.join_seat::<TakesIn>(&mut pen.seat, seen);
-        shared.load::<Compares>(&mut pen.seat, word_at(pen.number));
+        shared.load::<Looks<S>>(&mut pen.seat, word_at(pen.number));
     }
 }

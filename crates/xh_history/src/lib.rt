@@ -2,16 +2,12 @@
 //! proofs alone, and is made of no bytes; but one word a place shows its last call to those who look without a lock.
 #![tactic(auto)]
 
-mod front;
 mod histories;
-mod look;
-mod pen;
+mod seats;
 mod steps;
 mod view;
 
-pub use front::Front;
 pub use histories::Histories;
-pub use look::Look;
-pub use pen::Pen;
+pub use seats::{Front, Look, Pen};
 pub use steps::{Nothing, Shows};
 pub use view::View;

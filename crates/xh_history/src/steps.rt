@@ -108,12 +108,3 @@ impl<E, S: Shows<E>> Play<(), View<E>> for Looks<S> {
 
     ghost then = { Looked S.shows };
 }
-
-/// Nothing changes. What was taken in is a beginning of the history.
-pub struct Compares;
-
-impl<E> Play<(), View<E>> for Compares {
-    ghost use Rattle.xh_history.specs.inner.Views.{Compared};
-
-    ghost then = { Compared };
-}

@@ -1,8 +1,7 @@
 -- What came back of the tallies that an account lent.
-use Rattle.xh_kernel.proofs.Common.{AccountOf, Err, FrontOf, HasGivenBack, IfErr, List, MatchResult, Ok, OnOk, PartsOf, Result, TallyOf, VaultOf, ap, arith, back_of, but_back, length, refl, subst}
-use Rattle.xh_kernel.proofs.Common.{ℕ, ◌+◌, ◌-◌, ◌<◌, ◌∙◌, ◌≡◌}
+use Rattle.xh_kernel.proofs.Common.{AccountOf, Err, FrontOf, HasGivenBack, IfErr, List, MatchResult, Ok, OnOk, PartsOf, Refused, Result, TallyOf, VaultOf, ap, arith, back_of, but_back, length}
+use Rattle.xh_kernel.proofs.Common.{refl, subst, ℕ, ◌+◌, ◌-◌, ◌<◌, ◌∙◌, ◌≡◌}
 use Rattle.atomic_table.specs.Seated.{TableId}
-use Rattle.xh_core.specs.declared.refused.Refused.{Refused}
 use Rattle.xh_calls.specs.Vaults.{AsksVault}
 use Rattle.xh_place.proofs.Counted.{tallied}
 use Rattle.xh_place.specs.Tallies.{gave, ids_of}

@@ -12,7 +12,7 @@ pub use Rattle.xh_calls.specs.Parts.{IsOpen, PartsOf}
 pub use Rattle.xh_calls.specs.inner.Making.{IsBundle}
 pub use Rattle.xh_core.specs.declared.glance.Glance.{Glance}
 pub use Rattle.xh_core.specs.declared.refused.Refused.TheVariants.{Empty}
-pub use Rattle.xh_history.specs.Histories.{FrontOf, LookOf, PenOf, fresh_front, fresh_pen, last_of}
+pub use Rattle.xh_history.specs.Histories.{FrontOf, HasSeen, History, LookOf, PenOf, Shown, StartsWith, at, fresh_front, fresh_pen, last_of}
 pub use Rattle.xh_calls.specs.Leading.{Leading}
 pub use Rattle.xh_calls.specs.Places.{status_at}
 pub use Rattle.xh_calls.specs.Several.{TakesAny}
@@ -20,16 +20,23 @@ pub use Rattle.xh_place.proofs.Seeing.{starts_same}
 pub use Rattle.xh_kernel.specs.Accounts.{AccountOf, AreFresh, IsUnmoved, seen_of}
 pub use Rattle.xh_kernel.specs.Calls.{Calls, Noted, Steps}
 pub use Rattle.xh_kernel.specs.Finished.{AreInOrder, AreSeen, LookHasSeen, histories_of, tallies_of}
-pub use Rattle.xh_kernel.specs.Histories.{Does, Goes, IsHistoryOf, IsLaw, IsUnowned, Leads, LeadsTo}
+pub use Rattle.xh_kernel.specs.Histories.{Does, Goes, IsHistoryOf, IsLaw, IsUnowned, Leads, LeadsToPlace}
 pub use Rattle.xh_kernel.specs.Kept.{AreKept, IsKept}
 pub use Rattle.xh_kernel.specs.Places.{IsFound, last_glance, places_of}
-pub use Rattle.xh_kernel.specs.Waits.{Repeats}
+pub use Rattle.xh_kernel.specs.Waits.{Repeats, no_room}
 pub use Rattle.xh_calls.specs.declared.call.Call.{Call}
 pub use Rattle.xh_calls.specs.declared.call.Entry.{Entry}
-pub use Rattle.xh_calls.specs.declared.call.Call.TheVariants.{Close, CloseAgain, Receive, Stop, Take, TakeAny}
+pub use Rattle.xh_calls.specs.declared.call.Call.TheVariants.{Close, CloseAgain, Give, Receive, Stop, Take, TakeAny}
 pub use Rattle.xh_kernel.specs.inner.Making.{IsFirstSeat}
 pub use Rattle.xh_model.specs.declared.limits.TheConstants.{END_BYTES, PLACES}
 pub use Rattle.xh_place.specs.Ending.{HasGivenBack, back_of, but_back}
-pub use Rattle.xh_place.specs.Messages.{TakesAt}
+pub use Rattle.xh_place.specs.Messages.{Gives, IsSpent, TakesAt}
 pub use Rattle.xh_place.specs.Places.{IsPlaceOf, glance_of, total_of}
-pub use Rattle.xh_place.specs.Seen.{PlaceSeen, Stays}
+pub use Rattle.xh_place.specs.Seen.{IsSamePlace, PlaceSeen, Stays}
+pub use Rattle.std.proofs.Math.Logic.{∥∥₁_elim, ∥∥₁_map}
+pub use Rattle.std.specs.Prelude.{Bool, MatchOption, None, Option, cond, option_map, unwrap_or}
+pub use Rattle.xh_core.specs.declared.refused.Refused.{Refused}
+pub use Rattle.xh_kernel.specs.Lends.{LendsAll, LendsAllMut}
+pub use Rattle.xh_model.specs.Words.{place_of}
+pub use borrow.Author.Count.{below_more}
+pub use borrow.Author.Rules.{lives}

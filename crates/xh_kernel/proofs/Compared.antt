@@ -1,8 +1,7 @@
 -- Comparing what workers have seen with the pens of the places, place by place and worker by worker.
-use Rattle.xh_kernel.proofs.Common.{AccountOf, All, AreInOrder, AreKept, Entry, IsKept, IsUnmoved, List, PartsOf, PenOf, PlaceSeen, [], ap, arith, get_or, get_or-map, get_or-set_other}
-use Rattle.xh_kernel.proofs.Common.{histories_of, length, map-set, refl, set, set-get_or, slice_set, subst, suc, sym, tallies_of, zero, ℕ, ◌+◌, ◌<◌, ◌∙◌, ◌∷◌, ◌≡◌, ◌≤◌}
-use borrow.Author.Count.{below_more}
-use Rattle.xh_history.specs.Histories.{HasSeen, History, at}
+use Rattle.xh_kernel.proofs.Common.{AccountOf, All, All-cons, AreInOrder, AreKept, Entry, HasSeen, History, IsKept, IsUnmoved, List, PartsOf, PenOf, PlaceSeen, [], ap, arith, at, below_more, get_or}
+use Rattle.xh_kernel.proofs.Common.{get_or-map, get_or-set_other, histories_of, length, map-set, refl, set, set-get_or, slice_set, subst, suc, sym, tallies_of, zero, ℕ, ◌+◌, ◌<◌, ◌∙◌, ◌∷◌, ◌≡◌}
+use Rattle.xh_kernel.proofs.Common.{◌≤◌}
 
 -- the pen is of these parts
 abbrev Own : PartsOf → PenOf Entry → Type 0
@@ -42,15 +41,8 @@ same_tallies all k d a e =
 
 -- ---- the pens that locks kept
 
-module _ (parts : PartsOf) where
-  -- some pens, the place beside them, and where they stand
-  pub kept_at : (places : List PlaceSeen) (pens : List (PenOf Entry)) → AreKept parts places pens → (k : ℕ) → k < length pens
-      → (p : PlaceSeen) × (own : PenOf Entry) × IsKept parts p own × ((d : PenOf Entry) → get_or pens k d ≡ own)
-  kept_at [] [] kept k h = absurd (omega arith)
-  kept_at [] (own ∷ pens) kept k h = absurd kept
-  kept_at (p ∷ places) [] kept k h = absurd (omega arith)
-  kept_at (p ∷ places) (own ∷ pens) kept zero h = (p, own, kept.0, λ d. refl)
-  kept_at (p ∷ places) (own ∷ pens) kept (suc k) h = kept_at places pens kept.1 k (omega arith)
-
-  pub kept_own : (places : List PlaceSeen) (pens : List (PenOf Entry)) → AreKept parts places pens → All (Own parts) pens
-  kept_own places pens kept k d h = let at_k = kept_at places pens kept k h in subst (Own parts) (sym (at_k.3 d)) at_k.2.own
+pub kept_own : (parts : PartsOf) (places : List PlaceSeen) (pens : List (PenOf Entry)) → AreKept parts places pens → All (Own parts) pens
+kept_own parts [] [] kept = λ k d below. absurd (omega (arith, below))
+kept_own parts [] (own ∷ pens) kept = absurd kept
+kept_own parts (p ∷ places) [] kept = absurd kept
+kept_own parts (p ∷ places) (own ∷ pens) kept = All-cons (Own parts) own pens kept.0.own (kept_own parts places pens kept.1)

@@ -1,18 +1,8 @@
 -- The last call of a history, by its word; and what is kept of each place.
-use Rattle.xh_kernel.proofs.Common.{All, All-cons, AreKept, Entry, Glance, IsHistoryOf, IsKept, IsPlaceOf, IsUnowned, List, PartsOf, PenOf, PlaceSeen, Some, [], add-zero, ap, arith, fresh_pen}
-use Rattle.xh_kernel.proofs.Common.{last_glance, last_of, places_of, refl, starts_same, subst, sym, ℕ, ◌++◌, ◌∙◌, ◌∷◌, ◌≡◌}
-use Rattle.std.specs.Prelude.{MatchOption, None, Option, option_map, unwrap_or}
-use Rattle.xh_core.specs.declared.status.Status.TheVariants.{Vacant}
-use Rattle.xh_history.specs.Histories.{History, Shown}
+use Rattle.xh_kernel.proofs.Common.{All, All-cons, AreKept, Entry, History, IsHistoryOf, IsKept, IsPlaceOf, IsUnowned, List, Option, PartsOf, PenOf, PlaceSeen, [], ap, arith, fresh_pen}
+use Rattle.xh_kernel.proofs.Common.{last_glance, option_map, places_of, refl, starts_same, subst, sym, unwrap_or, ℕ, ◌++◌, ◌∷◌, ◌≡◌}
 use Rattle.xh_history.proofs.Keeping.{last_push}
-use Rattle.xh_kernel.specs.Words.{shows, unpacked, vacant}
-
--- what the word shows
-pub shown_last : (k : ℕ) (h : History Entry) (n : ℕ) → Shown shows k h n → last_glance k h ≡ unpacked k n
-shown_last k h n = go (last_of h) where
-  go : (o : Option (ℕ × Entry)) → MatchOption o (n ≡ 0) (λ c. shows k n c.1) → unwrap_or (option_map (λ c. c.1.glance) o) (vacant k) ≡ unpacked k n
-  go None none = (λ i. let g : Glance = record { process = sym (add-zero k) i; state = Vacant; blocks = 0; bytes = 0 } in g) ∙ ap (unpacked k) (sym none)
-  go (Some c) is = sym is
+use Rattle.xh_kernel.specs.Words.{shows, vacant}
 
 -- the last call's glance
 pub glance_push : (k : ℕ) (h : History Entry) (n : ℕ) (e : Entry) → last_glance k (h ++ (n, e) ∷ []) ≡ e.glance

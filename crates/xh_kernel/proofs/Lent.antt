@@ -1,31 +1,23 @@
 -- A block's bytes in the hands of a function: the entries that tell of it.
-use Rattle.xh_kernel.proofs.Common.{AccountOf, Call, Calls, Does, Entry, Err, IsHistoryOf, IsLaw, IsUnmoved, Leading, List, Noted, Ok, PartsOf, PlaceSeen, Result, Some, Steps, [], ap}
-use Rattle.xh_kernel.proofs.Common.{append-nil, arith, length, refl, subst, sym, ℕ, ◌++◌, ◌+◌, ◌∙◌, ◌∷◌, ◌≡◌, ◌≤◌}
-use Rattle.std.proofs.Math.Logic.{∥∥₁_elim, ∥∥₁_map}
+use Rattle.xh_kernel.proofs.Common.{AccountOf, Bool, Call, Calls, Does, Entry, Err, Glance, History, IsHistoryOf, IsLaw, IsSamePlace, IsUnmoved, Leading, LendsAll, LendsAllMut, List, None, Noted}
+use Rattle.xh_kernel.proofs.Common.{Ok, Option, PartsOf, PlaceSeen, Refused, Result, Some, Stays, Steps, [], ap, append-nil, arith, at, cond, drop, false, length, option_map, place_of, refl}
+use Rattle.xh_kernel.proofs.Common.{status_at, subst, sym, unwrap_or, ℕ, ∥∥₁_elim, ∥∥₁_map, ◌++◌, ◌+◌, ◌∙◌, ◌∷◌, ◌≡◌, ◌≤◌}
+use Rattle.xh_kernel.proofs.Recorded.{led}
 use Rattle.std.proofs.Common.{nat_lt}
 use Rattle.std.proofs.lemmas.Bool.Decides.{nat_tests}
 use Rattle.std.proofs.lemmas.List.{drop_all, take_all}
 use Rattle.std.specs.Borrow.{Bor, MutBor}
 use Rattle.std.specs.Fn.{CalledAt, CalledAtMut, Mut}
-use Rattle.std.specs.Prelude.{Bool, None, Option, cond, drop, false, option_map, unwrap_or}
-use Rattle.xh_calls.specs.Places.{status_at}
 use Rattle.xh_calls.specs.declared.call.Call.TheVariants.{Read, Write}
-use Rattle.xh_core.proofs.Firsts.{first_append, first_later}
 use Rattle.xh_core.specs.Calls.{range_tests, start}
 use Rattle.xh_core.specs.Refusing.{Tests, first_refusal}
-use Rattle.xh_core.specs.declared.glance.Glance.{Glance}
 use Rattle.xh_core.specs.declared.header.Header.{Header}
-use Rattle.xh_core.specs.declared.refused.Refused.{Refused}
 use Rattle.xh_core.specs.declared.refused.Refused.TheVariants.{BadRange}
-use Rattle.xh_history.specs.Histories.{History, at}
 use Rattle.xh_kernel.specs.Calls.{Moves}
-use Rattle.xh_kernel.specs.Lends.{LendsAll, LendsAllMut}
 use Rattle.xh_model.proofs.Keyed.{put_at}
 use Rattle.xh_model.specs.Keyed.{put, value_at}
-use Rattle.xh_model.specs.Words.{place_of}
 use Rattle.xh_place.specs.Bodies.{bytes, patched}
 use Rattle.xh_place.specs.Calls.{HasBytes, Lends, LendsMut, Reads, Writes, bytes_in, made_of}
-use Rattle.xh_place.specs.Seen.{IsSamePlace, Stays}
 use Rattle.xh_place.specs.Places.{Item, PlaceOf, found, header_of, with_blocks}
 
 -- the bytes of the block of a record; none of an endpoint, and none where there is no block
@@ -46,20 +38,13 @@ write_of p r place (Err why) = Read p r 0 [] (Err why)
 bytes_are : (r : ℕ) (p : PlaceOf) (xs : List ℕ) → HasBytes r p xs → bytes_at r p ≡ xs
 bytes_are r p xs has = ap (λ (o : Option Item). unwrap_or (option_map (λ x. bytes_in x.content) o) []) has
 
-none_first : (a b : Tests) → first_refusal (a ++ b) ≡ None → first_refusal a ≡ None
-none_first a b fine = go (first_refusal a) refl where
-  go : (o : Option Refused) → first_refusal a ≡ o → first_refusal a ≡ None
-  go None is = is
-  go (Some e) is = let more : first_refusal (a ++ b) ≡ Some e = first_append a b e is in absurd (cc)
-
 in_range : (n k : ℕ) → k ≤ n → nat_lt n (0 + k) ≡ false
 in_range n k le = grind (arith, nat_tests)
 
 passes : (tests : Tests) (xs : List ℕ) (n : ℕ) (o : Option Header) → o ≡ Some (header_of (made_of xs)) → n ≤ length xs → first_refusal (tests ++ range_tests o 0 0) ≡ None
     → first_refusal (tests ++ range_tests o 0 n) ≡ None
-passes tests xs n o is le fine =
-    first_later tests (range_tests o 0 n) (none_first tests (range_tests o 0 0) fine) ∙ ap (λ (z : Option Header). first_refusal (range_tests z 0 n)) is
-    ∙ ap (λ (b : Bool). cond b (Some BadRange) None) (in_range (length xs) n le)
+passes [] xs n o is le fine = ap (λ (z : Option Header). first_refusal (range_tests z 0 n)) is ∙ ap (λ (b : Bool). cond b (Some BadRange) None) (in_range (length xs) n le)
+passes (test ∷ tests) xs n o is le fine = let more = passes tests xs n o is le in grind (arith, nat_tests, more, fine)
 
 is_read : (p r : ℕ) (old new : PlaceSeen) (xs : List ℕ) → Stays old new → HasBytes r old.place xs → first_refusal (start (status_at p old.place) ++ range_tests (found old.place r) 0 0) ≡ None
     → Reads (status_at p old.place) r 0 xs old new (Ok tt)
@@ -121,70 +106,67 @@ module _ {F A : Type 0} (g : Mut F (MutBor (List ℕ) × Unit {0}) (A × (MutBor
       subst (λ (zs : List ℕ). Writes (status_at p old.place) r 0 zs old new (Ok tt)) left (is_write p r old new d.0 d.1 h.place d.2 d.4 h.lent.0 d.5)
   did_write (Err why) h = record { same = (h.refused, h.place.3); read = h.lent }
 
--- ---- one note, and what is so of the place before and after it
+-- ---- one entry, and what is so of the place before and after it
 
-pub as_noted : {k l m n : ℕ} {e : Call} {old fronts new : List (History Entry)} → k ≡ l → m ≡ n → old ≡ fronts → Noted k e m old new → Noted l e n fronts new
-as_noted {k} {l} {m} {n} {e} {old} {fronts} {new} place number seen noted =
-    let first : Noted k e m fronts new = subst (λ (fs : List (History Entry)). Noted k e m fs new) seen noted in
-    subst (λ (j : ℕ). Noted j e n fronts new) place (subst (λ (j : ℕ). Noted k e j fronts new) number first)
+pub record One (parts : PartsOf) (k : ℕ) (e : Call) (before after : History Entry) (old new : PlaceSeen) (from to : AccountOf) : Type 0 where
+  pub glance : Glance
+  pub noted : Noted k e from.number from.fronts to.fronts
+  pub unmoved : IsUnmoved from to
+  pub was : IsHistoryOf parts k before old
+  pub is : IsHistoryOf parts k after new
+  pub more : after ≡ before ++ (from.number, record { call = e; glance = glance }) ∷ []
+  pub whole : at to.fronts k ≡ after
 
-pub as_more : (before : History Entry) {after : History Entry} (x : Entry) {m n : ℕ} → m ≡ n → after ≡ before ++ (m, x) ∷ [] → after ≡ before ++ (n, x) ∷ []
-as_more before x number more = more ∙ ap (λ (j : ℕ). before ++ (j, x) ∷ []) number
+-- by what `note` tells of it, and of an account that was lent
+pub one : (parts : PartsOf) (old new : PlaceSeen) (to : AccountOf) (glance : Glance) {j k l m : ℕ} {e : Call} {before after : History Entry} {view from : AccountOf} → view ≡ from → m ≡ view.number
+    → j ≡ k → l ≡ j → Noted j e m view.fronts to.fronts → IsUnmoved view to → after ≡ before ++ (m, record { call = e; glance = glance }) ∷ [] → IsHistoryOf parts j before old
+    → IsHistoryOf parts l after new → at to.fronts j ≡ after → One parts k e before after old new from to
+one parts old new to glance {j} {k} {l} {m} {e} {before} {after} {view} {from} lent number place same noted unmoved more was is whole =
+    let mine : One parts j e before after old new view to = record {
+      glance = glance;
+      noted = subst (λ (n : ℕ). Noted j e n view.fronts to.fronts) number noted;
+      unmoved = unmoved;
+      was = was;
+      is = subst (λ (n : ℕ). IsHistoryOf parts n after new) same is;
+      more = more ∙ ap (λ (n : ℕ). before ++ (n, (let x : Entry = record { call = e; glance = glance } in x)) ∷ []) number;
+      whole = whole;
+    } in subst (λ (n : ℕ). One parts n e before after old new from to) place (subst (λ (a : AccountOf). One parts j e before after old new a to) lent mine)
 
 module _ (parts : PartsOf) (leads : Leading) (law : IsLaw parts leads) where
-  pub did : (k place : ℕ) → k ≡ place → (e : Call) (glance : Glance) (before after : History Entry) (old new : PlaceSeen) (from to : AccountOf) (R : PlaceSeen → PlaceSeen → Type 0)
-      → Noted k e from.number from.fronts to.fronts → Moves e from to → IsHistoryOf parts k before old → IsHistoryOf parts k after new
-      → after ≡ before ++ (from.number, record { call = e; glance = glance }) ∷ [] → at to.fronts k ≡ after → R old new → Calls leads place e R from to
-  did k place is e glance before after old new from to R noted moves was now more whole so =
-      let entry : ℕ × Entry = (from.number, record { call = e; glance = glance }) in
-      let steps : Steps leads k (at to.fronts k) R
-      = ∥∥₁_elim ((law k before old).0 was) squash₁ (λ a. ∥∥₁_map ((law k after new).0 now)
-      (λ b. (before, entry, old, new, whole ∙ more, a, subst (λ (h : History Entry). leads k h new) (sym whole) b, so))) in
-      subst (λ (j : ℕ). Calls leads j e R from to) is ((noted, moves), steps)
+  did : (k place : ℕ) → k ≡ place → (e : Call) {before after : History Entry} (old new : PlaceSeen) (from to : AccountOf) (R : PlaceSeen → PlaceSeen → Type 0)
+      → One parts k e before after old new from to → Moves e from to → R old new → Calls leads place e R from to
+  did k place is e {before} {after} old new from to R o moves so =
+      let led_is = led parts leads law k (from.number, record { call = e; glance = o.glance }) before after old new to.fronts R o.was o.is o.more o.whole so in
+      subst (λ (j : ℕ). Calls leads j e R from to) is ((o.noted, moves), led_is)
 
-  -- a note of the bytes that a function had
-  pub lends : {F A : Type 0} (g : Mut F (Bor (List ℕ) × Unit {0}) A) (p r k : ℕ) (f f' : F) (glance : Glance) (before after : History Entry) (old new : PlaceSeen) (from to : AccountOf)
-      (result : Result A Refused) → k ≡ place_of p → Lends g (status_at p old.place) r f f' old new result → Noted k (read_of p r new.place result) from.number from.fronts to.fronts
-      → IsUnmoved from to → IsHistoryOf parts k before old → IsHistoryOf parts k after new
-      → after ≡ before ++ (from.number, record { call = read_of p r new.place result; glance = glance }) ∷ [] → at to.fronts k ≡ after → LendsAll parts leads g p r f f' from to result
-  lends g p r k f f' glance before after old new from to (Ok a) is h noted unmoved was now more whole =
-      let xs : List ℕ = bytes_at r new.place in let e : Call = Read p r 0 xs (Ok tt) in let s = has_shown g parts p r f f' old new a h in (
-        xs,
-        did k (place_of p) is e glance before after old new from to (λ x y. Does parts e x y × HasBytes r y.place xs) noted unmoved was now more whole
-            (did_read g parts p r f f' old new (Ok a) h, s.0),
-        s.1,
-      )
-  lends g p r k f f' glance before after old new from to (Err why) is h noted unmoved was now more whole = (
-    did k (place_of p) is (Read p r 0 [] (Err why)) glance before after old new from to (Does parts (Read p r 0 [] (Err why))) noted unmoved was now more whole
-        (did_read g parts p r f f' old new (Err why) h),
-    h.uncalled,
-  )
+  -- of the bytes that a function had
+  pub lends : {F A : Type 0} (g : Mut F (Bor (List ℕ) × Unit {0}) A) (p r k : ℕ) (f f' : F) {before after : History Entry} (old new : PlaceSeen) (from to : AccountOf)
+      (result : Result A Refused) → k ≡ place_of p → Lends g (status_at p old.place) r f f' old new result → One parts k (read_of p r new.place result) before after old new from to
+      → LendsAll parts leads g p r f f' from to result
+  lends g p r k f f' old new from to (Ok a) is h o =
+      let xs : List ℕ = bytes_at r new.place in let e : Call = Read p r 0 xs (Ok tt) in let s = has_shown g parts p r f f' old new a h in
+      (xs, did k (place_of p) is e old new from to (λ x y. Does parts e x y × HasBytes r y.place xs) o o.unmoved (did_read g parts p r f f' old new (Ok a) h, s.0), s.1)
+  lends g p r k f f' old new from to (Err why) is h o =
+      let e : Call = Read p r 0 [] (Err why) in (did k (place_of p) is e old new from to (Does parts e) o o.unmoved (did_read g parts p r f f' old new (Err why) h), h.uncalled)
 
-  -- the same, and then a note of what one left
+  -- of the bytes that a function had, and of what one left
   pub lends_mut : {F G A : Type 0} (read : Mut G (Bor (List ℕ) × Unit {0}) (Unit {0})) (write : Mut F (MutBor (List ℕ) × Unit {0}) (A × (MutBor (List ℕ) × Unit {0}))) (p r k : ℕ)
-      (l l' : G) (f f' : F) (first second : Glance) (h0 h1 h2 : History Entry) (old was new : PlaceSeen) (from mid to : AccountOf) (answer : Result (Unit {0}) Refused)
-      (result : Result A Refused) → answer ≡ Ok tt → k ≡ place_of p
-      → Lends read (status_at p old.place) r l l' old was answer → LendsMut write (status_at p was.place) r f f' was new result
-      → Noted k (read_of p r was.place answer) from.number from.fronts mid.fronts → Noted k (write_of p r new.place result) mid.number mid.fronts to.fronts
-      → IsUnmoved from mid → IsUnmoved mid to → IsHistoryOf parts k h0 old → IsHistoryOf parts k h1 was → IsHistoryOf parts k h2 new
-      → h1 ≡ h0 ++ (from.number, record { call = read_of p r was.place answer; glance = first }) ∷ []
-      → h2 ≡ h1 ++ (mid.number, record { call = write_of p r new.place result; glance = second }) ∷ [] → at mid.fronts k ≡ h1 → at to.fronts k ≡ h2
-      → LendsAllMut parts leads write p r f f' from to result
-  lends_mut read write p r k l l' f f' first second h0 h1 h2 old was new from mid to (Ok x) (Ok a) so is had h noted also unmoved still led then there more most whole all =
+      (l l' : G) (f f' : F) {h0 h1 h2 : History Entry} (old was new : PlaceSeen) (from mid to : AccountOf) (answer : Result (Unit {0}) Refused) (result : Result A Refused)
+      → answer ≡ Ok tt → k ≡ place_of p → Lends read (status_at p old.place) r l l' old was answer → LendsMut write (status_at p was.place) r f f' was new result
+      → One parts k (read_of p r was.place answer) h0 h1 old was from mid → One parts k (write_of p r new.place result) h1 h2 was new mid to → LendsAllMut parts leads write p r f f' from to result
+  lends_mut read write p r k l l' f f' old was new from mid to (Ok x) (Ok a) so is had h first second =
       let xs : List ℕ = bytes_at r was.place in let ys : List ℕ = bytes_at r new.place in
       let one : Call = Read p r 0 xs (Ok tt) in let two : Call = Write p r 0 ys (Ok tt) in
       let s = has_shown read parts p r l l' old was x had in let w = has_changed write parts p r f f' was new a xs s.0 h in
-      let entry : ℕ × Entry = (mid.number, record { call = two; glance = second }) in (
+      let entry : ℕ × Entry = (mid.number, record { call = two; glance = second.glance }) in (
         mid,
         xs,
         ys,
-        did k (place_of p) is one first h0 h1 old was from mid (λ x y. Does parts one x y × HasBytes r y.place xs) noted unmoved led then more whole
-            (did_read read parts p r l l' old was (Ok x) had, s.0),
+        did k (place_of p) is one old was from mid (λ x y. Does parts one x y × HasBytes r y.place xs) first first.unmoved (did_read read parts p r l l' old was (Ok x) had, s.0),
         w.1,
-        did k (place_of p) is two second h1 h2 was new mid to (λ x y. Does parts two x y × HasBytes r y.place ys) also still then there most all
-            (did_write write parts p r f f' was new (Ok a) h, w.0),
-        (second, subst (λ (j : ℕ). at to.fronts j ≡ at mid.fronts j ++ entry ∷ []) is (all ∙ most ∙ ap (λ (x : History Entry). x ++ entry ∷ []) (sym whole))),
+        did k (place_of p) is two was new mid to (λ x y. Does parts two x y × HasBytes r y.place ys) second second.unmoved (did_write write parts p r f f' was new (Ok a) h, w.0),
+        (second.glance, subst (λ (j : ℕ). at to.fronts j ≡ at mid.fronts j ++ entry ∷ []) is (second.whole ∙ second.more ∙ ap (λ (x : History Entry). x ++ entry ∷ []) (sym first.whole))),
       )
-  lends_mut read write p r k l l' f f' first second h0 h1 h2 old was new from mid to (Ok x) (Err why) so is had h noted also unmoved still led then there more most whole all =
+  lends_mut read write p r k l l' f f' old was new from mid to (Ok x) (Err why) so is had h first second =
       let fails : Some why ≡ None = sym h.lent ∙ ap (λ (q : PlaceOf). first_refusal (start (status_at p q) ++ range_tests (found q r) 0 0)) had.same.0 ∙ had.lent.0 in absurd (cc)
-  lends_mut read write p r k l l' f f' first second h0 h1 h2 old was new from mid to (Err why) result so is had h noted also unmoved still led then there more most whole all = absurd (cc)
+  lends_mut read write p r k l l' f f' old was new from mid to (Err why) result so is had h first second = absurd (cc)

@@ -5,3 +5,4 @@ pub mod Last
 pub mod Recorded
 pub mod Lent
 pub mod Compared
+pub mod Calling

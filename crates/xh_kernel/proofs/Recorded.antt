@@ -1,8 +1,6 @@
 -- One more call of a history.
-use Rattle.xh_kernel.proofs.Common.{Call, Does, Entry, FrontOf, Goes, IsHistoryOf, IsLaw, Leading, Leads, List, Noted, PartsOf, PenOf, PlaceSeen, Stays, Steps, [], ap}
-use Rattle.xh_kernel.proofs.Common.{Glance, refl, slice_set, stays_again, stays_itself, subst, sym, ℕ, ◌++◌, ◌∙◌, ◌∷◌, ◌≡◌}
-use Rattle.std.proofs.Math.Logic.{∥∥₁_elim, ∥∥₁_map}
-use Rattle.xh_history.specs.Histories.{HasSeen, History, at}
+use Rattle.xh_kernel.proofs.Common.{Call, Does, Entry, FrontOf, Glance, Goes, HasSeen, History, IsHistoryOf, IsLaw, Leading, Leads, List, Noted, PartsOf, PenOf, PlaceSeen, Stays, Steps, [], ap}
+use Rattle.xh_kernel.proofs.Common.{at, refl, slice_set, stays_again, stays_itself, subst, sym, ℕ, ∥∥₁_elim, ∥∥₁_map, ◌++◌, ◌∙◌, ◌∷◌, ◌≡◌}
 
 -- the same of the place, by its number
 pub stepped : (leads : Leading) (k place : ℕ) (fronts : List (History Entry)) (R : PlaceSeen → PlaceSeen → Type 0) → k ≡ place → Steps leads k (at fronts k) R → Steps leads place (at fronts place) R
@@ -44,3 +42,10 @@ module _ (parts : PartsOf) where
         subst (λ (h : History Entry). Steps leads k h (Does parts e)) (sym last)
             (∥∥₁_elim before squash₁ (λ a. ∥∥₁_map then (λ b. (pen.history, entry, from, new, refl, a, b, goes.does)))),
       )
+
+  -- from what a history led to before its last call, to what it leads to after that; whatever is true of these
+  pub led : (leads : Leading) → IsLaw parts leads → (k : ℕ) (x : ℕ × Entry) (before after : History Entry) (old new : PlaceSeen) (fronts : List (History Entry)) (R : PlaceSeen → PlaceSeen → Type 0)
+      → IsHistoryOf parts k before old → IsHistoryOf parts k after new → after ≡ before ++ x ∷ [] → at fronts k ≡ after → R old new → Steps leads k (at fronts k) R
+  led leads law k x before after old new fronts R was now more whole so =
+      ∥∥₁_elim ((law k before old).0 was) squash₁ (λ a. ∥∥₁_map ((law k after new).0 now)
+      (λ b. (before, x, old, new, whole ∙ more, a, subst (λ (h : History Entry). leads k h new) (sym whole) b, so)))

@@ -66,19 +66,15 @@ pub record IsUnowned (parts : PartsOf) (k : ℕ) (p : PlaceOf) : Type 0 where
   pub blocks : p.blocks ≡ []
 
 -- the law of histories: the calls of the place k lead to the place from the one that nobody has had, each by what such a call does and answers
-abbrev pub LeadsTo : PartsOf → Leading
-LeadsTo parts k h place = (first : PlaceSeen) × IsUnowned parts k first.place × Leads parts first h place
+abbrev pub LeadsToPlace : PartsOf → Leading
+LeadsToPlace parts k h place = (first : PlaceSeen) × IsUnowned parts k first.place × Leads parts first h place
 
 abbrev pub IsHistoryOf : PartsOf → Leading
-IsHistoryOf parts k h place = ∥ LeadsTo parts k h place ∥₁
+IsHistoryOf parts k h place = ∥ LeadsToPlace parts k h place ∥₁
 
 -- histories lead where the law says, and nowhere else
 abbrev pub IsLaw : PartsOf → Leading → Type 0
 IsLaw parts leads = (k : ℕ) (h : History Entry) (place : PlaceSeen) → (IsHistoryOf parts k h place → ∥ leads k h place ∥₁) × (∥ leads k h place ∥₁ → IsHistoryOf parts k h place)
-
--- it is a history of the place k, or the beginning of one
-abbrev pub IsLawfulHistory : PartsOf → ℕ → History Entry → Type 0
-IsLawfulHistory parts k h = ∥ ((place : PlaceSeen) × LeadsTo parts k h place) ∥₁
 
 -- ---- a call, by its own line of the table above
 

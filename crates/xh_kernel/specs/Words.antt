@@ -7,12 +7,6 @@ use Rattle.xh_core.specs.declared.glance.Glance.{Glance}
 use Rattle.xh_model.specs.declared.limits.TheConstants.{PLACES}
 use Rattle.xh_kernel.specs.declared.words.TheConstants.{BLOCKS, BYTES, GENERATION, BLOCK_COUNTS, BYTE_SUMS, GENERATIONS}
 
-abbrev pub code_of : Status → ℕ
-code_of Vacant = 0
-code_of Running = 1
-code_of Ending = 2
-code_of Ended = 3
-
 abbrev pub state_of : ℕ → Status
 state_of zero = Vacant
 state_of (suc zero) = Running
@@ -23,11 +17,7 @@ state_of _ = Ended
 abbrev pub IsPackable : Glance → Type 0
 IsPackable g = (g.blocks < BLOCK_COUNTS) × (g.bytes < BYTE_SUMS)
 
--- a process's place is its number's remainder by the count of places, and its generation the quotient
-abbrev pub packed : Glance → ℕ
-packed g = code_of g.state + BLOCKS * g.blocks + BYTES * g.bytes + GENERATION * (g.process / PLACES)
-
--- what the word of a place tells
+-- what the word of a place tells: a process's place is its number's remainder by the count of places, and its generation the quotient
 abbrev pub unpacked : ℕ → ℕ → Glance
 unpacked p n = record {
   process = p + PLACES * ((n / GENERATION) % GENERATIONS);

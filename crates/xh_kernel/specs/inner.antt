@@ -1,4 +1,3 @@
--- What the making of a kernel and single looks go by. No exported call's promise needs it to be read.
+-- What the making of a kernel goes by. No exported call's promise needs it to be read.
 pub mod Making
-pub mod Looking
 pub mod Lawful

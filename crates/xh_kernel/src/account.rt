@@ -73,14 +73,7 @@ impl<N: Names> Account<N> {
         ensures items { result.items ≡ self.tallies }
         ensures names { ids_of result.items ≡ N.parts.records.shape.names }
     {
-        let Account {
-            number: _,
-            till,
-            front: _,
-            of: _,
-        } = self;
-        let Till { tallies, seen: _ } = till;
-        tallies
+        self.till.tallies
     }
 
     /// Shows that what the worker has seen of the pen's place is a beginning of the place's history, in which

@@ -110,10 +110,11 @@ pub(crate) fn compare<N: Names>(
     ensures seen { IfOk result (λ _. HaveSeen accounts.items looks.items pens.items) }
     ensures refused { IfErr result (λ e. e ≡ Refused.OutOfMemory) }
 {
-    if !are_in_order(pens.as_slice()) {
+    let all = pens.as_mut_slice();
+    if !are_in_order(all) {
         return Err(Refused::OutOfMemory);
     }
-    compare_accounts(histories, pens.as_mut_slice(), accounts.as_mut_slice());
-    compare_looks(histories, pens.as_mut_slice(), looks);
+    compare_accounts(histories, all, accounts.as_mut_slice());
+    compare_looks(histories, all, looks);
     Ok(accounts)
 }

@@ -34,13 +34,6 @@ impl<N: Names> Held<N> {
     pub(crate) fn into_parts(self) -> (Place, Pen<Entry>)
         ensures { IsKept N.parts result.0 result.1 }
     {
-        let Held {
-            place,
-            scribe,
-            waits: _,
-            of: _,
-        } = self;
-        let Scribe { pen, last: _ } = scribe;
-        (place, pen)
+        (self.place, self.scribe.pen)
     }
 }

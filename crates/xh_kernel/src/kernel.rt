@@ -24,8 +24,6 @@ mod blocks;
 mod channels;
 mod endings;
 mod messages;
-mod sending;
-mod waiting;
 
 use crate::account::Account;
 use crate::finishing::{Finished, compare};
@@ -85,7 +83,7 @@ fn lock_place<N: Names>(
     Ok(CachePadded::new(Mutex::new(Held {
         scribe: Scribe::new(pen, &place),
         place,
-        waits: Waits::nowhere(),
+        waits: Waits::default(),
         of: PhantomData,
     })))
 }
@@ -173,30 +171,18 @@ impl<N: Names> Kernel<N> {
         ensures looks { IfOk result (λ r. (vec_len r.2 ≡ parts.workers) × All (λ l. l ≡ fresh_look N.parts.histories) r.2.items) }
         ensures refused { IfErr result (λ e. e ≡ Refused.OutOfMemory) }
     {
-        let Parts {
-            vaults,
-            records,
-            seats,
-            channels,
-            bundles,
-            histories,
-            pens,
-            fronts,
-            looks,
-            vault_histories,
-            vault_pens,
-            seen,
-            config,
-        } = parts;
-        let places = lock_places(alloc, &records, seats, pens)?;
-        let accounts = name_accounts(alloc, bundles, fronts, seen)?;
+        let records = parts.records;
+        let places = lock_places(alloc, &records, parts.seats, parts.pens)?;
+        let accounts = name_accounts(alloc, parts.bundles, parts.fronts, parts.seen)?;
+        let (histories, pens) = (parts.vault_histories, parts.vault_pens);
         let heap = Heap {
             records,
-            channels,
-            arenas: Arenas::new(vaults, config.bytes, vault_histories, vault_pens),
+            channels: parts.channels,
+            arenas: Arenas::new(parts.vaults, parts.config.bytes, histories, pens),
         };
+        let histories = parts.histories;
         let shared = Shared { heap, histories };
-        Ok((Kernel { shared, places }, accounts, looks))
+        Ok((Kernel { shared, places }, accounts, parts.looks))
     }
 
     // What lies behind the lock of the process's place, which knows its number.
@@ -274,20 +260,14 @@ impl<N: Names> Kernel<N> {
         ensures tables { IfOk result (λ s. (s.records ≡ N.parts.records) × (s.histories ≡ N.parts.histories)) }
         ensures refused { IfErr result (λ e. e ≡ Refused.OutOfMemory) }
     {
-        let Kernel { shared, places } = self;
-        let Shared { heap, histories } = shared;
-        let Heap {
-            records,
-            channels: _,
-            arenas,
-        } = heap;
-        let vaults = arenas.into_vaults(alloc)?;
-        let (places, pens) = unlock_places(alloc, places)?;
+        let Shared { heap, histories } = self.shared;
+        let vaults = heap.arenas.into_vaults(alloc)?;
+        let (places, pens) = unlock_places(alloc, self.places)?;
         Ok(Settled {
             vaults,
             places,
             pens,
-            records,
+            records: heap.records,
             histories,
         })
     }
@@ -311,18 +291,12 @@ impl<N: Names> Kernel<N> {
         ensures refused { IfErr result (λ e. e ≡ Refused.OutOfMemory) }
     {
         let settled = self.settle(alloc)?;
-        let Settled {
-            vaults,
-            places,
-            pens,
-            records,
-            histories,
-        } = settled;
-        let accounts = compare(&histories, pens, accounts, looks)?;
+        let histories = settled.histories;
+        let accounts = compare(&histories, settled.pens, accounts, looks)?;
         Ok(Finished {
-            vaults,
-            places,
-            records,
+            vaults: settled.vaults,
+            places: settled.places,
+            records: settled.records,
             accounts,
         })
     }

@@ -8,7 +8,6 @@ mod kernel;
 mod looking;
 mod parts;
 mod scribe;
-mod sending;
 mod shared;
 mod words;
 

@@ -1,14 +1,18 @@
-//! Looks for a message, and where a process waits.
-ghost use Rattle.std.specs.Prelude.{◌≡◌, ◌<◌, IfErr, MatchOption, None};
+//! Looks for a message and for room, and where a process waits.
+ghost use Rattle.std.specs.Prelude.{◌≡◌, ◌≢◌, ◌<◌, [], Err, IfErr, MatchBool, MatchOption, None, false, true};
 ghost use Rattle.xh_calls.specs.Places.{status_at};
-ghost use Rattle.xh_place.specs.Messages.{TakesAt};
-ghost use Rattle.xh_core.specs.Calls.{start};
 ghost use Rattle.xh_calls.specs.Several.{TakesAny};
+ghost use Rattle.xh_calls.specs.declared.call.Call.TheVariants.{Give, Take, TakeAny};
+ghost use Rattle.xh_core.specs.Calls.{start};
+ghost use Rattle.xh_core.specs.Headers.{has_end};
 ghost use Rattle.xh_core.specs.Refusing.{first_refusal};
-ghost use Rattle.xh_calls.specs.declared.call.Call.TheVariants.{Take, TakeAny};
-ghost use Rattle.xh_kernel.specs.Calls.{Calls};
-ghost use Rattle.xh_kernel.specs.inner.Looking.{CanTake, LooksFor, Searches};
+ghost use Rattle.xh_history.specs.Histories.{at};
+ghost use Rattle.xh_kernel.specs.Calls.{Calls, Steps};
+ghost use Rattle.xh_kernel.specs.Waits.{IsLastGive, no_room};
+ghost use Rattle.xh_model.specs.Words.{place_of};
 ghost use Rattle.xh_model.specs.declared.limits.TheConstants.{PLACES};
+ghost use Rattle.xh_place.specs.Messages.{Gives, IsSpent, TakesAt};
+ghost use Rattle.xh_place.specs.Places.{found};
 
 use crate::account::Account;
 use crate::held::Held;
@@ -22,35 +26,10 @@ use xh_place::{Gate, Taken};
 
 /// Where the process of a place waits for a message, by the latest of its threads that waits so at one endpoint; and whether one
 /// waits at the bell of the place: for a message at several endpoints, or for room.
-#[derive(Drop)]
+#[derive(Drop, Default)]
 pub(crate) struct Waits {
     pub(crate) at: Option<Spot>,
     pub(crate) bell: bool,
-}
-
-impl Waits {
-    pub(crate) fn nowhere() -> Waits {
-        Waits {
-            at: None,
-            bell: false,
-        }
-    }
-}
-
-/// What a look for a message found: the answer, or that none waits yet, and where to wait for it, and
-/// the turn that was read there before the look.
-#[derive(Drop)]
-pub(crate) enum Look {
-    Done(Result<Taken, Refused>),
-    Later { spot: Spot, seen: u64 },
-}
-
-/// What a look at several endpoints found: the answer, or that no message waits yet, and the bell that
-/// was read before the look.
-#[derive(Drop)]
-pub(crate) enum Search {
-    Done(Result<Answered, Refused>),
-    Later { seen: u64 },
 }
 
 // The number of the bell that a process waits at: its place's.
@@ -58,6 +37,23 @@ pub(crate) fn bell_of(p: u16) -> u8
     ensures { result < PLACES }
 {
     (p % u16::from(PLACES)) as u8
+}
+
+// Whether no message waits.
+fn is_empty<A>(answer: &Result<A, Refused>) -> bool
+    ensures { MatchBool result (answer.now ≡ Err Refused.Empty) (IfErr answer.now (λ why. why ≢ Refused.Empty)) }
+{
+    matches!(answer, Err(Refused::Empty))
+}
+
+// Whether there was no room and all blocks came back.
+fn is_in_vain(answer: &Result<u64, Refused>, given: &[u16]) -> bool
+    ensures { MatchBool result (answer.now ≡ no_room given.now) (answer.now ≢ no_room given.now) }
+{
+    match answer {
+        Err(Refused::Full { back }) => back.as_slice() == given,
+        _ => false,
+    }
 }
 
 impl<N: Names> Held<N> {
@@ -71,10 +67,19 @@ impl<N: Names> Held<N> {
         if self.waits.bell {
             shared.heap.channels.ring(rt, bell_of(self.place.process()));
         }
-        self.waits = Waits::nowhere();
+        self.waits = Waits::default();
+    }
+
+    // The spot of the endpoint, if the process has it.
+    pub(crate) fn spot(&mut self, shared: &Shared<N>, e: u16) -> Option<Spot>
+        ensures same { (self.new.place.place ≡ self.old.place.place) × (self.new.scribe ≡ self.old.scribe) }
+        ensures none { MatchOption result (has_end (found self.old.place.place e) ≡ false) (λ _. Unit {0}) }
+    {
+        self.place.spot(&shared.heap.records, e)
     }
 
     // A message of the endpoint.
+    #[inline(always)]
     pub(crate) fn take<R: Wait, G: Gate>(
         &mut self,
         rt: &R,
@@ -84,8 +89,9 @@ impl<N: Names> Held<N> {
         account: &mut Account<N>,
         gate: &G,
     ) -> Result<Taken, Refused>
-        ensures call { Calls N.leads self.old.scribe.pen.number (Take p e result) (λ old new. TakesAt (status_at p old.place) e old new result) account.old account.new }
-        ensures empty { IfErr result (λ why. why ≡ Refused.Empty → CanTake p e self.old.place.place) }
+        requires { self.old.scribe.pen.number ≡ place_of p }
+        ensures call { Calls N.leads (place_of p) (Take p e result) (λ old new. TakesAt (status_at p old.place) e old new result) account.old account.new }
+        ensures empty { IfErr result (λ why. why ≡ Refused.Empty → (first_refusal (start (status_at p self.old.place.place)) ≡ None) × (has_end (found self.old.place.place e) ≡ true)) }
     {
         let answer = shared.heap.take(rt, &mut self.place, p, e, gate);
         self.scribe
@@ -93,18 +99,27 @@ impl<N: Names> Held<N> {
         answer
     }
 
-    // Where the process waits at the endpoint, if it runs and has it. It waits nowhere else. A process that
-    // has ended leaves what the place's next one wrote.
-    fn spot_of(&mut self, shared: &Shared<N>, p: u16, e: u16) -> Option<Spot>
+    // Where the process waits at the endpoint, if it runs and has it, and the turn there. A process that has ended leaves what
+    // the place's next one wrote.
+    fn turn_at<R: Wait>(
+        &mut self,
+        rt: &R,
+        shared: &Shared<N>,
+        p: u16,
+        e: u16,
+    ) -> Option<(Spot, u64)>
         ensures same { (self.new.place.place ≡ self.old.place.place) × (self.new.scribe ≡ self.old.scribe) }
-        ensures none { MatchOption result (CanTake p e self.old.place.place → ⊥) (λ _. Unit {0}) }
+        ensures none { MatchOption result ((first_refusal (start (status_at p self.old.place.place)) ≡ None) × (has_end (found self.old.place.place e) ≡ true) → ⊥) (λ _. Unit {0}) }
     {
         check_start(&self.place, p).ok()?;
         self.waits.at = None;
-        self.place.spot(&shared.heap.records, e)
+        let spot = self.spot(shared, e)?;
+        Some((spot, shared.heap.channels.turn(rt, spot)))
     }
 
-    // One look for a message.
+    // One look for a message. With one in vain goes where to wait, and the turn that was read there before it, so that a put, a
+    // shut and an end of the process that come after it raise the turn past what was read. Where the process waits then is
+    // written down, so that its end finds it.
     pub(crate) fn look_for<R: Wait, G: Gate>(
         &mut self,
         rt: &R,
@@ -113,38 +128,21 @@ impl<N: Names> Held<N> {
         e: u16,
         account: &mut Account<N>,
         gate: &G,
-    ) -> Look
-        ensures { LooksFor N.leads self.old.scribe.pen.number p e account.old account.new result }
+    ) -> (Result<Taken, Refused>, Option<(Spot, u64)>)
+        requires { self.old.scribe.pen.number ≡ place_of p }
+        ensures call { Calls N.leads (place_of p) (Take p e result.0) (λ old new. TakesAt (status_at p old.place) e old new result.0) account.old account.new }
+        ensures vain { MatchOption result.1 (IfErr result.0 (λ why. why ≢ Refused.Empty)) (λ _. result.0 ≡ Err Refused.Empty) }
     {
-        match self.spot_of(shared, p, e) {
-            Some(spot) => self.look_at(rt, shared, p, e, spot, account, gate),
-            None => Look::Done(self.take(rt, shared, p, e, account, gate)),
+        let turn = self.turn_at(rt, shared, p, e);
+        let answer = self.take(rt, shared, p, e, account, gate);
+        let Some((spot, seen)) = turn else {
+            return (answer, None);
+        };
+        if !is_empty(&answer) {
+            return (answer, None);
         }
-    }
-
-    // The same of an endpoint at the spot. The turn is read before the look, so that a put, a shut and an
-    // end of the process that come after it raise the turn past what was read; and where the process
-    // waits then is written down, so that its end finds it.
-    fn look_at<R: Wait, G: Gate>(
-        &mut self,
-        rt: &R,
-        shared: &Shared<N>,
-        p: u16,
-        e: u16,
-        spot: Spot,
-        account: &mut Account<N>,
-        gate: &G,
-    ) -> Look
-        ensures { LooksFor N.leads self.old.scribe.pen.number p e account.old account.new result }
-    {
-        let seen = shared.heap.channels.turn(rt, spot);
-        match self.take(rt, shared, p, e, account, gate) {
-            Err(Refused::Empty) => {
-                self.waits.at = Some(spot);
-                Look::Later { spot, seen }
-            }
-            answer => Look::Done(answer),
-        }
+        self.waits.at = Some(spot);
+        (answer, Some((spot, seen)))
     }
 
     // A message of the first of the endpoints that has one.
@@ -157,7 +155,8 @@ impl<N: Names> Held<N> {
         account: &mut Account<N>,
         gate: &G,
     ) -> Result<Answered, Refused>
-        ensures call { Calls N.leads self.old.scribe.pen.number (TakeAny p ends.now result) (λ old new. TakesAny p ends.now old new result) account.old account.new }
+        requires { self.old.scribe.pen.number ≡ place_of p }
+        ensures call { Calls N.leads (place_of p) (TakeAny p ends.now result) (λ old new. TakesAny p ends.now old new result) account.old account.new }
         ensures empty { IfErr result (λ why. why ≡ Refused.Empty → first_refusal (start (status_at p self.old.place.place)) ≡ None) }
     {
         let answer = shared.heap.take_any(rt, &mut self.place, p, ends, gate);
@@ -165,21 +164,27 @@ impl<N: Names> Held<N> {
         answer
     }
 
-    // The place listens at each of the endpoints.
-    fn listen<R: Wait>(&mut self, rt: &R, shared: &Shared<N>, p: u16, ends: &[u16])
-        ensures { (self.new.place.place ≡ self.old.place.place) × (self.new.scribe ≡ self.old.scribe) }
+    // The place listens at each of the endpoints; then the bell is read. Of no endpoints none is waited for, nor by a process
+    // that doesn't run.
+    fn listen<R: Wait>(&mut self, rt: &R, shared: &Shared<N>, p: u16, ends: &[u16]) -> Option<u64>
+        ensures same { (self.new.place.place ≡ self.old.place.place) × (self.new.scribe ≡ self.old.scribe) }
+        ensures none { MatchOption result (first_refusal (start (status_at p self.old.place.place)) ≡ None → ends.now ≡ []) (λ _. Unit {0}) }
     {
+        if ends.is_empty() {
+            return None;
+        }
+        check_start(&self.place, p).ok()?;
         let bell = bell_of(p);
         for e in ends {
-            if let Some(spot) = self.place.spot(&shared.heap.records, *e) {
+            if let Some(spot) = self.spot(shared, *e) {
                 shared.heap.channels.listen(rt, spot, bell);
             }
         }
+        Some(shared.heap.channels.bell(rt, bell))
     }
 
-    // One look at several endpoints. The place listens at each, and the bell is read, before it, so that a
-    // put, a shut and an end of the process that come after it ring the bell past what was read. Of no
-    // endpoints none is waited for, nor by a process that doesn't run.
+    // One look at several endpoints. With one in vain goes what the bell was before it, so that a put, a shut and an end of the
+    // process that come after it ring the bell past what was read.
     pub(crate) fn search<R: Wait, G: Gate>(
         &mut self,
         rt: &R,
@@ -188,20 +193,104 @@ impl<N: Names> Held<N> {
         ends: &[u16],
         account: &mut Account<N>,
         gate: &G,
-    ) -> Search
-        ensures { Searches N.leads self.old.scribe.pen.number p ends.now account.old account.new result }
+    ) -> (Result<Answered, Refused>, Option<u64>)
+        requires { self.old.scribe.pen.number ≡ place_of p }
+        ensures call { Calls N.leads (place_of p) (TakeAny p ends.now result.0) (λ old new. TakesAny p ends.now old new result.0) account.old account.new }
+        ensures vain { MatchOption result.1 (IfErr result.0 (λ why. why ≡ Refused.Empty → ends.now ≡ [])) (λ _. result.0 ≡ Err Refused.Empty) }
     {
-        if ends.is_empty() || check_start(&self.place, p).is_err() {
-            return Search::Done(self.take_any(rt, shared, p, ends, account, gate));
+        let bell = self.listen(rt, shared, p, ends);
+        let answer = self.take_any(rt, shared, p, ends, account, gate);
+        let Some(seen) = bell else {
+            return (answer, None);
+        };
+        if !is_empty(&answer) {
+            return (answer, None);
         }
-        self.listen(rt, shared, p, ends);
+        self.waits.bell = true;
+        (answer, Some(seen))
+    }
+
+    // Whether a give is to be tried again: there was no room, all blocks came back, and the endpoint hasn't sent its last message.
+    fn is_to_wait(
+        &mut self,
+        shared: &Shared<N>,
+        e: u16,
+        answer: &Result<u64, Refused>,
+        given: &[u16],
+    ) -> bool
+        ensures same { (self.new.place.place ≡ self.old.place.place) × (self.new.scribe ≡ self.old.scribe) }
+        ensures vain { result ≡ true → answer.now ≡ no_room given.now }
+        ensures spent { result ≡ false → answer.now ≡ no_room given.now → IsSpent e self.old.place.place }
+    {
+        if !is_in_vain(answer, given) {
+            return false;
+        }
+        !self.place.is_spent(&shared.heap.records, e)
+    }
+
+    // Blocks of the process, by the endpoint.
+    pub(crate) fn give<R: Wait, G: Gate>(
+        &mut self,
+        rt: &R,
+        shared: &Shared<N>,
+        p: u16,
+        e: u16,
+        tag: u16,
+        blocks: &[u16],
+        account: &mut Account<N>,
+        gate: &G,
+    ) -> Result<u64, Refused>
+        requires { self.old.scribe.pen.number ≡ place_of p }
+        ensures call { Calls N.leads (place_of p) (Give p e tag blocks.now result) (λ old new. Gives (status_at p old.place) e tag blocks.now old new result) account.old account.new }
+        ensures step { Steps N.leads (place_of p) (at account.new.fronts (place_of p)) (λ old new. Gives (status_at p old.place) e tag blocks.now old new result × (new ≡ self.new.place)) }
+    {
+        let heap = &shared.heap;
+        let answer = heap.give(rt, &mut self.place, p, e, tag, blocks, gate);
+        let about = (p, e, tag, blocks, &answer);
+        self.scribe
+            .note(shared, &self.place, &mut account.front, &about);
+        answer
+    }
+
+    // The place's bell as it is; where it asks, the next take of what the endpoint put rings it after that.
+    fn hear<R: Wait>(&mut self, rt: &R, shared: &Shared<N>, p: u16, e: u16, asks: bool) -> u64
+        ensures { (self.new.place.place ≡ self.old.place.place) × (self.new.scribe ≡ self.old.scribe) }
+    {
         let seen = shared.heap.channels.bell(rt, bell_of(p));
-        match self.take_any(rt, shared, p, ends, account, gate) {
-            Err(Refused::Empty) => {
-                self.waits.bell = true;
-                Search::Later { seen }
-            }
-            answer => Search::Done(answer),
+        if !asks {
+            return seen;
         }
+        if let Some(spot) = self.spot(shared, e) {
+            shared.heap.channels.await_room(rt, spot, bell_of(p));
+        }
+        seen
+    }
+
+    // One look for room. Where it asks, what the bell was is told of a look in vain: a take, a shut and an end of the process
+    // that come after the look ring it past that. Who waits here looks again after any other, as after `Kernel::give`.
+    pub(crate) fn send<R: Wait, G: Gate>(
+        &mut self,
+        rt: &R,
+        shared: &Shared<N>,
+        p: u16,
+        e: u16,
+        tag: u16,
+        blocks: &[u16],
+        asks: bool,
+        account: &mut Account<N>,
+        gate: &G,
+    ) -> (Result<u64, Refused>, Option<u64>)
+        requires { self.old.scribe.pen.number ≡ place_of p }
+        ensures call { Calls N.leads (place_of p) (Give p e tag blocks.now result.0) (λ old new. Gives (status_at p old.place) e tag blocks.now old new result.0) account.old account.new }
+        ensures vain { MatchOption result.1 (result.0 ≡ no_room blocks.now → IsLastGive N.leads p e tag blocks.now result.0 account.new) (λ _. result.0 ≡ no_room blocks.now) }
+    {
+        let bell = self.hear(rt, shared, p, e, asks);
+        let answer = self.give(rt, shared, p, e, tag, blocks, account, gate);
+        if !self.is_to_wait(shared, e, &answer, blocks) {
+            self.wake(rt, shared);
+            return (answer, None);
+        }
+        self.waits.bell = true;
+        (answer, Some(bell))
     }
 }

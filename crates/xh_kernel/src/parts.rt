@@ -6,7 +6,7 @@ use crate::words::Glances;
 use std::alloc::Global;
 use std::marker::Model;
 use xh_arena::Vault;
-use xh_calls::{Bundle, Entry, Makings, make_vaults};
+use xh_calls::{Bundle, Entry, make_vaults};
 use xh_channel::Channels;
 use xh_core::{Config, Refused};
 use xh_history::{Front, Histories, Nothing, Pen};
@@ -54,13 +54,8 @@ fn make_parts(alloc: Global, config: Config, workers: u8) -> Result<Parts, Refus
     ensures refused { IfErr result (λ e. e ≡ Refused.OutOfMemory) }
     ensures parts { IfOk result (AreMadeBy config workers) }
 {
-    let Makings {
-        vaults,
-        lots,
-        names,
-        bundles,
-    } = make_vaults(alloc, config, workers)?;
-    let made = Records::new(alloc, lots, names, config.records, PLACES);
+    let makings = make_vaults(alloc, config, workers)?;
+    let made = Records::new(alloc, makings.lots, makings.names, config.records, PLACES);
     let Ok((records, seats)) = made else {
         return Err(Refused::OutOfMemory);
     };
@@ -68,11 +63,11 @@ fn make_parts(alloc: Global, config: Config, workers: u8) -> Result<Parts, Refus
     let (histories, pens, fronts, looks) = Histories::new(alloc, workers, workers)?;
     let (vault_histories, vault_pens, seen, _looks) = Histories::new(alloc, workers, 0)?;
     Ok(Parts {
-        vaults,
+        vaults: makings.vaults,
         records,
         seats,
         channels,
-        bundles,
+        bundles: makings.bundles,
         histories,
         pens,
         fronts,

@@ -6,7 +6,7 @@ ghost use Rattle.xh_history.specs.Histories.{at};
 ghost use Rattle.xh_kernel.specs.Calls.{Noted, Steps};
 ghost use Rattle.xh_kernel.specs.Histories.{Does, IsHistoryOf};
 ghost use Rattle.xh_kernel.specs.Places.{IsSoundPlace, IsTold, last_glance};
-ghost use Rattle.xh_kernel.specs.Words.{IsPackable};
+ghost use Rattle.xh_kernel.specs.Words.{IsPackable, unpacked};
 ghost use Rattle.xh_model.specs.declared.limits.TheConstants.{GENERATIONS};
 ghost use Rattle.xh_model.specs.Words.{generation_of, place_of};
 ghost use Rattle.xh_place.specs.Places.{AreBlocks, IsPlaceOf, glance_of};
@@ -20,12 +20,12 @@ use xh_core::Glance;
 use xh_history::{Front, Pen};
 use xh_place::Place;
 
-/// The pen of a place's history, and what the place was after the last call.
+/// The pen of a place's history, and the word that tells what the place was after the last call.
 #[derive(Drop)]
 pub(crate) struct Scribe {
     pub(crate) pen: Pen<Entry>,
-    pub(crate) last: Glance,
-    ghost told: { last_glance pen.number pen.history ≡ last },
+    pub(crate) last: u64,
+    ghost told: { last_glance pen.number pen.history ≡ unpacked pen.number last },
 }
 
 // How many blocks a place has.
@@ -53,16 +53,6 @@ fn shown(place: &Place) -> Glance
     }
 }
 
-// Whether two looks saw the same.
-fn is_same(one: Glance, other: Glance) -> bool
-    ensures { (result ≡ true) ↔ (one ≡ other) }
-{
-    one.process == other.process
-        && one.state == other.state
-        && one.blocks == other.blocks
-        && one.bytes == other.bytes
-}
-
 impl Scribe {
     // The pen of a history of which the last glance is what the place is.
     pub(crate) fn new(pen: Pen<Entry>, place: &Place) -> Scribe
@@ -71,7 +61,7 @@ impl Scribe {
         ensures same { result.pen ≡ pen }
         ensures lawful { IsSoundPlace place.now.place }
     {
-        let last = shown(place);
+        let last = pack(shown(place));
         Scribe { pen, last }
     }
 
@@ -102,14 +92,43 @@ impl Scribe {
         ensures step { Steps N.leads self.old.pen.number (at front.new.fronts self.old.pen.number) (Does N.parts call) }
     {
         let glance = shown(place);
-        let word = if is_same(glance, self.last) {
-            None
-        } else {
-            Some(pack(glance))
-        };
+        let word = pack(glance);
+        let shows = if word == self.last { None } else { Some(word) };
         shared
             .histories
-            .add(&mut self.pen, front, word, &(about, glance));
-        self.last = glance;
+            .add(&mut self.pen, front, shows, &(about, glance));
+        self.last = word;
+    }
+
+    // As `note`, of a call after which looks see what they saw: the word isn't made.
+    #[inline(always)]
+    pub(crate) fn note_same<N: Names, A>(
+        &mut self,
+        shared: &Shared<N>,
+        place: &Place,
+        front: &mut Front<Entry>,
+        about: &A,
+    )
+        ghost call: { Call }
+        requires pen { self.old.pen.table ≡ N.parts.histories }
+        requires front { (front.old.table ≡ N.parts.histories) × (front.old.number < N.parts.workers) }
+        requires place { IsPlaceOf N.parts.records place.now.place × (place_of place.now.place.process ≡ self.old.pen.number) × (generation_of place.now.place.process < GENERATIONS) }
+        requires does { (old : PlaceSeen) × (from : PlaceSeen) × IsHistoryOf N.parts self.old.pen.number self.old.pen.history old × Stays old from
+            × Does N.parts call from place.now × StartsWith place.now.front from.front }
+        requires same { IsTold place.now.place self.old.pen }
+        ensures pen { (self.new.pen.table ≡ N.parts.histories) × (self.new.pen.number ≡ self.old.pen.number) }
+        ensures told { IsTold place.now.place self.new.pen }
+        ensures lawful { IsSoundPlace place.now.place }
+        ensures history { IsHistoryOf N.parts self.new.pen.number self.new.pen.history place.now }
+        ensures one_more { self.new.pen.history ≡ self.old.pen.history ++ (front.old.number, record { call = call; glance = glance_of place.now.place }) ∷ [] }
+        ensures whole { at front.new.fronts self.old.pen.number ≡ self.new.pen.history }
+        ensures front { (front.new.table ≡ front.old.table) × (front.new.number ≡ front.old.number) }
+        ensures noted { Noted self.old.pen.number call front.old.number front.old.fronts front.new.fronts }
+        ensures step { Steps N.leads self.old.pen.number (at front.new.fronts self.old.pen.number) (Does N.parts call) }
+    {
+        let glance = shown(place);
+        shared
+            .histories
+            .add(&mut self.pen, front, None, &(about, glance));
     }
 }

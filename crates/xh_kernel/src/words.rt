@@ -2,7 +2,7 @@
 ghost use Rattle.std.specs.Prelude.{◌≡◌, ◌<◌};
 ghost use Rattle.xh_model.specs.declared.limits.TheConstants.{PLACES};
 ghost use Rattle.xh_model.specs.Words.{place_of};
-ghost use Rattle.xh_kernel.specs.Words.{IsPackable, packed, unpacked};
+ghost use Rattle.xh_kernel.specs.Words.{IsPackable, unpacked};
 
 use xh_calls::Entry;
 use xh_core::{Glance, Status};
@@ -45,8 +45,7 @@ impl Shows<Entry> for Glances {
 
 pub(crate) fn pack(glance: Glance) -> u64
     requires { IsPackable glance }
-    ensures word { result ≡ packed glance }
-    ensures shown { unpacked (place_of glance.process) result ≡ glance }
+    ensures { unpacked (place_of glance.process) result ≡ glance }
 {
     let state = match glance.state {
         Status::Vacant => 0,

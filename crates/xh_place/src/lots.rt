@@ -18,7 +18,7 @@ ghost use Rattle.xh_records.specs.Seats.{IsSeatOf, IsRecord, SawAt, did, with_lo
 ghost use Rattle.xh_records.specs.Showing.{IsLotOf, IsFull};
 ghost use Rattle.xh_model.specs.declared.event.Event.TheVariants.{Accept, Claim, Pass, Vacate};
 ghost use Rattle.xh_place.specs.inner.Answers.{reason_of};
-ghost use Rattle.xh_place.specs.declared.body.Body.TheVariants.{Nothing};
+ghost use Rattle.xh_place.specs.declared.body.Body.TheVariants.{Data, Nothing};
 ghost use Rattle.xh_core.specs.declared.header.Kind.TheVariants as kind;
 
 use crate::body::Body;
@@ -39,13 +39,13 @@ fn fill<R, V: Vaults, G>(
     seat: &mut Seat<Body>,
     r: u16,
     n: u32,
-    body: &mut Body,
+    buffer: Vec<u8>,
 ) -> Result<(), Refused>
     requires at { IsSeatAt V.names desk.old seat.old }
     requires held { (l : LotOf Body) × (value_at r seat.old.lots ≡ Some l) × (l.len ≡ 0) × IsRecord seat.old.shape r × IsLotOf seat.old.shape r l }
     requires size { (0 < n) × (n % UNIT ≡ 0) × (n ≤ V.extent desk.old.vaults.now) }
     ensures same { IsSameDesk V.names V.extent desk.old desk.new }
-    ensures seat { OnOk result ((l : LotOf Body) → value_at r seat.old.lots ≡ Some l → seat.new ≡ with_lots seat.old (put r (record l { len = n; body = body.old }) seat.old.lots)) }
+    ensures seat { OnOk result ((l : LotOf Body) → value_at r seat.old.lots ≡ Some l → seat.new ≡ with_lots seat.old (put r (record l { len = n; body = Data buffer }) seat.old.lots)) }
     ensures taken { OnOk result (desk.new.tallies.now ≡ took (r / MAX_RECORDS) n desk.old.tallies.now) }
     ensures refused { OnErr result ((seat.new ≡ seat.old) × (desk.new.tallies.now ≡ desk.old.tallies.now)) }
     ensures why { IfErr result (IsRefusedAt V.changes desk.old.vaults.now desk.new.vaults.now (r / MAX_RECORDS) n) }
@@ -53,6 +53,7 @@ fn fill<R, V: Vaults, G>(
     let arena = (r / MAX_RECORDS) as u8;
     let tally = &mut desk.tallies[usize::from(arena)];
     let vaults = &mut *desk.vaults;
+    let mut buffer = Some(buffer);
     desk.records.with_lot(
         seat,
         r,
@@ -61,13 +62,15 @@ fn fill<R, V: Vaults, G>(
             requires empty { lot.old.len ≡ 0 }
             requires size { (0 < n) × (n % UNIT ≡ 0) × (n ≤ V.extent vaults.now) }
             ensures same { (V.names vaults.exit.now ≡ V.names vaults.entry.now) × (V.extent vaults.exit.now ≡ V.extent vaults.entry.now) × (tally.exit.now.id ≡ tally.entry.now.id) }
-            ensures lot { OnOk result (lot.new ≡ record lot.old { len = n; body = body.entry.now }) }
+            ensures lot { OnOk result (IfSome buffer.entry (λ bytes. lot.new ≡ record lot.old { len = n; body = Data bytes })) }
             ensures tally { OnOk result (tally.exit.now ≡ record tally.entry.now { taken = tally.entry.now.taken + n }) }
             ensures refused { OnErr result ((lot.new ≡ lot.old) × (tally.exit.now ≡ tally.entry.now)) }
             ensures why { IfErr result (IsRefusedAt V.changes vaults.entry.now vaults.exit.now arena n) }
         {
             vaults.carve(arena, lot, tally, n)?;
-            *lot.body_mut() = mem::take(body);
+            if let Some(bytes) = buffer.take() {
+                *lot.body_mut() = Body::Data(bytes);
+            }
             Ok(())
         },
     )
@@ -160,9 +163,7 @@ pub(crate) fn make_block<R, V: Vaults, G: Gate>(
         desk.records.vacate(seat, r);
         return Err(Reason::OutOfMemory);
     };
-    let mut body = Body::Data(buffer);
-    let filled = fill(desk, seat, r, n, &mut body);
-    drop(body);
+    let filled = fill(desk, seat, r, n, buffer);
     let Err(refused) = filled else {
         return Ok(r);
     };

@@ -169,7 +169,7 @@ impl<B: Fits + Drop> Records<B> {
     // Takes a record that it finds free, and whose word is at this slot. The error is the word that it found, which isn't that of a free record. A look at a record that is taken costs
     // much less than a compare.
     #[inline(always)]
-    fn claim_at(&self, seat: &mut Seat<B>, slot: u16, number: u16) -> Result<(), u64>
+    fn claim_at(&self, seat: &mut Seat<B>, slot: usize, number: u16) -> Result<(), u64>
         requires own { IsSeatOf self.now seat.old }
         requires exists { IsRecord self.now.shape number }
         requires at { (slot ≡ index_of self.now.shape.records number) × (slot < self.now.table.words) × (slot < self.now.table.slots) }
@@ -201,7 +201,7 @@ impl<B: Fits + Drop> Records<B> {
         let start = self.slot_of(number_at(arena, 0));
         for index in 0..records {
             let number = number_at(arena, index);
-            match self.claim_at(seat, start + index, number) {
+            match self.claim_at(seat, usize::from(start) + usize::from(index), number) {
                 Ok(()) => return Ok(number),
                 Err(word) => seen.words.push(word),
             }
@@ -227,7 +227,7 @@ impl<B: Fits + Drop> Records<B> {
         let first = self.slot_of(number_at(arena, 0));
         for index in 0..records {
             let r = number_at(arena, index);
-            match self.claim_at(seat, first + index, r) {
+            match self.claim_at(seat, usize::from(first) + usize::from(index), r) {
                 Ok(()) => return Ok(r),
                 Err(_word) => (),
             }
@@ -272,14 +272,14 @@ impl<B: Fits + Drop> Records<B> {
 
     // The word at a slot, which is the record's.
     #[inline(always)]
-    fn word_at(&self, seat: &mut Seat<B>, slot: u16, number: u16) -> u64
+    fn word_at(&self, seat: &mut Seat<B>, slot: usize, number: u16) -> u64
         requires own { IsSeatOf self.now seat.old }
         requires exists { IsRecord self.now.shape number }
         requires at { (slot ≡ index_of self.now.shape.records number) × (slot < self.now.table.words) × (slot < self.now.table.slots) }
         ensures { HasSeen number result seat.old seat.new }
     {
         let board = &self.table.shared;
-        board.load::<Looks>(&mut seat.token, usize::from(slot))
+        board.load::<Looks>(&mut seat.token, slot)
     }
 
     /// A record's word at one moment, by any seat: `OwnerWord::decode` says what it means. It names the
@@ -289,7 +289,7 @@ impl<B: Fits + Drop> Records<B> {
         requires exists { IsRecord self.now.shape number }
         ensures { HasSeen number result seat.old seat.new }
     {
-        let slot = self.slot_of(number);
+        let slot = usize::from(self.slot_of(number));
         self.word_at(seat, slot, number)
     }
 

@@ -14,7 +14,7 @@ use Rattle.xh_session.specs.declared.report.Report.{Report}
 use Rattle.xh_session.specs.Reports.{told_text}
 
 -- there is one reply for each line of the script, in order, and for each place the name of the process that by these replies is its latest
-pub record Answers (script : Listing) (answers : List Answered) (names : List (List ℕ)) : Type 0 where
+pub record AnswersScript (script : Listing) (answers : List Answered) (names : List (List ℕ)) : Type 0 where
   pub lines : AreAnswersTo script.lines answers
   pub named : HasNames script.processes script.lines answers names
   pub count : length names ≡ PLACES
@@ -31,7 +31,7 @@ pub record IsLedgerOf (config : Config) (l : Ledger) (directions : List FlightLi
 pub record IsReportTold (flight : Bool) (config : Config) (script : Listing) (bytes : List ℕ) : Type 0 where
   pub report : Report
   pub run : HasRun config script report
-  pub answers : Answers script report.answers.items report.names.items
+  pub answers : AnswersScript script report.answers.items report.names.items
   pub ledger : IsLedgerOf config report.ledger report.flight.items
   pub text : bytes ≡ told_text flight report
 

@@ -1,12 +1,12 @@
 -- A run of a script by the workers of a kernel.
 use Rattle.std.specs.Prelude.{◌≡◌, List, All, length, map}
-use Rattle.xh_books.specs.Closing.{IsClosed}
+use Rattle.xh_books.specs.Closing.{AreClosed}
 use Rattle.xh_calls.specs.Leading.{Leading}
 use Rattle.xh_calls.specs.Parts.{AreMadeBy, PartsOf}
 use Rattle.xh_calls.specs.declared.call.Entry.{Entry}
 use Rattle.xh_history.specs.Histories.{LookOf, fresh_look}
 use Rattle.xh_kernel.specs.Accounts.{AccountOf, AreFresh}
-use Rattle.xh_kernel.specs.Histories.{LeadsTo}
+use Rattle.xh_kernel.specs.Histories.{LeadsToPlace}
 use Rattle.xh_model.specs.declared.config.Config.{Config}
 use Rattle.xh_model.specs.declared.limits.TheConstants.{MAX_WORKERS}
 use Rattle.xh_crew.specs.Plays.{ArePlayed}
@@ -43,8 +43,8 @@ pub record RanOn (parts : PartsOf) (leads : Leading) (config : Config) (script :
   pub accounts : List AccountOf
   pub looks : List (LookOf Entry)
   pub played : HasPlayed parts leads script report.answers.items accounts looks
-  pub closed : IsClosed parts accounts looks report.ledger report.flight.items
+  pub closed : AreClosed parts accounts looks report.ledger report.flight.items
 
 -- the same of a kernel of some parts, whose histories lead where the law says
 abbrev pub HasRun : Config → Listing → Report → Type 0
-HasRun config script report = (parts : PartsOf) × RanOn parts (LeadsTo parts) config script report
+HasRun config script report = (parts : PartsOf) × RanOn parts (LeadsToPlace parts) config script report

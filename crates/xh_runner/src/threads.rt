@@ -1,13 +1,13 @@
 //! A run of a script on threads, over a kernel that is made, used and settled here.
 ghost use Rattle.std.specs.Prelude.{◌≡◌, ◌⊎◌, All, Err, IfErr, IfOk, vec_len};
 ghost use Rattle.xh_calls.specs.Parts.{AreMadeBy};
-ghost use Rattle.xh_crew.specs.Stops.{Stops};
+ghost use Rattle.xh_crew.specs.Stops.{MayStop};
 ghost use Rattle.xh_history.specs.Histories.{fresh_look};
 ghost use Rattle.xh_kernel.specs.Accounts.{AreFresh};
 ghost use Rattle.xh_kernel.specs.Histories.{IsLaw};
 ghost use Rattle.xh_model.specs.Config.{IsConfig};
 ghost use Rattle.xh_model.specs.declared.limits.TheConstants.{MAX_WORKERS};
-ghost use Rattle.xh_runner.specs.Reports.{Answers, IsLedgerOf};
+ghost use Rattle.xh_runner.specs.Reports.{AnswersScript, IsLedgerOf};
 ghost use Rattle.xh_runner.specs.Runs.{HasPlayed, HasRun, RanOn};
 ghost use Rattle.xh_script.specs.Scripts.{listing_of};
 
@@ -41,10 +41,10 @@ fn run_script<N: Names + Send + Sync, R: Threads + Wait + Sync, G: Gate + Sync>(
     requires accounts { (vec_len accounts ≡ MAX_WORKERS) × AreFresh N.parts.records.shape.names accounts.items }
     requires looks { (vec_len looks ≡ MAX_WORKERS) × All (λ l. l ≡ fresh_look N.parts.histories) looks.items }
     ensures played { IfOk result (λ r. HasPlayed N.parts N.leads (listing_of script.now) r.0.0.items r.1.items r.2.items) }
-    ensures answers { IfOk result (λ r. Answers (listing_of script.now) r.0.0.items r.0.1.items) }
+    ensures answers { IfOk result (λ r. AnswersScript (listing_of script.now) r.0.0.items r.0.1.items) }
     ensures count { IfOk result (λ r. vec_len r.1 ≡ MAX_WORKERS) }
     ensures own { IfOk result (λ r. All (λ l. l.table ≡ N.parts.histories) r.2.items) }
-    ensures stopped { IfErr result (Stops G.always) }
+    ensures stopped { IfErr result (MayStop G.always) }
 {
     let workers = hire(rt, alloc, kernel, gate, accounts, looks)?;
     let Outcome {
@@ -69,9 +69,9 @@ fn run_named<N: Names + Send + Sync, R: Threads + Wait + Sync, G: Gate + Sync>(
     requires made { AreMadeBy config MAX_WORKERS parts }
     requires law { IsLaw N.parts N.leads }
     ensures run { IfOk result (RanOn N.parts N.leads config (listing_of script.now)) }
-    ensures answers { IfOk result (λ r. Answers (listing_of script.now) r.answers.items r.names.items) }
+    ensures answers { IfOk result (λ r. AnswersScript (listing_of script.now) r.answers.items r.names.items) }
     ensures ledger { IfOk result (λ r. IsLedgerOf config r.ledger r.flight.items) }
-    ensures stopped { IfErr result (Stops G.always) }
+    ensures stopped { IfErr result (MayStop G.always) }
 {
     let (kernel, accounts, looks) = match Kernel::<N>::new(alloc, parts) {
         Ok(made) => made,
@@ -103,10 +103,10 @@ pub fn run_threads<R: Threads + Wait + Sync, G: Gate + Sync>(
     gate: &G,
 ) -> Result<Report, Fault>
     ensures run { IfOk result (HasRun config (listing_of script.now)) }
-    ensures answers { IfOk result (λ r. Answers (listing_of script.now) r.answers.items r.names.items) }
+    ensures answers { IfOk result (λ r. AnswersScript (listing_of script.now) r.answers.items r.names.items) }
     ensures ledger { IfOk result (λ r. IsLedgerOf config r.ledger r.flight.items) }
     ensures config { ¬ IsConfig config → result ≡ Err Fault.BadConfig }
-    ensures refused { IfErr result (λ e. ((e ≡ Fault.BadConfig) × ¬ IsConfig config) ⊎ Stops G.always e) }
+    ensures refused { IfErr result (λ e. ((e ≡ Fault.BadConfig) × ¬ IsConfig config) ⊎ MayStop G.always e) }
 {
     if !config.is_in_limits() {
         return Err(Fault::BadConfig);

@@ -57,10 +57,7 @@ fn received(message: Taken) -> Received
 fn answered(taken: Result<Taken, Refused>) -> Result<Received, Refused>
     ensures { result ≡ gotten_answer taken }
 {
-    match taken {
-        Ok(message) => Ok(received(message)),
-        Err(refused) => Err(refused),
-    }
+    taken.map(received)
 }
 
 impl<'a, N: Names, R: Wait, G: Gate> Machine for Worker<'a, N, R, G> {
@@ -82,21 +79,16 @@ impl<'a, N: Names, R: Wait, G: Gate> Machine for Worker<'a, N, R, G> {
         arena: u32,
         contract: Option<&Contract>,
     ) -> Result<(Block, Block), Refused> {
+        let account = &mut self.account;
         match contract {
             Some(contract) => {
                 let contract = contract.copy();
-                self.kernel.open_with(
-                    self.rt,
-                    process,
-                    arena,
-                    contract,
-                    &mut self.account,
-                    self.gate,
-                )
+                self.kernel
+                    .open_with(self.rt, process, arena, contract, account, self.gate)
             }
             None => self
                 .kernel
-                .open(self.rt, process, arena, &mut self.account, self.gate),
+                .open(self.rt, process, arena, account, self.gate),
         }
     }
 
@@ -107,20 +99,15 @@ impl<'a, N: Names, R: Wait, G: Gate> Machine for Worker<'a, N, R, G> {
         arena: u32,
         contract: Option<&Contract>,
     ) -> Result<(Block, Block), Refused> {
+        let account = &mut self.account;
         match contract {
             Some(contract) => {
                 let contract = contract.copy();
-                self.kernel.wire_with(
-                    self.rt,
-                    process,
-                    other,
-                    arena,
-                    contract,
-                    &mut self.account,
-                    self.gate,
-                )
+                self.kernel.wire_with(self.rt, process, other, arena, contract, account, self.gate)
             }
-            None => self.kernel.wire(self.rt, process, other, arena, &mut self.account, self.gate),
+            None => self
+                .kernel
+                .wire(self.rt, process, other, arena, account, self.gate),
         }
     }
 
@@ -131,15 +118,9 @@ impl<'a, N: Names, R: Wait, G: Gate> Machine for Worker<'a, N, R, G> {
         bytes: u32,
         arena: u32,
     ) -> Result<Block, Refused> {
-        self.kernel.alloc(
-            self.rt,
-            alloc,
-            process,
-            bytes,
-            arena,
-            &mut self.account,
-            self.gate,
-        )
+        let account = &mut self.account;
+        self.kernel
+            .alloc(self.rt, alloc, process, bytes, arena, account, self.gate)
     }
 
     fn split(
@@ -149,39 +130,21 @@ impl<'a, N: Names, R: Wait, G: Gate> Machine for Worker<'a, N, R, G> {
         block: u16,
         at: u32,
     ) -> Result<(Block, Block), Refused> {
-        self.kernel.split(
-            self.rt,
-            alloc,
-            process,
-            block,
-            at,
-            &mut self.account,
-            self.gate,
-        )
+        let account = &mut self.account;
+        self.kernel
+            .split(self.rt, alloc, process, block, at, account, self.gate)
     }
 
     fn read(&mut self, process: u16, block: u16, at: u32, room: &mut [u8]) -> Result<(), Refused> {
-        self.kernel.read(
-            self.rt,
-            process,
-            block,
-            at,
-            room,
-            &mut self.account,
-            self.gate,
-        )
+        let account = &mut self.account;
+        self.kernel
+            .read(self.rt, process, block, at, room, account, self.gate)
     }
 
     fn write(&mut self, process: u16, block: u16, at: u32, bytes: &[u8]) -> Result<(), Refused> {
-        self.kernel.write(
-            self.rt,
-            process,
-            block,
-            at,
-            bytes,
-            &mut self.account,
-            self.gate,
-        )
+        let account = &mut self.account;
+        self.kernel
+            .write(self.rt, process, block, at, bytes, account, self.gate)
     }
 
     fn give(
@@ -191,15 +154,8 @@ impl<'a, N: Names, R: Wait, G: Gate> Machine for Worker<'a, N, R, G> {
         tag: u16,
         blocks: &[u16],
     ) -> Result<u64, Refused> {
-        self.kernel.give(
-            self.rt,
-            process,
-            endpoint,
-            tag,
-            blocks,
-            &mut self.account,
-            self.gate,
-        )
+        let account = &mut self.account;
+        self.kernel.give(self.rt, process, endpoint, tag, blocks, account, self.gate)
     }
 
     fn take(&mut self, process: u16, endpoint: u16, waits: bool) -> Result<Received, Refused> {
@@ -230,15 +186,10 @@ impl<'a, N: Names, R: Wait, G: Gate> Machine for Worker<'a, N, R, G> {
     }
 
     fn kill(&mut self, process: u16, victim: u16, budget: u32) -> Result<u64, Refused> {
+        let account = &mut self.account;
         let budget = budget.min(u32::from(MAX_BUDGET)) as u16;
-        self.kernel.kill(
-            self.rt,
-            process,
-            victim,
-            budget,
-            &mut self.account,
-            self.gate,
-        )
+        self.kernel
+            .kill(self.rt, process, victim, budget, account, self.gate)
     }
 
     fn glance(&mut self, place: u8) -> Result<Glance, Refused> {

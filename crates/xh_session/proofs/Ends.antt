@@ -4,7 +4,7 @@ use Rattle.xh_session.proofs.Common.{inner_of, length, new_world, refl, subst, s
 use Rattle.std.specs.Io.KnownBytes.{Consumes}
 use Rattle.std.proofs.Common.{IfErr, None, OnOk, [], append-nil, append_assoc, arith, inl, inr, length-append, ltb-false, nat_lt, ◌⊎◌}
 use Rattle.xh_model.specs.declared.config.Config.{Config}
-use Rattle.xh_script.specs.declared.fault.Fault.TheVariants.{BadConfig, Gate, Memory, Read, Script, Write}
+use Rattle.xh_script.specs.declared.fault.Fault.TheVariants.{Memory, Read, Script, Write}
 use Rattle.xh_script.specs.declared.fault.Kind.TheVariants.{TooLong}
 use Rattle.xh_script.specs.Scripts.{Fails, Listing, script_of}
 use Rattle.xh_script.proofs.Writings.{WritesOrFails-then}
@@ -55,10 +55,7 @@ module _ {R : Type 0} (remaining : R → Option (List ℕ)) where
       → Unread remaining config reader reader' e
   no_script config reader reader' text (Script n kind) reads h = (text, reads, h)
   no_script config reader reader' text Memory reads h = tt
-  no_script config reader reader' text Read reads h = absurd h
-  no_script config reader reader' text Write reads h = absurd h
-  no_script config reader reader' text Gate reads h = absurd h
-  no_script config reader reader' text BadConfig reads h = absurd h
+  no_script config reader reader' text e reads h = absurd h
 
 -- what is written, and then sent on its way
 pub flushed : {W : Type 0} (contents : W → Option (List ℕ)) (a b c : Watched W) (r : Result (Unit {0}) Fault) (x : List ℕ)
@@ -69,12 +66,8 @@ module _ {R W : Type 0} (remaining : R → Option (List ℕ)) (contents : W → 
   -- a fault before a script is there leaves nothing written
   pub unread_stops : (config : Config) (reader reader' : Watched R) (writer : Watched W) (e : Fault)
       → Unread remaining config reader reader' e → Stopped remaining contents IsFor config reader reader' writer writer e
-  unread_stops config reader reader' writer (Script n kind) h = (h, refl)
-  unread_stops config reader reader' writer Memory h = (h, refl)
-  unread_stops config reader reader' writer Read h = (h, refl)
   unread_stops config reader reader' writer Write h = absurd h
-  unread_stops config reader reader' writer Gate h = (h, refl)
-  unread_stops config reader reader' writer BadConfig h = (h, refl)
+  unread_stops config reader reader' writer e h = (h, refl)
 
   -- and so does want of memory
   pub memory_stops : (config : Config) (reader reader' : Watched R) (writer : Watched W) (e : Fault)

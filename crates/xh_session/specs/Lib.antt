@@ -1,12 +1,9 @@
 pub mod Reading
 pub mod Bindings
-pub mod Receiving
 pub mod Questions
 pub mod Plans
 pub mod Machines
 pub mod Meaning
-pub mod Worlds
 pub mod Output
 pub mod Reports
 pub mod Ends
-pub mod inner

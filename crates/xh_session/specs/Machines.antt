@@ -1,5 +1,5 @@
 -- What the serial machine answers.
-use Rattle.std.specs.Prelude.{◌≡◌, false, Err}
+use Rattle.std.specs.Prelude.{◌≡◌, false, map, Some, Ok, Err}
 use Rattle.xh_core.specs.declared.refused.Refused.TheVariants.{OutOfMemory}
 use Rattle.xh_serial.specs.Machine.{Machine}
 use Rattle.xh_serial.specs.PlaceCommands.{spawn, glance}
@@ -7,8 +7,19 @@ use Rattle.xh_serial.specs.BlockCommands.{alloc, split, read, write, free}
 use Rattle.xh_serial.specs.ChannelCommands.{open_channel, wire_channel}
 use Rattle.xh_serial.specs.MessageCommands.{give, take}
 use Rattle.xh_serial.specs.EndingCommands.{close, exit, kill}
-use Rattle.xh_session.specs.Receiving.{receives}
+use Rattle.xh_serial.specs.declared.message.Taken.{Taken as Message}
+use Rattle.xh_serial.specs.Commands.{Answer as Answered}
+use Rattle.xh_session.specs.declared.received.Received.{Received}
 use Rattle.xh_session.specs.Questions.{Question, Answer, Spawn, Open, Wire, Alloc, Split, Read, Write, Give, Take, Free, Close, Exit, Kill, Glance}
+
+-- a message whose blocks are all there
+abbrev pub received : Message → Received
+received message = record { number = message.no; tag = message.tag; blocks = record { items = map (λ b. Some b) message.blocks.items } }
+
+-- what a take answers, with such a message
+abbrev pub receives : Answered Message → Answered Received
+receives (Ok message, m) = (Ok (received message), m)
+receives (Err refused, m) = (Err refused, m)
 
 -- the command of a question: its answer, and the machine after it
 abbrev pub command : (q : Question) → Machine → Answer q × Machine

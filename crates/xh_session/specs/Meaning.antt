@@ -1,5 +1,5 @@
 -- What a script means on the serial machine: the reply to each command, and what the machine holds at the end.
-use Rattle.std.specs.Prelude.{ℕ, List, [], ◌∷◌}
+use Rattle.std.specs.Prelude.{List, [], ◌∷◌}
 use Rattle.xh_model.specs.declared.config.Config.{Config}
 use Rattle.xh_model.specs.declared.row.Row.{Row}
 use Rattle.xh_serial.specs.Machine.{Machine}

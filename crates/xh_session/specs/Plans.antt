@@ -17,6 +17,7 @@ use Rattle.xh_script.specs.declared.replies.Reply.TheVariants.{Started, Bytes, T
 use Rattle.xh_script.specs.Texts.{done}
 use Rattle.xh_script.specs.Operands.{name, number, number_or, contract, bytes}
 use Rattle.xh_session.specs.declared.received.Received.{Received}
+use Rattle.xh_session.specs.declared.session.Session.{Session}
 use Rattle.xh_session.specs.Bindings.{Bindings, number_of, has_place, record_of, records_of, started, bound, bound_each, unbound, unbound_each, unbound_all, not_among}
 use Rattle.xh_session.specs.Questions.{Question, Answer}
 use Rattle.xh_session.specs.Questions as ask
@@ -31,6 +32,10 @@ pub record World (S : Type 0) : Type 0 where
   pub machine : S
   pub names : Bindings
   pub contracts : List (List Row)
+
+-- the world of a session
+abbrev pub world_of : {M S : Type 0} → (M → S) → Session M → World S
+world_of state s = record { machine = state s.machine; names = s.names; contracts = s.contracts.now }
 
 -- where a machine does what it says at each question, a plan may come to this reply, and leave this world
 abbrev pub Follows : {S : Type 0} → (S → (q : Question) → Answer q → S → Type 0) → Plan → World S → Reply → World S → Type 0
@@ -83,80 +88,51 @@ renewed names p n = unbound_all (started names p n) p
 
 -- ---- each command
 
-abbrev pub process_plan : Bindings → ℕ → Plan
-process_plan b p = if has_place b p then says (No Twice) b else asks ask.Spawn (replied Started (λ n. started b p n) b)
+-- the process that a word names, by its number, and the record of a block of the line's process
+abbrev pub process_in : Bindings → List Word → ℕ → ℕ
+process_in b ws i = number_of b (name ws i)
 
-abbrev pub wire_plan : Bindings → List (List Row) → ℕ → ℕ → ℕ → ℕ → ℕ → Option ℕ → Plan
-wire_plan b contracts p e q f a k = asks (ask.Wire (number_of b p) (number_of b q) a (contract_at contracts k)) (replied (λ _. done []) (λ ends. with_ends b p e q f ends) b)
-
-abbrev pub open_plan : Bindings → List (List Row) → ℕ → ℕ → ℕ → ℕ → Option ℕ → Plan
-open_plan b contracts p e f a k = asks (ask.Open (number_of b p) a (contract_at contracts k)) (replied (λ _. done []) (λ ends. with_ends b p e p f ends) b)
-
-abbrev pub alloc_plan : Bindings → ℕ → ℕ → ℕ → ℕ → Plan
-alloc_plan b p x n a = asks (ask.Alloc (number_of b p) n a) (replied (λ k. done (k.len ∷ [])) (λ k. bound b p x k.rec) b)
-
-abbrev pub split_plan : Bindings → ℕ → ℕ → ℕ → ℕ → Plan
-split_plan b p x at t = asks (ask.Split (number_of b p) (record_of b p x) at) (replied (λ parts. done (parts.0.len ∷ parts.1.len ∷ [])) (λ parts. bound b p t parts.1.rec) b)
-
--- a line reads at most so many bytes
-abbrev pub read_plan : Bindings → ℕ → ℕ → ℕ → ℕ → Plan
-read_plan b p x at n = asks (ask.Read (number_of b p) (record_of b p x) at (min n MAX_LEN)) (replied (λ bytes. Bytes (record { items = bytes })) (λ _. b) b)
-
-abbrev pub write_plan : Bindings → ℕ → ℕ → ℕ → List ℕ → Plan
-write_plan b p x at bytes = asks (ask.Write (number_of b p) (record_of b p x) at bytes) (replied (λ _. done []) (λ _. b) b)
+abbrev pub record_in : Bindings → List Word → ℕ → ℕ
+record_in b ws i = record_of b (name ws 0) (name ws i)
 
 -- a tag is at most so great
-abbrev pub give_plan : Bindings → ℕ → ℕ → ℕ → List (Word) → Plan
+abbrev pub give_plan : Bindings → ℕ → ℕ → ℕ → List Word → Plan
 give_plan b p e tag xs = asks (ask.Give (number_of b p) (record_of b p e) (min tag MAX_TAG) (records_of b p xs)) (given b p (records_of b p xs))
 
-abbrev pub take_plan : Bool → Bindings → ℕ → ℕ → List (Word) → Plan
-take_plan waits b p e xs = asks (ask.Take (number_of b p) (record_of b p e) waits) (replied taken (λ message. bound_each b p xs message.blocks.items) b)
-
-abbrev pub free_plan : Bindings → ℕ → ℕ → Plan
-free_plan b p x = asks (ask.Free (number_of b p) (record_of b p x)) (replied (λ n. done (n ∷ [])) (λ _. unbound b p (record_of b p x)) b)
-
-abbrev pub close_plan : Bindings → ℕ → ℕ → Plan
-close_plan b p e = asks (ask.Close (number_of b p) (record_of b p e)) (replied (λ n. done (n ∷ [])) (λ _. unbound b p (record_of b p e)) b)
-
-abbrev pub exit_plan : Bindings → ℕ → ℕ → Plan
-exit_plan b p budget = asks (ask.Exit (number_of b p) budget) (replied (λ n. done (n ∷ [])) (λ _. b) b)
-
-abbrev pub kill_plan : Bindings → ℕ → ℕ → ℕ → Plan
-kill_plan b p q budget = asks (ask.Kill (number_of b p) (number_of b q) budget) (replied (λ n. done (n ∷ [])) (λ _. b) b)
+abbrev pub take_plan : Bool → Bindings → List Word → Plan
+take_plan waits b ws = asks (ask.Take (process_in b ws 0) (record_in b ws 1) waits) (replied taken (λ message. bound_each b (name ws 0) (drop 2 ws) message.blocks.items) b)
 
 -- what a place shows, asked of the place of a process
 abbrev pub glance_at : ℕ → Question
 glance_at n = ask.Glance (n % PLACES)
 
-abbrev pub glance_plan : Bindings → ℕ → ℕ → Plan
-glance_plan b p q =
-    if not (has_place b p) || not (has_place b q) then says (No NoProcess) b
-    else asks (glance_at (number_of b q)) (λ a. replied (λ look. done (look.blocks ∷ look.bytes ∷ [])) (λ _. b) b (shown (number_of b q) a))
-
-abbrev pub again_plan : Bindings → ℕ → Plan
-again_plan b p =
-    if not (has_place b p) then says (No NoProcess) b
-    else asks (glance_at (number_of b p)) (λ a. if is_alive (shown (number_of b p) a) then says (No Twice) b else asks ask.Spawn (replied Started (λ n. renewed b p n) b))
-
--- what a command asks, and what follows; the words stand where the form's row of the table has them, and a sweep has the greatest budget where none is named
-unfoldable pub plan_by : Bindings → List (List Row) → Form → List (Word) → Plan
+-- what a command asks, and what follows; the words stand where the form's row of the table has them. A line reads at most so many bytes,
+-- and a sweep has the greatest budget where none is named
+unfoldable pub plan_by : Bindings → List (List Row) → Form → List Word → Plan
 plan_by b contracts Contract ws = says (done []) b
-plan_by b contracts Process ws = process_plan b (name ws 0)
-plan_by b contracts Wire ws = wire_plan b contracts (name ws 0) (name ws 1) (name ws 2) (name ws 3) (number ws 4) (contract ws 5)
-plan_by b contracts Open ws = open_plan b contracts (name ws 0) (name ws 1) (name ws 2) (number ws 3) (contract ws 4)
-plan_by b contracts Alloc ws = alloc_plan b (name ws 0) (name ws 1) (number ws 2) (number ws 3)
-plan_by b contracts Split ws = split_plan b (name ws 0) (name ws 1) (number ws 2) (name ws 3)
-plan_by b contracts Read ws = read_plan b (name ws 0) (name ws 1) (number ws 2) (number ws 3)
-plan_by b contracts Write ws = write_plan b (name ws 0) (name ws 1) (number ws 2) (bytes ws 3)
+plan_by b contracts Process ws = if has_place b (name ws 0) then says (No Twice) b else asks ask.Spawn (replied Started (λ n. started b (name ws 0) n) b)
+plan_by b contracts Wire ws = asks (ask.Wire (process_in b ws 0) (process_in b ws 2) (number ws 4) (contract_at contracts (contract ws 5)))
+    (replied (λ _. done []) (λ ends. with_ends b (name ws 0) (name ws 1) (name ws 2) (name ws 3) ends) b)
+plan_by b contracts Open ws = asks (ask.Open (process_in b ws 0) (number ws 3) (contract_at contracts (contract ws 4)))
+    (replied (λ _. done []) (λ ends. with_ends b (name ws 0) (name ws 1) (name ws 0) (name ws 2) ends) b)
+plan_by b contracts Alloc ws = asks (ask.Alloc (process_in b ws 0) (number ws 2) (number ws 3)) (replied (λ k. done (k.len ∷ [])) (λ k. bound b (name ws 0) (name ws 1) k.rec) b)
+plan_by b contracts Split ws = asks (ask.Split (process_in b ws 0) (record_in b ws 1) (number ws 2))
+    (replied (λ parts. done (parts.0.len ∷ parts.1.len ∷ [])) (λ parts. bound b (name ws 0) (name ws 3) parts.1.rec) b)
+plan_by b contracts Read ws = asks (ask.Read (process_in b ws 0) (record_in b ws 1) (number ws 2) (min (number ws 3) MAX_LEN)) (replied (λ bytes. Bytes (record { items = bytes })) (λ _. b) b)
+plan_by b contracts Write ws = asks (ask.Write (process_in b ws 0) (record_in b ws 1) (number ws 2) (bytes ws 3)) (replied (λ _. done []) (λ _. b) b)
 plan_by b contracts Give ws = give_plan b (name ws 0) (name ws 1) (number ws 2) (drop 3 ws)
-plan_by b contracts Take ws = take_plan false b (name ws 0) (name ws 1) (drop 2 ws)
-plan_by b contracts Await ws = take_plan true b (name ws 0) (name ws 1) (drop 2 ws)
-plan_by b contracts Free ws = free_plan b (name ws 0) (name ws 1)
-plan_by b contracts Close ws = close_plan b (name ws 0) (name ws 1)
-plan_by b contracts Exit ws = exit_plan b (name ws 0) (number_or ws 1 MAX_BUDGET)
-plan_by b contracts Kill ws = kill_plan b (name ws 0) (name ws 1) (number_or ws 2 MAX_BUDGET)
-plan_by b contracts Glance ws = glance_plan b (name ws 0) (name ws 1)
-plan_by b contracts Again ws = again_plan b (name ws 0)
+plan_by b contracts Take ws = take_plan false b ws
+plan_by b contracts Await ws = take_plan true b ws
+plan_by b contracts Free ws = asks (ask.Free (process_in b ws 0) (record_in b ws 1)) (replied (λ n. done (n ∷ [])) (λ _. unbound b (name ws 0) (record_in b ws 1)) b)
+plan_by b contracts Close ws = asks (ask.Close (process_in b ws 0) (record_in b ws 1)) (replied (λ n. done (n ∷ [])) (λ _. unbound b (name ws 0) (record_in b ws 1)) b)
+plan_by b contracts Exit ws = asks (ask.Exit (process_in b ws 0) (number_or ws 1 MAX_BUDGET)) (replied (λ n. done (n ∷ [])) (λ _. b) b)
+plan_by b contracts Kill ws = asks (ask.Kill (process_in b ws 0) (process_in b ws 1) (number_or ws 2 MAX_BUDGET)) (replied (λ n. done (n ∷ [])) (λ _. b) b)
+plan_by b contracts Glance ws =
+    if not (has_place b (name ws 0)) || not (has_place b (name ws 1)) then says (No NoProcess) b
+    else asks (glance_at (process_in b ws 1)) (λ a. replied (λ look. done (look.blocks ∷ look.bytes ∷ [])) (λ _. b) b (shown (process_in b ws 1) a))
+plan_by b contracts Again ws =
+    if not (has_place b (name ws 0)) then says (No NoProcess) b
+    else asks (glance_at (process_in b ws 0)) (λ a. if is_alive (shown (process_in b ws 0) a) then says (No Twice) b else asks ask.Spawn (replied Started (λ n. renewed b (name ws 0) n) b))
 
 abbrev pub plan : Bindings → List (List Row) → Command → Plan
 plan b contracts c = plan_by b contracts c.form c.words.items

@@ -1,5 +1,5 @@
 //! What the names of a script stand for.
-ghost use Rattle.std.specs.Prelude.{◌≡◌, ◌+◌, ◌*◌, ◌%◌, ◌≤◌, ◌==◌, if◌then◌else◌, length, map, codes, IfOk, slice_index_or, slice_set};
+ghost use Rattle.std.specs.Prelude.{◌≡◌, ◌+◌, ◌*◌, ◌%◌, ◌≤◌, ◌==◌, if◌then◌else◌, length, codes, IfOk, slice_index_or, slice_set};
 ghost use Rattle.xh_session.specs.Bindings.{Bindings, no_bindings, nothings, number_of, has_place, started, renumbered, name_at, names_by_place, record_of, records_of};
 ghost use Rattle.xh_session.specs.Bindings.{bound, bound_block, bound_each, cleared, without_record, unbound, unbound_each, unbound_all, not_among, process_at};
 ghost use Rattle.xh_model.specs.declared.limits.TheConstants.{PLACES};
@@ -122,16 +122,6 @@ fn name_at(processes: &[Name], process: u8) -> Name
         Some(name) => name.copy(),
         None => vacant(),
     }
-}
-
-fn names_at(alloc: Global, processes: &[Name], latest: &[u8]) -> Result<Vec<Name>, AllocError>
-    ensures { IfOk result (λ names. names.items ≡ map (λ p. name_at processes.now p) latest.now) }
-{
-    let mut names = Vec::with_capacity(alloc, latest.len())?;
-    for process in latest {
-        names.push_reserved(name_at(processes, *process));
-    }
-    Ok(names)
 }
 
 impl Names {
@@ -287,6 +277,7 @@ impl Names {
         ensures names { IfOk result (λ names. names.items ≡ names_by_place processes.now self.now) }
         ensures count { IfOk result (λ names. length names.items ≡ PLACES) }
     {
-        names_at(alloc, processes, &self.latest)
+        let name = |process: &u8| name_at(processes, *process);
+        self.latest.iter().map(name).collect(alloc)
     }
 }

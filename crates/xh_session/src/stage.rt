@@ -27,8 +27,7 @@ pub struct Stage<'a> {
 
 impl<'a> Model for Stage<'a> {
     ghost use Rattle.xh_serial.specs.Machine.{Machine as Held};
-    ghost use Rattle.xh_session.specs.Plans.{World};
-    ghost use Rattle.xh_session.specs.Worlds.{world_of};
+    ghost use Rattle.xh_session.specs.Plans.{World, world_of};
 
     ghost Value = { World Held };
 

@@ -13,10 +13,8 @@ impl Chance {
     pub(crate) fn below(&mut self, count: u32) -> u32
         ensures { result ≤ count }
     {
-        self.0 = self
-            .0
-            .wrapping_mul(6_364_136_223_846_793_005)
-            .wrapping_add(1_442_695_040_888_963_407);
+        let next = self.0.wrapping_mul(6_364_136_223_846_793_005);
+        self.0 = next.wrapping_add(1_442_695_040_888_963_407);
         (self.0 >> 33) as u32 % count.max(1)
     }
 

@@ -5,7 +5,7 @@ ghost use Rattle.xh_kernel.specs.Histories.{IsLaw};
 use crate::audit::{count_all, judge};
 use crate::board::Board;
 use crate::caller::{Caller, Hired, Told};
-use crate::plan::Plan;
+use crate::plan::{Chance, Plan};
 use crate::worker::Worker;
 use std::alloc::{AllocError, Global};
 use std::marker::Brand;
@@ -47,13 +47,26 @@ fn hire<'a, N: Names, R: Wait + Clock>(
 ) -> Result<Vec<Worker<'a, Hired<'a, N, R>, R>>, AllocError> {
     let mut workers = Vec::with_capacity(alloc, accounts.len())?;
     for account in accounts {
+        let number = (workers.len() % 16) as u16;
+        let seed = plan.seed.wrapping_mul(1024).wrapping_add(u64::from(number));
         let caller = Hired {
             rt,
             alloc,
             kernel,
             account,
         };
-        workers.push(Worker::new(rt, board, plan, workers.len(), caller))?;
+        workers.push(Worker {
+            rt,
+            board,
+            caller,
+            plan,
+            number,
+            chance: Chance(seed),
+            is_known: true,
+            tag: 0,
+            taken: 0,
+            wrong: None,
+        })?;
     }
     Ok(workers)
 }

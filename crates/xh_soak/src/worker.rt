@@ -26,23 +26,6 @@ pub(crate) struct Worker<'a, C, R> {
 }
 
 impl<'a, C: Caller, R: Wait + Clock> Worker<'a, C, R> {
-    /// The worker of a number, which does the caller's calls.
-    pub(crate) fn new(rt: &'a R, board: &'a Board, plan: Plan, number: usize, caller: C) -> Self {
-        let number = (number % 16) as u16;
-        Worker {
-            rt,
-            board,
-            caller,
-            plan,
-            number,
-            chance: Chance(plan.seed.wrapping_mul(1024).wrapping_add(u64::from(number))),
-            is_known: true,
-            tag: 0,
-            taken: 0,
-            wrong: None,
-        }
-    }
-
     /// Does its commands, as long as nothing is wrong.
     pub(crate) fn work(&mut self) {
         let is_first = self.number == 0;
@@ -124,20 +107,19 @@ impl<'a, C: Caller, R: Wait + Clock> Worker<'a, C, R> {
         told: Told<Answer>,
         may: &[&'static str],
     ) -> Option<Answer> {
-        match told {
-            Ok(answer) => Some(answer),
-            Err(why) => {
-                let is_so = match why {
-                    "Ended" => self.board.aimed_at.get(p) != 0,
-                    "NoProcess" => !self.is_known,
-                    "OutOfMemory" => self.plan.scarce && may.contains(&why),
-                    "Worn" => self.plan.config.wear < MAX_WEAR && may.contains(&why),
-                    _ => may.contains(&why),
-                };
-                self.claim(is_so, why);
-                None
-            }
-        }
+        let why = match told {
+            Ok(answer) => return Some(answer),
+            Err(why) => why,
+        };
+        let is_so = match why {
+            "Ended" => self.board.aimed_at.get(p) != 0,
+            "NoProcess" => !self.is_known,
+            "OutOfMemory" => self.plan.scarce && may.contains(&why),
+            "Worn" => self.plan.config.wear < MAX_WEAR && may.contains(&why),
+            _ => may.contains(&why),
+        };
+        self.claim(is_so, why);
+        None
     }
 
     /// A process: one that runs or ran, or any number.
@@ -193,8 +175,7 @@ impl<'a, C: Caller, R: Wait + Clock> Worker<'a, C, R> {
     }
 
     fn claim_own(&mut self, p: u16, word: u64) {
-        let is_own = word == 0 || word == self.mark(p);
-        self.claim(is_own, "bytes of another group");
+        self.claim(word == 0 || word == self.mark(p), "bytes of another group");
     }
 
     /// Tells the others where a block or an end is, if it is there still.
@@ -217,8 +198,10 @@ impl<'a, C: Caller, R: Wait + Clock> Worker<'a, C, R> {
         let bytes = self.chance.below(most).saturating_add(1);
         let may = ["NoRecord", "NoSpace", "Worn", "OutOfMemory"];
         if let Some(Blocks(block, _)) = self.ask(p, Call::Alloc(p, bytes, arena), &may) {
-            let is_whole = block.len == bytes.div_ceil(16).saturating_mul(16);
-            self.claim(is_whole, "another length");
+            self.claim(
+                block.len == bytes.div_ceil(16).saturating_mul(16),
+                "another length",
+            );
             self.meet(p, block.rec);
         }
     }

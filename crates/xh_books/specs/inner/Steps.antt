@@ -32,11 +32,6 @@ with_tallies [] ts = []
 with_tallies (v ∷ vs) [] = v ∷ vs
 with_tallies (v ∷ vs) (t ∷ ts) = with_tally v t ∷ with_tallies vs ts
 
--- the vaults take in all accounts
-abbrev pub with_accounts : List VaultOf → List AccountOf → List VaultOf
-with_accounts vs [] = vs
-with_accounts vs (a ∷ rest) = with_accounts (with_tallies vs a.tallies) rest
-
 -- a vault that took in all its tallies
 abbrev pub IsFull : VaultOf → Type 0
 IsFull v = length v.collected ≡ v.workers
@@ -71,13 +66,9 @@ pub record IsSeatOfPlace (x : Held Body) (p : PlaceOf) : Type 0 where
   pub events : (x.done ≡ p.events) × (map item_of x.moved ≡ p.moved)
   pub whole : (r : ℕ) (b : Item) → value_at r p.blocks ≡ Some b → 0 < b.len
 
--- those of all places, in their order
-abbrev pub AreSeats : List (Held Body) → List PlaceOf → Type 0
-AreSeats = AllZip IsSeatOfPlace
-
--- each had seen what its place had
-abbrev pub AreFronts : List (Held Body) → List PlaceSeen → Type 0
-AreFronts xs places = map (λ x. x.front) xs ≡ map (λ p. p.front) places
+-- those of all places, in their order, each of which had seen what its place had
+abbrev pub AreSeats : List (Held Body) → List PlaceSeen → Type 0
+AreSeats = AllZip (λ x p. IsSeatOfPlace x p.place × (x.front ≡ p.front))
 
 -- ---- the table
 

@@ -1,22 +1,20 @@
 -- What the workers of a run on threads do, and where their replies go.
-use Rattle.std.specs.Prelude.{◌≡◌, ◌==◌, ◌<◌, suc, if◌then◌else◌, Bool, ℕ, List, [], ◌∷◌, length, MatchResult, None, Result}
+use Rattle.std.specs.Prelude.{◌≡◌, ◌<◌, ◌≤◌, suc, if◌then◌else◌, Bool, ℕ, List, [], get_or, length, MatchResult, None, Result}
 use Rattle.xh_model.specs.declared.limits.TheConstants.{PLACES}
 use Rattle.xh_crew.specs.declared.crew.Hand.{Hand}
 use Rattle.xh_crew.specs.declared.crew.Hand.TheVariants.{Works, Idle}
 use Rattle.xh_crew.specs.declared.job.Done.{Done}
 use Rattle.xh_crew.specs.declared.job.Job.{Job}
 use Rattle.xh_crew.specs.declared.job.Shared.{Shared}
-use Rattle.xh_crew.specs.Stops.{Stops}
-use Rattle.xh_crew.specs.Plays.{AllZipFrom, DoesAmong, Plays, names_renewed, other_of, part, part_of}
+use Rattle.xh_crew.specs.Stops.{MayStop}
+use Rattle.xh_crew.specs.Plays.{AllZipFrom, DoesAmong, LAST, Plays, names_renewed, other_of, part, replies_in}
 use Rattle.xh_script.specs.declared.command.Line.{Line}
 use Rattle.xh_script.specs.declared.fault.Fault.{Fault}
 use Rattle.xh_script.specs.declared.replies.Answered.{Answered}
 use Rattle.xh_script.specs.declared.replies.Reply.{Reply}
-use Rattle.xh_script.specs.declared.replies.Reply.TheVariants.{Started}
 use Rattle.xh_session.specs.Bindings.{Bindings, process_at, renumbered}
-use Rattle.xh_session.specs.Plans.{World}
+use Rattle.xh_session.specs.Plans.{World, world_of}
 use Rattle.xh_session.specs.Questions.{Question, Answer}
-use Rattle.xh_session.specs.Worlds.{world_of}
 
 -- ---- a job
 
@@ -47,9 +45,6 @@ module _ {M G S : Type 0} (state : M → S) where
   IsHand shared k machine (Works handle) = (handle.promise.shared.now ≡ shared) × IsJob state shared k machine handle.promise.job.value
   IsHand shared k machine (Idle idle) = (idle ≡ machine) × (k < PLACES) × (process_at shared.ready.now k ≡ None)
 
-  abbrev pub AreHands : Shared G → List M → List (Hand M G) → Type 0
-  AreHands shared = AllZipFrom (IsHand shared) 0
-
   module _ (did : S → (q : Question) → Answer q → S → Type 0) where
     -- a job is done
     abbrev pub IsDone : Shared G → Job M → Done M → Type 0
@@ -57,15 +52,12 @@ module _ {M G S : Type 0} (state : M → S) where
 
     -- or its worker was stopped
     abbrev pub Leaves : Bool → Shared G → Job M → Result (Done M) Fault → Type 0
-    Leaves always shared job left = MatchResult left (IsDone shared job) (Stops always)
+    Leaves always shared job left = MatchResult left (IsDone shared job) (MayStop always)
 
     -- whatever was started, that is done
     abbrev pub Joins : Hand M G → Done M → Type 0
     Joins (Works handle) done = IsDone handle.promise.shared.now handle.promise.job.value done
     Joins (Idle machine) done = (done.machine ≡ machine) × (done.replies.items ≡ [])
-
-    abbrev pub AreJoined : List (Hand M G) → List (Done M) → Type 0
-    AreJoined = AllZipFrom (λ _ hand done. Joins hand done) 0
 
     -- what is left of the places
     abbrev pub ArePlaces : Shared G → List M → List (Done M) → Type 0
@@ -74,22 +66,10 @@ module _ {M G S : Type 0} (state : M → S) where
 
 -- ---- the replies
 
--- the next of the replies, and those behind it
-abbrev pub next_of : List Reply → Reply
-next_of [] = Started 0
-next_of (reply ∷ replies) = reply
+-- each part has a reply to each of its lines
+abbrev pub AreEnough : Bindings → List Line → List (List Reply) → Type 0
+AreEnough b lines parts = (k : ℕ) → k ≤ LAST → length (get_or parts k []) ≡ length (part b k lines)
 
-abbrev pub behind : List Reply → List Reply
-behind [] = []
-behind (reply ∷ replies) = replies
-
--- each line of a part has the next of its replies; the others stay as they are
-abbrev pub filled : Bindings → ℕ → List Line → List Answered → List Reply → List Answered
-filled b k [] answers replies = answers
-filled b k (line ∷ lines) [] replies = []
-filled b k (line ∷ lines) (a ∷ answers) replies = if part_of b line == k then record a { reply = next_of replies } ∷ filled b k lines answers (behind replies) else a ∷ filled b k lines answers replies
-
--- the lines of the places have theirs, from the place k on
-abbrev pub filled_all : {M : Type 0} → Bindings → ℕ → List Line → List Answered → List (Done M) → List Answered
-filled_all b k lines answers [] = answers
-filled_all b k lines answers (done ∷ dones) = filled_all b (suc k) lines (filled b (suc k) lines answers done.replies.items) dones
+-- the answers tell these replies of the parts
+abbrev pub AreTold : Bindings → List Line → List Answered → List (List Reply) → Type 0
+AreTold b lines answers parts = (k : ℕ) → k ≤ LAST → replies_in b k lines answers ≡ get_or parts k []

@@ -40,16 +40,8 @@ impl<N: Names> Kernel<N> {
         let mut guard = self.held(rt, p);
         let held: &mut Held<N> = &mut guard;
         let heap = &self.shared.heap;
-        let answer = heap.alloc(
-            rt,
-            alloc,
-            &mut held.place,
-            p,
-            n,
-            arena,
-            &mut account.till,
-            gate,
-        );
+        let till = &mut account.till;
+        let answer = heap.alloc(rt, alloc, &mut held.place, p, n, arena, till, gate);
         let about = (p, n, arena, &answer);
         held.scribe
             .note(&self.shared, &held.place, &mut account.front, &about);
@@ -105,7 +97,7 @@ impl<N: Names> Kernel<N> {
         let answer = self.shared.heap.read(&mut held.place, p, r, at, out);
         let about = (p, r, at, &*out, &answer);
         held.scribe
-            .note(&self.shared, &held.place, &mut account.front, &about);
+            .note_same(&self.shared, &held.place, &mut account.front, &about);
         answer
     }
 

@@ -103,15 +103,8 @@ impl<N: Names> Kernel<N> {
         let mut guard = self.held(rt, p);
         let held: &mut Held<N> = &mut guard;
         let heap = &self.shared.heap;
-        let answer = heap.open(
-            rt,
-            &mut held.place,
-            p,
-            arena,
-            contract,
-            &mut account.till,
-            gate,
-        );
+        let till = &mut account.till;
+        let answer = heap.open(rt, &mut held.place, p, arena, contract, till, gate);
         let about = (p, arena, &answer);
         held.scribe
             .note(&self.shared, &held.place, &mut account.front, &about);
@@ -159,15 +152,8 @@ impl<N: Names> Kernel<N> {
         let mut guard = self.held(rt, p);
         let held: &mut Held<N> = &mut guard;
         let heap = &self.shared.heap;
-        let answer = heap.open_toward(
-            rt,
-            &mut held.place,
-            p,
-            arena,
-            contract,
-            &mut account.till,
-            gate,
-        );
+        let till = &mut account.till;
+        let answer = heap.open_toward(rt, &mut held.place, p, arena, contract, till, gate);
         let about = (p, arena, &answer);
         held.scribe
             .note(&self.shared, &held.place, &mut account.front, &about);

@@ -50,10 +50,8 @@ impl<N: Names> Kernel<N> {
     {
         let mut guard = self.held(rt, p);
         let held: &mut Held<N> = &mut guard;
-        let answer = self
-            .shared
-            .heap
-            .close(rt, &mut held.place, p, e, &mut account.till, gate);
+        let heap = &self.shared.heap;
+        let answer = heap.close(rt, &mut held.place, p, e, &mut account.till, gate);
         let about = (p, e, &account.till.tallies, &answer);
         held.scribe
             .note(&self.shared, &held.place, &mut account.front, &about);
@@ -111,10 +109,8 @@ impl<N: Names> Kernel<N> {
     {
         let mut guard = self.held(rt, p);
         let held: &mut Held<N> = &mut guard;
-        let answer = self
-            .shared
-            .heap
-            .stop(rt, &mut held.place, p, budget, &mut account.till, gate);
+        let heap = &self.shared.heap;
+        let answer = heap.stop(rt, &mut held.place, p, budget, &mut account.till, gate);
         let about = (p, budget, &account.till.tallies, &answer);
         held.scribe
             .note(&self.shared, &held.place, &mut account.front, &about);
@@ -134,9 +130,7 @@ impl<N: Names> Kernel<N> {
         let mut guard = self.held(rt, p);
         let held: &mut Held<N> = &mut guard;
         let answer = check_start(&held.place, p);
-        let about = (p, &answer);
-        held.scribe
-            .note(&self.shared, &held.place, &mut account.front, &about);
+        held.scribe.note(&self.shared, &held.place, &mut account.front, &(p, &answer));
         answer
     }
 }

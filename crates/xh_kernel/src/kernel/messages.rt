@@ -1,21 +1,27 @@
-//! Messages of a process.
-ghost use Rattle.std.specs.Prelude.{◌≢◌, Err, IfErr};
+//! Messages of a process: what it gives and takes, at once, once it can, or until a time.
+ghost use Rattle.std.specs.Prelude.{◌≡◌, ◌≢◌, [], Err, IfErr};
 ghost use Rattle.xh_calls.specs.Places.{status_at};
 ghost use Rattle.xh_place.specs.Messages.{Gives, TakesAt};
+ghost use Rattle.xh_calls.specs.Several.{TakesAny};
 ghost use Rattle.xh_core.specs.declared.refused.Refused.TheVariants as refused;
 ghost use Rattle.xh_calls.specs.declared.call.Call.TheVariants as call;
 ghost use Rattle.xh_kernel.specs.Calls.{Calls};
-ghost use Rattle.xh_kernel.specs.Waits.{AtLast};
+ghost use Rattle.xh_kernel.specs.Waits.{AtLast, IsLastGive, no_room};
 ghost use Rattle.xh_model.specs.Words.{place_of};
 
 use crate::account::Account;
-use crate::held::Held;
 use crate::kernel::Kernel;
-use crate::looking::Look;
+use crate::looking::bell_of;
 use std::sync::Wait;
-use xh_calls::Names;
+use std::time::{Clock, Instant};
+use xh_calls::{Answered, Names};
 use xh_core::Refused;
 use xh_place::{Gate, Taken};
+
+// Whether the time is past, or the clock can't be read.
+fn is_past<R: Clock>(rt: &R, deadline: Instant) -> bool {
+    !matches!(Instant::now(rt), Ok(now) if now < deadline)
+}
 
 impl<N: Names> Kernel<N> {
     /// Gives blocks of the process, by its endpoint `e`, in a message with a tag. It answers the
@@ -37,7 +43,7 @@ impl<N: Names> Kernel<N> {
         ensures { Calls N.leads (place_of p) (call.Give p e tag blocks.now result) (λ old new. Gives (status_at p old.place) e tag blocks.now old new result) account.old account.new }
     {
         let mut held = self.held(rt, p);
-        let (answer, _waits) = held.give(rt, &self.shared, p, e, tag, blocks, account, gate);
+        let answer = held.give(rt, &self.shared, p, e, tag, blocks, account, gate);
         held.wake(rt, &self.shared);
         answer
     }
@@ -58,15 +64,8 @@ impl<N: Names> Kernel<N> {
     ) -> Result<Taken, Refused>
         ensures { Calls N.leads (place_of p) (call.Take p e result) (λ old new. TakesAt (status_at p old.place) e old new result) account.old account.new }
     {
-        let mut guard = self.held(rt, p);
-        let held: &mut Held<N> = &mut guard;
-        let heap = &self.shared.heap;
-        let answer = heap.take(rt, &mut held.place, p, e, gate);
-        let about = (p, e, &answer);
-        held.scribe
-            .note(&self.shared, &held.place, &mut account.front, &about);
-        drop(guard);
-        answer
+        let mut held = self.held(rt, p);
+        held.take(rt, &self.shared, p, e, account, gate)
     }
 
     /// As `take`; where no message waits and the peer is not closed, it waits for one, without a lock, and
@@ -86,12 +85,202 @@ impl<N: Names> Kernel<N> {
     {
         for _ in rt.forever() {
             let mut held = self.held(rt, p);
-            let look = held.look_for(rt, &self.shared, p, e, account, gate);
+            let (answer, turn) = held.look_for(rt, &self.shared, p, e, account, gate);
             drop(held);
-            match look {
-                Look::Done(answer) => return answer,
-                Look::Later { spot, seen } => self.shared.heap.channels.wait(rt, spot, seen),
+            let Some((spot, seen)) = turn else {
+                return answer;
+            };
+            self.shared.heap.channels.wait(rt, spot, seen);
+        }
+        unreachable!()
+    }
+
+    /// As `take_wait`; where no message waits once the time is past, it answers Empty. A clock that can't be
+    /// read ends the wait too.
+    ///
+    /// NoProcess, Ended, NotOwned, NotEndpoint, PeerClosed, Empty.
+    pub fn take_wait_until<R: Wait + Clock, G: Gate>(
+        &self,
+        rt: &R,
+        p: u16,
+        e: u16,
+        deadline: Instant,
+        account: &mut Account<N>,
+        gate: &G,
+    ) -> Result<Taken, Refused>
+        ensures { AtLast N.leads (place_of p) (call.Take p e) (λ answer old new. TakesAt (status_at p old.place) e old new answer) (Err refused.Empty) result account.old account.new }
+    {
+        for _ in rt.forever() {
+            let past = is_past(rt, deadline);
+            let mut held = self.held(rt, p);
+            let (answer, turn) = held.look_for(rt, &self.shared, p, e, account, gate);
+            drop(held);
+            let Some((spot, seen)) = turn else {
+                return answer;
+            };
+            if past {
+                return answer;
             }
+            let channels = &self.shared.heap.channels;
+            channels.wait_until(rt, spot, seen, deadline);
+        }
+        unreachable!()
+    }
+
+    /// Looks at the endpoints in the order given, takes at the first that has a message, and answers its
+    /// index and what `take` answers of it. Where none has one, PeerClosed with the index of the first whose
+    /// peer is closed, if there is any, and else Empty.
+    ///
+    /// NoProcess, Ended, TooMany of more than 64 endpoints, NotOwned and NotEndpoint of the first that is,
+    /// Twice, Empty.
+    pub fn take_any<R: Wait, G: Gate>(
+        &self,
+        rt: &R,
+        p: u16,
+        ends: &[u16],
+        account: &mut Account<N>,
+        gate: &G,
+    ) -> Result<Answered, Refused>
+        ensures { Calls N.leads (place_of p) (call.TakeAny p ends.now result) (λ old new. TakesAny p ends.now old new result) account.old account.new }
+    {
+        let mut held = self.held(rt, p);
+        held.take_any(rt, &self.shared, p, ends, account, gate)
+    }
+
+    /// As `take_any`; where no message waits and no peer is closed, it waits for one, without a lock, and
+    /// looks again once it is woken. A process that ends meanwhile is answered Ended. Of no endpoints it
+    /// answers Empty at once.
+    ///
+    /// NoProcess, Ended, TooMany, NotOwned, NotEndpoint, Twice.
+    pub fn take_any_wait<R: Wait, G: Gate>(
+        &self,
+        rt: &R,
+        p: u16,
+        ends: &[u16],
+        account: &mut Account<N>,
+        gate: &G,
+    ) -> Result<Answered, Refused>
+        ensures calls { AtLast N.leads (place_of p) (call.TakeAny p ends.now) (λ answer old new. TakesAny p ends.now old new answer) (Err refused.Empty) result account.old account.new }
+        ensures waits { IfErr result (λ why. why ≡ refused.Empty → ends.now ≡ []) }
+    {
+        for _ in rt.forever() {
+            let mut held = self.held(rt, p);
+            let (answer, bell) = held.search(rt, &self.shared, p, ends, account, gate);
+            drop(held);
+            let Some(seen) = bell else {
+                return answer;
+            };
+            self.shared.heap.channels.wait_at(rt, bell_of(p), seen);
+        }
+        unreachable!()
+    }
+
+    /// As `take_any_wait`; where no message waits once the time is past, it answers Empty. A clock that can't
+    /// be read ends the wait too.
+    ///
+    /// NoProcess, Ended, TooMany, NotOwned, NotEndpoint, Twice, Empty.
+    pub fn take_any_wait_until<R: Wait + Clock, G: Gate>(
+        &self,
+        rt: &R,
+        p: u16,
+        ends: &[u16],
+        deadline: Instant,
+        account: &mut Account<N>,
+        gate: &G,
+    ) -> Result<Answered, Refused>
+        ensures { AtLast N.leads (place_of p) (call.TakeAny p ends.now) (λ answer old new. TakesAny p ends.now old new answer) (Err refused.Empty) result account.old account.new }
+    {
+        for _ in rt.forever() {
+            let past = is_past(rt, deadline);
+            let mut held = self.held(rt, p);
+            let (answer, bell) = held.search(rt, &self.shared, p, ends, account, gate);
+            drop(held);
+            let Some(seen) = bell else {
+                return answer;
+            };
+            if past {
+                return answer;
+            }
+            let channels = &self.shared.heap.channels;
+            channels.wait_at_until(rt, bell_of(p), seen, deadline);
+        }
+        unreachable!()
+    }
+
+    /// As `give`; where the direction is full and all blocks came back, it waits until the receiver takes, without a lock, and
+    /// gives again. Each give in vain stands in the place's history. A process that ends meanwhile is answered Ended, and
+    /// PeerClosed comes once the peer is closed.
+    ///
+    /// NoProcess, Ended, NotOwned, NotEndpoint, TooMany, NotOwned, Twice, Protocol, PeerClosed; Full where a block didn't come
+    /// back, with those that did, and where the direction has carried its last message, 2^62 - 1.
+    pub fn give_wait<R: Wait, G: Gate>(
+        &self,
+        rt: &R,
+        p: u16,
+        e: u16,
+        tag: u16,
+        blocks: &[u16],
+        account: &mut Account<N>,
+        gate: &G,
+    ) -> Result<u64, Refused>
+        ensures calls { AtLast N.leads (place_of p) (call.Give p e tag blocks.now) (λ answer old new. Gives (status_at p old.place) e tag blocks.now old new answer)
+            (no_room blocks.now) result account.old account.new }
+        ensures waits { result ≡ no_room blocks.now → IsLastGive N.leads p e tag blocks.now result account.new }
+    {
+        let shared = &self.shared;
+        // whether the take that makes room is to ring: a give that finds room at once asks for nothing
+        let mut asks = false;
+        for _ in rt.forever() {
+            let mut held = self.held(rt, p);
+            let (answer, seen) = held.send(rt, shared, p, e, tag, blocks, asks, account, gate);
+            drop(held);
+            let Some(seen) = seen else {
+                return answer;
+            };
+            if asks {
+                shared.heap.channels.wait_at(rt, bell_of(p), seen);
+            }
+            asks = !asks;
+        }
+        unreachable!()
+    }
+
+    /// As `give_wait`; where there is no room once the time is past, it answers Full with all blocks. A clock that can't be read
+    /// ends the wait too.
+    ///
+    /// NoProcess, Ended, NotOwned, NotEndpoint, TooMany, NotOwned, Twice, Protocol, PeerClosed, Full.
+    pub fn give_wait_until<R: Wait + Clock, G: Gate>(
+        &self,
+        rt: &R,
+        p: u16,
+        e: u16,
+        tag: u16,
+        blocks: &[u16],
+        deadline: Instant,
+        account: &mut Account<N>,
+        gate: &G,
+    ) -> Result<u64, Refused>
+        ensures { AtLast N.leads (place_of p) (call.Give p e tag blocks.now) (λ answer old new. Gives (status_at p old.place) e tag blocks.now old new answer)
+            (no_room blocks.now) result account.old account.new }
+    {
+        let shared = &self.shared;
+        let mut asks = false;
+        for _ in rt.forever() {
+            let past = is_past(rt, deadline);
+            let mut held = self.held(rt, p);
+            let (answer, seen) = held.send(rt, shared, p, e, tag, blocks, asks, account, gate);
+            drop(held);
+            let Some(seen) = seen else {
+                return answer;
+            };
+            if past {
+                return answer;
+            }
+            if asks {
+                let channels = &shared.heap.channels;
+                channels.wait_at_until(rt, bell_of(p), seen, deadline);
+            }
+            asks = !asks;
         }
         unreachable!()
     }

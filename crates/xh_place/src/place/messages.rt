@@ -204,9 +204,13 @@ impl Place {
         let (taken, direction) = self.pop(desk, e);
         let message = taken?;
         desk.gate.between(place_of(&self.seat), Point::Popped);
-        let blocks = self.take_all(desk.records, &message, direction);
-        let Message { no, tag, .. } = message;
-        Ok(Taken { no, tag, blocks })
+        let mut taken = Taken {
+            no: message.no,
+            tag: message.tag,
+            blocks: ArrayVec::new(),
+        };
+        self.take_all(desk.records, &message, direction, &mut taken.blocks);
+        Ok(taken)
     }
 
     // Takes the message at the front for an endpoint of the list. With the answer goes the direction.
@@ -263,18 +267,18 @@ impl Place {
         records: &Records<Body>,
         message: &Message,
         direction: u8,
-    ) -> ArrayVec<Got, 8>
+        got: &mut ArrayVec<Got, 8>,
+    )
         requires own { IsPlaceOf records.now self.old.place × (direction < DIRECTIONS) }
         requires alive { is_over self.old.place.state ≢ true }
+        requires empty { got.old.items ≡ [] }
         ensures place { IsSamePlace self.old self.new }
-        ensures got { (ys : List (ℕ × Item)) × (self.new.place ≡ with_more direction ys self.old.place) × AreGot (IsSeen self.old self.new) direction ys result.items }
-        ensures records { map record_of result.items ≡ message.now.blocks.items }
+        ensures got { (ys : List (ℕ × Item)) × (self.new.place ≡ with_more direction ys self.old.place) × AreGot (IsSeen self.old self.new) direction ys got.new.items }
+        ensures records { map record_of got.new.items ≡ message.now.blocks.items }
     {
-        let mut got = ArrayVec::new();
         for k in 0..message.blocks.len() {
             let r = message.blocks[k];
             got.push(self.take_one(records, r, direction));
         }
-        got
     }
 }

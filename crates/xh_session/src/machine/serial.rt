@@ -1,6 +1,6 @@
 //! The serial machine's calls.
 ghost use Rattle.std.specs.Prelude.{◌≡◌, ◌≤◌, length, map, Some};
-ghost use Rattle.xh_session.specs.Receiving.{received};
+ghost use Rattle.xh_session.specs.Machines.{received};
 
 use crate::machine::Machine;
 use crate::received::Received;

@@ -2,8 +2,7 @@
 ghost use Rattle.std.specs.Prelude.{◌≡◌, ◌≤◌, length, map, option_map};
 ghost use Rattle.xh_model.specs.declared.limits.TheConstants.{MAX_BLOCKS};
 ghost use Rattle.xh_script.specs.declared.limits.TheConstants.{MAX_WORDS};
-ghost use Rattle.xh_session.specs.Plans.{Follows, give_plan, take_plan, handed_back};
-ghost use Rattle.xh_session.specs.Worlds.{world_of};
+ghost use Rattle.xh_session.specs.Plans.{Follows, give_plan, handed_back, take_plan, world_of};
 
 use crate::machine::Machine;
 use crate::names::{Names, not_among};
@@ -12,13 +11,7 @@ use arrayvec::ArrayVec;
 use xh_core::{Block, Refused};
 use xh_model::limits::MAX_BLOCKS;
 use xh_script::limits::MAX_TAG;
-use xh_script::{Reply, Word};
-
-fn length_of(block: &Option<Block>) -> Option<u32>
-    ensures { result ≡ option_map (λ b. b.len) block.now }
-{
-    block.map(|block| block.len)
-}
+use xh_script::{Command, Reply, Word};
 
 fn lengths_of(blocks: &[Option<Block>]) -> ArrayVec<Option<u32>, MAX_BLOCKS>
     requires { length blocks.now ≤ MAX_BLOCKS }
@@ -26,7 +19,7 @@ fn lengths_of(blocks: &[Option<Block>]) -> ArrayVec<Option<u32>, MAX_BLOCKS>
 {
     let mut lengths = ArrayVec::new();
     for block in blocks {
-        lengths.push(length_of(block));
+        lengths.push(block.map(|block| block.len));
     }
     lengths
 }
@@ -67,19 +60,19 @@ impl<'a, M: Machine> Session<'a, M> {
     }
 
     /// Takes a message, and waits for one where others can send it.
-    pub(crate) fn take(&mut self, waits: bool, process: u8, endpoint: u8, words: &[Word]) -> Reply
-        ensures { Follows M.did (take_plan waits self.old.names process endpoint words.now) (world_of M.state self.old) result (world_of M.state self.new) }
+    pub(crate) fn take(&mut self, waits: bool, c: &Command) -> Reply
+        ensures { Follows M.did (take_plan waits self.old.names c.now.words.items) (world_of M.state self.old) result (world_of M.state self.new) }
     {
-        let number = self.names.number(process);
-        let rec = self.names.record_of(process, endpoint);
+        let number = self.names.number(c.name(0));
+        let rec = self.names.record_of(c.name(0), c.name(1));
         match self.machine.take(number, rec, waits) {
             Ok(message) => {
-                self.names
-                    .bind_each(process, words, message.blocks.as_slice());
+                let blocks = message.blocks.as_slice();
+                self.names.bind_each(c.name(0), c.from(2), blocks);
                 Reply::Taken {
                     number: message.number,
                     tag: message.tag,
-                    blocks: lengths_of(message.blocks.as_slice()),
+                    blocks: lengths_of(blocks),
                 }
             }
             Err(refused) => Reply::No(refused),

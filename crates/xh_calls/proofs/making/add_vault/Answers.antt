@@ -1,5 +1,5 @@
-use Rattle.xh_calls.proofs.Common.{Body, VaultOf, ap, fits_in, length, length-replicate, ◌∙◌}
-use Rattle.xh_calls.proofs.Made.{makings_more, new_vault}
+use Rattle.xh_calls.proofs.Common.{Body, IsNew, VaultOf, ap, fits_in, length, length-replicate, ◌∙◌}
+use Rattle.xh_calls.proofs.Made.{makings_more}
 use Rattle.xh_calls.proofs.making.add_vault.Goals as goal
 
 pub returns-clause-makings : goal.returns-clause-makings
@@ -7,8 +7,14 @@ returns-clause-makings c =
     let w = c.args.workers in let n = c.args.config.records in let size = c.args.config.bytes in let wear = c.args.config.wear in
     let v : VaultOf = c.in-Ok.vault in
     let e = c.in-Ok.ensures.vault in
-    let is = new_vault w n size wear v (ap (λ (z : VaultOf). z.workers) e) (ap (λ (z : VaultOf). z.collected) e) c.in-Ok.ensures.limits.some_workers
-    (ap (λ (z : VaultOf). z.arena.records) e) (ap (λ (z : VaultOf). length z.arena.cover) e ∙ length-replicate size _) (ap (λ (z : VaultOf). z.arena.limit) e) in
+    let is : IsNew w n size wear v = (
+      ap (λ (z : VaultOf). z.workers) e,
+      ap (λ (z : VaultOf). z.collected) e,
+      c.in-Ok.ensures.limits.some_workers,
+      ap (λ (z : VaultOf). z.arena.records) e,
+      ap (λ (z : VaultOf). length z.arena.cover) e ∙ length-replicate size _,
+      ap (λ (z : VaultOf). z.arena.limit) e,
+    ) in
     let made = makings_more _ w n size wear c.args.makings.vaults.items c.args.makings.lots.items c.in-Ok.more.items c.args.makings.names v
     (λ b new. ap (λ (z : Body). fits_in z 0) new) c.requires.makings is c.in-Ok.ensures.lots in
     rw (c.in_ok-push.ensures.items, c.in_ok-push_back.ensures.items, c.in_ok-append.ensures.items, c.name.ensures.same, c.name.ensures.name) made

@@ -1,5 +1,4 @@
-use Rattle.xh_kernel.proofs.Common.{AccountOf, AreSeen, Entry, List, PenOf, arith, get_or, get_or-set_other, get_or_default, histories_of, length, rules, subst, ◌<◌, ◌∙◌, ◌≡◌, ◌≤◌}
-use borrow.Author.Count.{below_more}
+use Rattle.xh_kernel.proofs.Common.{AccountOf, AreSeen, Entry, List, PenOf, arith, below_more, get_or, get_or-set_other, get_or_default, histories_of, length, rules, subst, ◌<◌, ◌∙◌, ◌≡◌, ◌≤◌}
 use Rattle.xh_kernel.proofs.Compared.{same_tallies}
 use Rattle.xh_kernel.proofs.finishing.compare_accounts.Goals as goal
 

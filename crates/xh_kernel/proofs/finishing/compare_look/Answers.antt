@@ -1,6 +1,4 @@
-use Rattle.xh_kernel.proofs.Common.{Entry, List, LookOf, PenOf, ap, get_or, histories_of, length, rules, set-get_or, slice_set, subst, ◌<◌, ◌∙◌, ◌≡◌}
-use borrow.Author.Count.{below_more}
-use Rattle.xh_history.specs.Histories.{History, StartsWith, at}
+use Rattle.xh_kernel.proofs.Common.{Entry, History, List, LookOf, PenOf, StartsWith, ap, at, below_more, get_or, histories_of, length, rules, set-get_or, slice_set, subst, ◌<◌, ◌∙◌, ◌≡◌}
 use Rattle.xh_kernel.proofs.Compared.{pens_at}
 use Rattle.xh_kernel.proofs.finishing.compare_look.Goals as goal
 

@@ -1,5 +1,4 @@
-use Rattle.xh_kernel.proofs.Common.{histories_of, ℕ, ◌<◌, ◌≡◌}
-use Rattle.xh_history.specs.Histories.{StartsWith, at}
+use Rattle.xh_kernel.proofs.Common.{StartsWith, at, histories_of, ℕ, ◌<◌, ◌≡◌}
 use Rattle.xh_kernel.proofs.finishing.compare_look.Given as goal
 
 abbrev pub invariant-loop-place : goal.invariant-loop-place

@@ -1,5 +1,4 @@
-use Rattle.xh_kernel.proofs.Common.{ap, arith, rules, ◌+◌, ◌∙◌, ◌≡◌}
-use Rattle.xh_history.specs.Histories.{fresh_pen}
+use Rattle.xh_kernel.proofs.Common.{ap, arith, fresh_pen, rules, ◌+◌, ◌∙◌, ◌≡◌}
 use Rattle.xh_kernel.proofs.parts.make_parts.Goals as goal
 
 pub invariant_of-result : goal.invariant_of-result

@@ -5,11 +5,11 @@ use Rattle.xh_script.specs.Scripts.{listing_of}
 use Rattle.xh_session.proofs.Ends.{wrote_all, wrote_part}
 use Rattle.xh_session.specs.declared.report.Report.{Report}
 use Rattle.xh_session.specs.Reports.{told_text}
-use Rattle.xh_runner.specs.Reports.{Answers, IsLedgerOf, IsReportTold}
+use Rattle.xh_runner.specs.Reports.{AnswersScript, IsLedgerOf, IsReportTold}
 use Rattle.xh_runner.specs.Runs.{HasRun}
 use Rattle.xh_runner.proofs.parallel.run_parallel_as.Goals as goal
 
-told : (flight : Bool) (config : Config) (s : Script) (r : Report) → HasRun config (listing_of s) r → Answers (listing_of s) r.answers.items r.names.items
+told : (flight : Bool) (config : Config) (s : Script) (r : Report) → HasRun config (listing_of s) r → AnswersScript (listing_of s) r.answers.items r.names.items
     → IsLedgerOf config r.ledger r.flight.items → IsReportTold flight config (listing_of s) (told_text flight r)
 told flight config s r run answers ledger = record { report = r; run = run; answers = answers; ledger = ledger; text = refl }
 

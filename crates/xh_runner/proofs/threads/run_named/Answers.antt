@@ -3,7 +3,7 @@ use Rattle.xh_calls.specs.Parts.{AreMadeBy}
 use Rattle.xh_core.specs.declared.ledger.ArenaLine.{ArenaLine}
 use Rattle.xh_model.specs.declared.limits.TheConstants.{MAX_WORKERS}
 use Rattle.xh_script.specs.Scripts.{listing_of}
-use Rattle.xh_runner.specs.Reports.{Answers}
+use Rattle.xh_runner.specs.Reports.{AnswersScript}
 use Rattle.xh_runner.specs.Runs.{HasPlayed}
 use Rattle.xh_runner.proofs.threads.run_named.Goals as goal
 
@@ -25,7 +25,7 @@ pub returns-clause-answers : goal.returns-clause-answers
 returns-clause-answers g c =
     let script = listing_of c.args.script.now in
     let (done, is, same, closed) = c.in_ok-answers.ensures.closed in
-    subst (λ x. Answers script x.0.items x.1.items) (sym same) (subst (λ r. IfOk r (λ d. Answers script d.0.0.items d.0.1.items)) is c.run_script-played.ensures.answers)
+    subst (λ x. AnswersScript script x.0.items x.1.items) (sym same) (subst (λ r. IfOk r (λ d. AnswersScript script d.0.0.items d.0.1.items)) is c.run_script-played.ensures.answers)
 
 pub returns-clause-ledger : goal.returns-clause-ledger
 returns-clause-ledger g c =

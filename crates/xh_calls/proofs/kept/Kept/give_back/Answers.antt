@@ -1,8 +1,8 @@
 use Rattle.xh_calls.proofs.Vaulted.{back_stays, entered, known}
 use Rattle.xh_calls.proofs.kept.Kept.give_back.Goals as goal
 
-pub invariant_of-kept-2 : goal.invariant_of-kept-2
-invariant_of-kept-2 g c =
+pub invariant_of-self : goal.invariant_of-self
+invariant_of-self g c =
     let parts = g.N.Names.parts in let e = c.add.ensures in
-    let was = known parts g.row.A _ c.kept.inside.pen c.in-Some.vault c.in-Some.is c.kept.invariant in
-    entered parts g.row.A _ _ _ _ _ _ c.kept.invariant.0 was (back_stays parts g.row.A _ _ _ _ _ _ was.0 c.give_back.ensures.done) e.pen e.front e.seen
+    let was = known parts g.row.A _ c.self.inside.pen c.in-Some.vault c.in-Some.is c.self.invariant in
+    entered parts g.row.A _ _ _ _ _ _ c.self.invariant.0 was (back_stays parts g.row.A _ _ _ _ _ _ was.0 c.give_back.ensures.done) e.pen e.front e.seen

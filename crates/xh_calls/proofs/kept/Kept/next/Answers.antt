@@ -1,23 +1,57 @@
-use Rattle.xh_calls.proofs.Common.{EndsIn, PenOf, VaultOf, ap, rules, subst, sym, vault_names, ◌+◌, ◌∙◌}
-use Rattle.xh_calls.proofs.Taking.{drop_cons}
+use Rattle.xh_calls.proofs.Common.{All, EndsIn, IsKeptAt, IsOpen, IsVaultOf, List, MatchOption, None, Option, PartsOf, PenOf, Some, TableId, VaultOf, [], ap, arith, drop, fresh_pen, into_iter_items}
+use Rattle.xh_calls.proofs.Common.{into_iter_len, length, refl, rules, slice_get, subst, sym, vault_names, ℕ, ◌+◌, ◌<◌, ◌∙◌, ◌∷◌, ◌≡◌, ◌≤◌}
+use Rattle.std.proofs.lemmas.List.{drop_all, drop_more, length-drop, nil_from_length}
+use Rattle.std.proofs.lemmas.List.Elements.{All-head, All-nil, All-tail}
+use Rattle.std.proofs.lemmas.Option.{slice_get-get_or}
+use Rattle.xh_calls.proofs.Lists.{first_of, rest_of}
 use Rattle.xh_calls.proofs.kept.Kept.next.Goals as goal
 
-pub invariant_of-t-8 : goal.invariant_of-t-8
-invariant_of-t-8 g c =
-    let items = c.in-Some.ensures.items in let h = c.requires.open_vaults 0 c.in-Some.vault in (
-      (ap (λ p. p.table) c.next_pen-pen.ensures.pen, ap (λ p. p.number) c.next_pen-pen.ensures.pen),
-      (
-        (
-          (drop_cons g.N.Names.parts.records.shape.names g.row.A _ _ (sym (ap vault_names items)
-              ∙ c.requires.names)).0,
-          (grind rules, grind rules, grind rules, grind rules, grind rules, grind rules),
-        ),
-        subst (λ (p : PenOf VaultOf). EndsIn c.in-Some.vault p.history) (sym c.next_pen-pen.ensures.pen) tt,
-      ),
+drop_cons : (zs : List TableId) (k : ℕ) (z : TableId) (rest : List TableId) → z ∷ rest ≡ drop k zs → (slice_get zs k ≡ Some z) × (rest ≡ drop (k + 1) zs)
+drop_cons zs k z rest e =
+    let long = ap length e in let below : k < length zs = omega (arith, length-drop k zs, long) in
+    let more = e ∙ drop_more zs k z below in let at = slice_get-get_or zs k z below in (cc, cc)
+
+-- the next vault, where there is one, is that of the arena a, where those that are left are of the arenas from a on
+dealt : (p : PartsOf) (a n m : ℕ) (o : Option VaultOf) (was left : List VaultOf) → length was ≡ n → length left ≡ m → MatchOption o ((n ≡ 0) × (m ≡ 0)) (λ v. (was ≡ v ∷ left) × (m + 1 ≡ n))
+    → vault_names was ≡ drop a p.records.shape.names → All (IsOpen p) was
+    → MatchOption o (length p.records.shape.names ≤ a) (λ v. IsVaultOf p a v × EndsIn v []) × (vault_names left ≡ drop (a + 1) p.records.shape.names) × All (IsOpen p) left
+dealt p a n m None was left long more is names all =
+    let zs = p.records.shape.names in let none = ap length (sym names) ∙ ap (λ l. length (vault_names l)) (nil_from_length was (long ∙ is.0)) in
+    let past : length zs ≤ a = omega (arith, length-drop a zs, none) in rw (nil_from_length left (more ∙ is.1)) (past, sym (drop_all (a + 1) zs (omega arith)), All-nil (IsOpen p))
+dealt p a n m (Some v) was left long more is names all =
+    let d = drop_cons p.records.shape.names a v.id (vault_names left) (sym (ap vault_names is.0) ∙ names) in let each = subst (All (IsOpen p)) is.0 all in
+    (((d.0, All-head (IsOpen p) v left each), tt), d.1, All-tail (IsOpen p) v left each)
+
+pub unreachable-requires : goal.unreachable-requires
+unreachable-requires g c =
+    let some : 0 < length (into_iter_items c.args.pens.now) = omega (arith, c.requires.pens.0, c.requires.arena) in search (rules, some)
+
+pub invariant_of-result : goal.invariant_of-result
+invariant_of-result g c =
+    let rest = c.args.rest.now in let left = c.next-vault.new.self in let parts = g.N.Names.parts in
+    let some : 0 < length (into_iter_items c.args.pens.now) = omega (arith, c.requires.pens.0, c.requires.arena) in
+    let pen = first_of (λ k (x : PenOf VaultOf). x ≡ fresh_pen parts.vaults k) g.row.A _ _ c.in-Some.pen c.in-Some.ensures.items _ c.requires.pens.1 some in
+    subst (λ (p : PenOf VaultOf). IsKeptAt parts g.row.A (record { vault = c.next-vault.result; pen = p })) (sym pen) (
+      (refl, refl),
+      (dealt parts g.row.A (into_iter_len rest) (into_iter_len left) c.next-vault.result (into_iter_items rest) (into_iter_items left) (search rules) (search rules) c.next-vault.ensures.cases
+          c.requires.names c.requires.open_vaults).0,
     )
 
-pub returns-in-Some-clause-names : goal.returns-in-Some-clause-names
-returns-in-Some-clause-names g c = (drop_cons g.N.Names.parts.records.shape.names g.row.A _ _ (sym (ap vault_names c.in-Some.ensures.items) ∙ c.requires.names)).1
+pub returns-clause-names : goal.returns-clause-names
+returns-clause-names g c =
+    let rest = c.args.rest.now in let left = c.next-vault.new.self in
+    (dealt g.N.Names.parts g.row.A (into_iter_len rest) (into_iter_len left) c.next-vault.result (into_iter_items rest) (into_iter_items left) (search rules) (search rules) c.next-vault.ensures.cases
+    c.requires.names c.requires.open_vaults).1
 
-pub returns-in-Some-clause-open_vaults : goal.returns-in-Some-clause-open_vaults
-returns-in-Some-clause-open_vaults g c = λ k d below. let items = c.in-Some.ensures.items in let h = c.requires.open_vaults (k + 1) d in grind rules
+pub returns-clause-open_vaults : goal.returns-clause-open_vaults
+returns-clause-open_vaults g c =
+    let rest = c.args.rest.now in let left = c.next-vault.new.self in
+    (dealt g.N.Names.parts g.row.A (into_iter_len rest) (into_iter_len left) c.next-vault.result (into_iter_items rest) (into_iter_items left) (search rules) (search rules) c.next-vault.ensures.cases
+    c.requires.names c.requires.open_vaults).2
+
+pub returns-clause-pens : goal.returns-clause-pens
+returns-clause-pens g c =
+    let long = ap length c.in-Some.ensures.items in (
+      omega (arith, c.requires.pens.0, long),
+      rest_of (λ k (x : PenOf VaultOf). x ≡ fresh_pen g.N.Names.parts.vaults k) g.row.A _ _ c.in-Some.pen c.in-Some.ensures.items _ c.requires.pens.1 _ _ (omega (arith, long)) (omega arith),
+    )

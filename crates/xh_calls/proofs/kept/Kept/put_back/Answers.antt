@@ -1,7 +1,7 @@
-use Rattle.xh_calls.proofs.Common.{All-push, IsOpen, VaultOf, [], ap, arith, length, map_push, sym, ◌++◌, ◌∙◌, ◌∷◌}
-use Rattle.std.proofs.lemmas.List.{length-map, length-take-le}
+use Rattle.xh_calls.proofs.Common.{All-push, IsOpen, VaultOf, [], ap, arith, length, map_push, sym, take, ◌++◌, ◌∙◌, ◌∷◌}
+use Rattle.std.proofs.lemmas.List.{length-map, length-take-le, take_more}
+use Rattle.std.proofs.lemmas.Option.{get_or_from_slice_get}
 use Rattle.xh_calls.proofs.Lists.{below_get}
-use Rattle.xh_calls.proofs.Taking.{take_more}
 use Rattle.xh_calls.proofs.Vaulted.{known}
 use Rattle.xh_calls.proofs.kept.Kept.put_back.Goals as goal
 
@@ -15,8 +15,10 @@ push_reserved-requires g c =
 pub returns-in-Some-clause-names : goal.returns-in-Some-clause-names
 returns-in-Some-clause-names g c =
     let is = (known g.N.Names.parts g.row.A _ c.self.inside.pen c.in-Some.vault c.in-Some.is c.self.invariant).0 in
+    let zs = g.N.Names.parts.records.shape.names in let id = c.in-Some.vault.id in
     rw c.push_reserved.ensures.items
-    (map_push (λ (v : VaultOf). v.id) _ c.in-Some.vault ∙ ap (λ l. l ++ c.in-Some.vault.id ∷ []) c.requires.names ∙ take_more g.N.Names.parts.records.shape.names g.row.A c.in-Some.vault.id is.0)
+    (map_push (λ (v : VaultOf). v.id) _ c.in-Some.vault ∙ ap (λ l. l ++ id ∷ []) c.requires.names
+    ∙ sym (take_more zs g.row.A id (below_get zs g.row.A id is.0) ∙ ap (λ z. take g.row.A zs ++ z ∷ []) (get_or_from_slice_get zs g.row.A id id is.0)))
 
 pub returns-in-Some-clause-open_vaults : goal.returns-in-Some-clause-open_vaults
 returns-in-Some-clause-open_vaults g c =

@@ -1,7 +1,6 @@
 use Rattle.std.proofs.Common.{sym, ap, suc, ◌*◌, ◌∙◌, arith}
-use Rattle.std.specs.Prelude.{None, Some}
 use Rattle.xh_history.specs.inner.Views.{front_of, stride, view_in}
-use Rattle.xh_history.proofs.Keeping.{adds, not_blank, shown_of}
+use Rattle.xh_history.proofs.Keeping.{adds, not_blank}
 use Rattle.xh_history.proofs.histories.Histories.step.Goals as goal
 
 pub store-requires : goal.store-requires
@@ -11,7 +10,7 @@ store-requires g c =
     let view = ap view_in (ap (λ b. b.views) (sym c.replace-badge.ensures.value) ∙ c.into_seat.ensures.2) in
     let me = c.join_seat.ensures in let w = c.word_at-index.ensures in
     let worker = sym (ap (λ v. v.worker) view) ∙ sym (ap (λ l. (front_of c.front.inside.badge.table_id l).number) front.one) ∙ ap (λ f. f.number) c.front.view_is in
-    let told = shown_of g.S.Shows.shows _ _ _ _ _ _ g.C.Says.calls c.args.word (Some c.in-Some.word) (pen.is ∙ ap (λ p. p.number) c.pen.view_is) (ap (λ p. p.history) c.pen.view_is) worker c.in-Some.is c.requires.shown in (
+    let told = rw (← c.pen.view_is, ← pen.is, ← worker, c.in-Some.is) at c.requires.shown in (
       me.0 ∙ ap (λ p. p.table) c.pen.view_is ∙ c.requires.tables.0 ∙ sym c.self.view_is,
       omega (arith, w.word, pen.place, c.self.invariant),
       rw me.2 (adds g.S.Shows.shows _ _ c.word_at-index.result (λ _. c.in-Some.word) _ g.C.Says.calls (w.word ∙ ap (λ n. stride * n) (sym pen.is)) (pen.alone ∙ ap suc (sym pen.is)) (rw (sym view) front.alone)
@@ -25,7 +24,7 @@ load-requires g c =
     let view = ap view_in (ap (λ b. b.views) (sym c.replace-badge.ensures.value) ∙ c.into_seat.ensures.2) in
     let me = c.join_seat.ensures in let w = c.word_at-index.ensures in
     let worker = sym (ap (λ v. v.worker) view) ∙ sym (ap (λ l. (front_of c.front.inside.badge.table_id l).number) front.one) ∙ ap (λ f. f.number) c.front.view_is in
-    let told = shown_of g.S.Shows.shows _ _ _ _ _ _ g.C.Says.calls c.args.word None (pen.is ∙ ap (λ p. p.number) c.pen.view_is) (ap (λ p. p.history) c.pen.view_is) worker c.in-None.is c.requires.shown in (
+    let told = rw (← c.pen.view_is, ← pen.is, ← worker, c.in-None.is) at c.requires.shown in (
       me.0 ∙ ap (λ p. p.table) c.pen.view_is ∙ c.requires.tables.0 ∙ sym c.self.view_is,
       omega (arith, w.word, pen.place, c.self.invariant),
       rw me.2 (adds g.S.Shows.shows _ _ c.word_at-index.result (λ n. n) _ g.C.Says.calls (w.word ∙ ap (λ n. stride * n) (sym pen.is)) (pen.alone ∙ ap suc (sym pen.is)) (rw (sym view) front.alone)

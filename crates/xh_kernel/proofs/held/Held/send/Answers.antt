@@ -1,27 +1,7 @@
-use Rattle.xh_kernel.proofs.Common.{PlaceSeen, false, rules, subst, ℕ, ◌≡◌}
-use Rattle.std.specs.Prelude.{None, Option, Some}
-use Rattle.xh_kernel.proofs.Again.{Gave, gave_so}
-use Rattle.xh_kernel.specs.Waits.{no_room}
-use Rattle.xh_place.specs.Messages.{IsSpent}
+use Rattle.xh_kernel.proofs.Common.{IsSpent, PlaceSeen, false, rules, subst, sym, ∥∥₁_map, ◌≡◌}
 use Rattle.xh_kernel.proofs.held.Held.send.Goals as goal
 
-pub returns-then-not-waits : goal.returns-then-not-waits
-returns-then-not-waits g c =
-    let xs = c.args.blocks.now in let answer = c.give-answer.result.0 in let end : ℕ = c.args.e in let leads = g.N.Names.leads in let over : c.give-answer.result.1 ≡ false = search rules in
-    let T : PlaceSeen → Type 0 = λ to. c.give-answer.result.1 ≡ false → answer ≡ no_room xs → IsSpent end to.place in
-    let U : PlaceSeen → Type 0 = λ to. (let none : Option ℕ = None in none) ≡ None → answer ≡ no_room xs → IsSpent end to.place in (
-      subst (λ s. Gave leads s.pen.number c.args.p end c.args.tag xs answer c.args.account.now c.give-answer.new.account U) c.hear-seen.ensures.1
-          (gave_so leads c.hear-seen.new.self.scribe.pen.number c.args.p end c.args.tag xs answer c.args.account.now c.give-answer.new.account T U (λ to h none. h over) c.give-answer.ensures.call),
-      tt,
-    )
-
-pub returns : goal.returns
-returns g c =
-    let xs = c.args.blocks.now in let answer = c.give-answer.result.0 in let end : ℕ = c.args.e in let leads = g.N.Names.leads in let seen : ℕ = c.hear-seen.result in
-    let T : PlaceSeen → Type 0 = λ to. c.give-answer.result.1 ≡ false → answer ≡ no_room xs → IsSpent end to.place in
-    let U : PlaceSeen → Type 0 = λ to. Some seen ≡ None → answer ≡ no_room xs → IsSpent end to.place in (
-      subst (λ s. Gave leads s.pen.number c.args.p end c.args.tag xs answer c.args.account.now c.give-answer.new.account U) c.hear-seen.ensures.1
-          (gave_so leads c.hear-seen.new.self.scribe.pen.number c.args.p end c.args.tag xs answer c.args.account.now c.give-answer.new.account T U (λ to h none. absurd (cc))
-          c.give-answer.ensures.call),
-      search rules,
-    )
+pub returns-then-not-is_to_wait-clause-vain : goal.returns-then-not-is_to_wait-clause-vain
+returns-then-not-is_to_wait-clause-vain g c = λ vain.
+    let over : c.is_to_wait.result ≡ false = search rules in let spent = c.is_to_wait.ensures.spent over vain in
+    ∥∥₁_map c.give-answer.ensures.step (λ s. (s.0, s.1, s.2, s.3, s.4, s.5, s.6, (s.7.0, subst (λ (p : PlaceSeen). IsSpent c.args.e p.place) (sym s.7.1) spent)))

@@ -1,7 +1,4 @@
-use Rattle.xh_calls.specs.Wires.{ClosesAgain}
-use Rattle.xh_kernel.proofs.Common.{ap, back_of, refl, rules, ℕ, ◌-◌, ◌∙◌}
-use Rattle.xh_kernel.proofs.Back.{came_back}
-use Rattle.xh_kernel.proofs.Recorded.{stepped}
+use Rattle.xh_kernel.proofs.Calling.{ClosesAgain, back_of, came_back, refl, rules, stepped, ℕ, ◌-◌}
 use Rattle.xh_kernel.proofs.kernel.Kernel.close_again.Goals as goal
 
 pub note-requires : goal.note-requires
@@ -13,7 +10,6 @@ note-requires g c κs within =
 
 pub returns : goal.returns
 returns g c =
-    let place = ap (λ h. h.scribe.pen.number) c.deref_mut-held.ensures.value ∙ c.held-guard.ensures in
     let d = c.close_again.ensures.closed in
     let came = came_back {P = λ _. Unit {0}} g.before (search rules) c.account.view_is refl refl (d.3, tt, d.5) in
-    (back_of c.close_again.new.till.tallies.items - g.before, ((search rules, (search rules, came.1)), stepped g.N.Names.leads _ _ c.note.new.front.fronts _ place c.note.ensures.step))
+    (back_of c.close_again.new.till.tallies.items - g.before, ((search rules, (search rules, came.1)), stepped g.N.Names.leads _ _ c.note.new.front.fronts _ (search rules) c.note.ensures.step))

@@ -1,6 +1,4 @@
-use Rattle.xh_kernel.proofs.Common.{ap, back_of, refl, rules, stays_itself, ◌-◌, ◌∙◌}
-use Rattle.xh_kernel.proofs.Back.{came_back}
-use Rattle.xh_kernel.proofs.Recorded.{stepped}
+use Rattle.xh_kernel.proofs.Calling.{back_of, came_back, refl, rules, stays_itself, stepped, ◌-◌}
 use Rattle.xh_kernel.proofs.kernel.Kernel.close_with.Goals as goal
 
 pub note-requires : goal.note-requires
@@ -11,6 +9,5 @@ note-requires g c κs within =
 
 pub returns : goal.returns
 returns g c =
-    let place = ap (λ h. h.scribe.pen.number) c.deref_mut-held.ensures.value ∙ c.held-guard.ensures in
     let came = came_back g.before (search rules) c.account.view_is refl refl c.close-answer.ensures.closed in
-    (back_of c.close-answer.new.till.tallies.items - g.before, ((search rules, (search rules, came.1)), stepped g.N.Names.leads _ _ c.note.new.front.fronts _ place c.note.ensures.step))
+    (back_of c.close-answer.new.till.tallies.items - g.before, ((search rules, (search rules, came.1)), stepped g.N.Names.leads _ _ c.note.new.front.fronts _ (search rules) c.note.ensures.step))

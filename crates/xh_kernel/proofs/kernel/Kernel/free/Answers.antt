@@ -1,6 +1,4 @@
-use Rattle.xh_kernel.proofs.Common.{ap, refl, rules, stays_itself, ◌∙◌}
-use Rattle.xh_kernel.proofs.Back.{given}
-use Rattle.xh_kernel.proofs.Recorded.{stepped}
+use Rattle.xh_kernel.proofs.Calling.{given, refl, rules, stays_itself, stepped}
 use Rattle.xh_kernel.proofs.kernel.Kernel.free.Goals as goal
 
 pub note-requires : goal.note-requires
@@ -11,5 +9,4 @@ note-requires g c κs within =
 pub returns : goal.returns
 returns g c =
     let moved = given _ _ g.N.Names.parts.records.shape.names c.account.view_is refl refl (search rules) c.free-answer.ensures.arena c.free-answer.ensures.tallies in
-    let place = ap (λ h. h.scribe.pen.number) c.deref_mut-held.ensures.value ∙ c.held-guard.ensures in
-    ((search rules, moved), stepped g.N.Names.leads _ _ c.note.new.front.fronts _ place c.note.ensures.step)
+    ((search rules, moved), stepped g.N.Names.leads _ _ c.note.new.front.fronts _ (search rules) c.note.ensures.step)

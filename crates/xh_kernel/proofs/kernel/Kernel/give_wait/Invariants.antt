@@ -1,9 +1,4 @@
-use Rattle.xh_kernel.proofs.Common.{Repeats, ℕ}
-use Rattle.xh_calls.specs.Places.{status_at}
-use Rattle.xh_place.specs.Messages.{Gives}
-use Rattle.xh_calls.specs.declared.call.Call.TheVariants.{Give}
-use Rattle.xh_kernel.specs.Waits.{no_room}
-use Rattle.xh_model.specs.Words.{place_of}
+use Rattle.xh_kernel.proofs.Common.{Give, Gives, Repeats, no_room, place_of, status_at, ℕ}
 use Rattle.xh_kernel.proofs.kernel.Kernel.give_wait.Given as goal
 
 abbrev pub invariant-loop : goal.invariant-loop

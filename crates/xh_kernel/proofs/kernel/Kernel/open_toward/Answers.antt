@@ -1,6 +1,4 @@
-use Rattle.xh_kernel.proofs.Common.{END_BYTES, ap, rules, seen_of, ◌*◌, ◌∙◌}
-use Rattle.xh_kernel.proofs.Back.{asked, tabled}
-use Rattle.xh_kernel.proofs.Recorded.{stepped}
+use Rattle.xh_kernel.proofs.Calling.{END_BYTES, ap, asked, rules, seen_of, stepped, tabled, ◌*◌, ◌∙◌}
 use Rattle.xh_kernel.proofs.kernel.Kernel.open_toward.Goals as goal
 
 pub returns-clause-vault : goal.returns-clause-vault
@@ -10,6 +8,4 @@ returns-clause-vault g c =
     (tabled parts c.account.inside.till.seen c.account.invariant.0.1 ∙ ap (seen_of parts) c.account.view_is) (tabled parts c.open_toward-answer.new.till.seen e.same.1.1) e.refused
 
 pub returns-clause-call : goal.returns-clause-call
-returns-clause-call g c =
-    let place = ap (λ h. h.scribe.pen.number) c.deref_mut-held.ensures.value ∙ c.held-guard.ensures in
-    ((search rules, search rules), stepped g.N.Names.leads _ _ c.note.new.front.fronts _ place c.note.ensures.step)
+returns-clause-call g c = ((search rules, search rules), stepped g.N.Names.leads _ _ c.note.new.front.fronts _ (search rules) c.note.ensures.step)

@@ -1,5 +1,4 @@
-use Rattle.xh_kernel.proofs.Common.{ap, rules, stays_itself, ◌∙◌}
-use Rattle.xh_kernel.proofs.Recorded.{stepped}
+use Rattle.xh_kernel.proofs.Calling.{rules, stays_itself, stepped}
 use Rattle.xh_kernel.proofs.kernel.Kernel.split.Goals as goal
 
 pub note-requires : goal.note-requires
@@ -8,6 +7,4 @@ note-requires g c κs within =
     (search rules, (search rules, (search rules, (search rules, (search rules, (held.place, held.place, held.history, stays_itself held.place, e.cut, e.same.0.3))))))
 
 pub returns : goal.returns
-returns g c =
-    let place = ap (λ h. h.scribe.pen.number) c.deref_mut-held.ensures.value ∙ c.held-guard.ensures in
-    ((search rules, search rules), stepped g.N.Names.leads _ _ c.note.new.front.fronts _ place c.note.ensures.step)
+returns g c = ((search rules, search rules), stepped g.N.Names.leads _ _ c.note.new.front.fronts _ (search rules) c.note.ensures.step)

@@ -1,5 +1,4 @@
-use Rattle.xh_kernel.proofs.Common.{Empty, Err, Repeats, TakeAny, TakesAny, ℕ}
-use Rattle.xh_model.specs.Words.{place_of}
+use Rattle.xh_kernel.proofs.Common.{Empty, Err, Repeats, TakeAny, TakesAny, place_of, ℕ}
 use Rattle.xh_kernel.proofs.kernel.Kernel.take_any_wait.Given as goal
 
 abbrev pub invariant-loop : goal.invariant-loop

@@ -1,5 +1,4 @@
-use Rattle.xh_kernel.proofs.Common.{Empty, Err, Repeats, Take, TakesAt, status_at, ℕ}
-use Rattle.xh_model.specs.Words.{place_of}
+use Rattle.xh_kernel.proofs.Common.{Empty, Err, Repeats, Take, TakesAt, place_of, status_at, ℕ}
 use Rattle.xh_kernel.proofs.kernel.Kernel.take_wait_until.Given as goal
 
 abbrev pub invariant-loop : goal.invariant-loop

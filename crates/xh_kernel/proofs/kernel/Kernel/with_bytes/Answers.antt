@@ -1,6 +1,5 @@
-use borrow.Author.Rules.{lives}
-use Rattle.xh_kernel.proofs.Common.{AccountOf, IsHistoryOf, ap, glance_of, refl, rules, stays_itself, subst, ◌∙◌}
-use Rattle.xh_kernel.proofs.Lent.{as_more, as_noted, did_read, lends}
+use Rattle.xh_kernel.proofs.Common.{AccountOf, glance_of, lives, place_of, refl, rules, stays_itself, ◌≡◌}
+use Rattle.xh_kernel.proofs.Lent.{did_read, lends, one}
 use Rattle.xh_kernel.proofs.kernel.Kernel.with_bytes.Goals as goal
 
 pub note-requires : goal.note-requires
@@ -12,13 +11,10 @@ note-requires g c κs within =
 pub returns : goal.returns
 returns g c =
     let held = c.deref_mut-held.result.now in let e = c.with_bytes-answer.ensures in let n = c.note.ensures in let inside = c.account.inside in
-    let place = ap (λ h. h.scribe.pen.number) c.deref_mut-held.ensures.value ∙ c.held-guard.ensures in
-    let mine = c.account.invariant.2 ∙ ap (λ (a : AccountOf). a.number) c.account.view_is in
+    let place : held.scribe.pen.number ≡ place_of c.args.p = search rules in
     let to : AccountOf =
     record { number = inside.number; tallies = inside.till.tallies.items; fronts = c.note.new.front.fronts; signs = inside.till.seen.number; vaults = inside.till.seen.fronts } in
-    let now = subst (λ k. IsHistoryOf g.N.Names.parts k c.note.new.self.pen.history c.with_bytes-answer.new.place) n.pen.1 n.history in
     lends g.N.Names.parts g.N.Names.leads c.args.self.now.shared.law g.F.FnMut c.args.p c.args.r held.scribe.pen.number c.args.f.now c.with_bytes-answer.new.f
-    (glance_of c.with_bytes-answer.new.place.place) held.scribe.pen.history c.note.new.self.pen.history held.place c.with_bytes-answer.new.place c.args.account.now to
-    c.with_bytes-answer.result place e
-    (as_noted refl mine (ap (λ (a : AccountOf). a.fronts) c.account.view_is) n.noted)
-    (ap (λ (a : AccountOf). a.number) c.account.view_is, ap (λ (a : AccountOf). a.tallies) c.account.view_is) held.history now (as_more _ _ mine n.one_more) n.whole
+    held.place c.with_bytes-answer.new.place c.args.account.now to c.with_bytes-answer.result place e
+    (one g.N.Names.parts held.place c.with_bytes-answer.new.place to (glance_of c.with_bytes-answer.new.place.place)
+    c.account.view_is c.account.invariant.2 refl n.pen.1 n.noted (refl, refl) n.one_more held.history n.history n.whole)

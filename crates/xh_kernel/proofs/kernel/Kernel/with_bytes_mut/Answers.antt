@@ -1,8 +1,5 @@
-use borrow.Author.Rules.{lives}
-use Rattle.xh_history.specs.Histories.{at}
-use Rattle.xh_kernel.proofs.Common.{AccountOf, IsHistoryOf, ap, glance_of, refl, rules, stays_itself, subst, sym, ◌∙◌}
-use Rattle.xh_kernel.proofs.Lent.{as_more, as_noted, did_read, did_write, lends, lends_mut}
-use Rattle.xh_kernel.specs.Lends.{LendsAll}
+use Rattle.xh_kernel.proofs.Common.{AccountOf, glance_of, LendsAll, lives, place_of, refl, rules, stays_itself, subst, ◌∙◌, ◌≡◌}
+use Rattle.xh_kernel.proofs.Lent.{did_read, did_write, lends, lends_mut, one}
 use Rattle.xh_kernel.proofs.kernel.Kernel.with_bytes_mut.Goals as goal
 
 pub note-requires : goal.note-requires
@@ -19,34 +16,25 @@ note-requires-in-Ok g c κs within =
 
 pub returns : goal.returns
 returns g c =
-    let held = c.deref_mut-held.result.now in let e = c.with_bytes-read.ensures in let n = c.note.ensures in let inside = c.account.inside in
-    let place = ap (λ h. h.scribe.pen.number) c.deref_mut-held.ensures.value ∙ c.held-guard.ensures in
-    let mine = c.account.invariant.2 ∙ ap (λ (a : AccountOf). a.number) c.account.view_is in
+    let parts = g.N.Names.parts in let held = c.deref_mut-held.result.now in let n = c.note.ensures in let inside = c.account.inside in let was = c.with_bytes-read.new.place in
+    let place : held.scribe.pen.number ≡ place_of c.args.p = search rules in
     let to : AccountOf =
     record { number = inside.number; tallies = inside.till.tallies.items; fronts = c.note.new.front.fronts; signs = inside.till.seen.number; vaults = inside.till.seen.fronts } in
-    let now = subst (λ k. IsHistoryOf g.N.Names.parts k c.note.new.self.pen.history c.with_bytes-read.new.place) n.pen.1 n.history in
-    let all = lends g.N.Names.parts g.N.Names.leads c.args.self.now.shared.law _ c.args.p c.args.r held.scribe.pen.number _ _ (glance_of c.with_bytes-read.new.place.place)
-    held.scribe.pen.history c.note.new.self.pen.history held.place c.with_bytes-read.new.place c.args.account.now to c.with_bytes-read.result place e
-    (as_noted refl mine (ap (λ (a : AccountOf). a.fronts) c.account.view_is) n.noted)
-    (ap (λ (a : AccountOf). a.number) c.account.view_is, ap (λ (a : AccountOf). a.tallies) c.account.view_is) held.history now (as_more _ _ mine n.one_more) n.whole in
-    ((subst (LendsAll g.N.Names.parts g.N.Names.leads _ c.args.p c.args.r _ _ c.args.account.now to) c.in-Err.is all).0, refl)
+    let all = lends parts g.N.Names.leads c.args.self.now.shared.law _ c.args.p c.args.r held.scribe.pen.number _ _ held.place was c.args.account.now to
+    c.with_bytes-read.result place c.with_bytes-read.ensures
+    (one parts held.place was to (glance_of was.place) c.account.view_is c.account.invariant.2 refl n.pen.1 n.noted (refl, refl) n.one_more held.history n.history n.whole) in
+    ((subst (LendsAll parts g.N.Names.leads _ c.args.p c.args.r _ _ c.args.account.now to) c.in-Err.is all).0, refl)
 
 pub returns-in-Ok : goal.returns-in-Ok
 returns-in-Ok g c =
-    let held = c.deref_mut-held.result.now in let e = c.with_bytes-read.ensures in let n = c.note.ensures in let m = c.note-in-Ok.ensures in let inside = c.account.inside in
+    let parts = g.N.Names.parts in let held = c.deref_mut-held.result.now in let n = c.note.ensures in let m = c.note-in-Ok.ensures in let inside = c.account.inside in
     let was = c.with_bytes-read.new.place in let new = c.with_bytes_mut-answer.new.place in
-    let place = ap (λ h. h.scribe.pen.number) c.deref_mut-held.ensures.value ∙ c.held-guard.ensures in
-    let mine = c.account.invariant.2 ∙ ap (λ (a : AccountOf). a.number) c.account.view_is in
+    let place : held.scribe.pen.number ≡ place_of c.args.p = search rules in
     let mid : AccountOf =
     record { number = inside.number; tallies = inside.till.tallies.items; fronts = c.note.new.front.fronts; signs = inside.till.seen.number; vaults = inside.till.seen.fronts } in
     let to : AccountOf =
     record { number = inside.number; tallies = inside.till.tallies.items; fronts = c.note-in-Ok.new.front.fronts; signs = inside.till.seen.number; vaults = inside.till.seen.fronts } in
-    let then = subst (λ k. IsHistoryOf g.N.Names.parts k c.note.new.self.pen.history was) n.pen.1 n.history in
-    let now = subst (λ k. IsHistoryOf g.N.Names.parts k c.note-in-Ok.new.self.pen.history new) (m.pen.1 ∙ n.pen.1) m.history in
-    lends_mut g.N.Names.parts g.N.Names.leads c.args.self.now.shared.law _ g.F.FnMut c.args.p c.args.r held.scribe.pen.number _ _ c.args.f.now
-    c.with_bytes_mut-answer.new.f (glance_of was.place) (glance_of new.place) held.scribe.pen.history c.note.new.self.pen.history c.note-in-Ok.new.self.pen.history held.place was new
-    c.args.account.now mid to
-    c.with_bytes-read.result c.with_bytes_mut-answer.result c.in-Ok.is place e c.with_bytes_mut-answer.ensures
-    (as_noted refl mine (ap (λ (a : AccountOf). a.fronts) c.account.view_is) n.noted) (as_noted n.pen.1 (n.front.1 ∙ c.account.invariant.2) refl m.noted)
-    (ap (λ (a : AccountOf). a.number) c.account.view_is, ap (λ (a : AccountOf). a.tallies) c.account.view_is) (refl, refl) held.history then now
-    (as_more _ _ mine n.one_more) (as_more _ _ (n.front.1 ∙ c.account.invariant.2) m.one_more) n.whole (ap (λ k. at c.note-in-Ok.new.front.fronts k) (sym n.pen.1) ∙ m.whole)
+    lends_mut parts g.N.Names.leads c.args.self.now.shared.law _ g.F.FnMut c.args.p c.args.r held.scribe.pen.number _ _ c.args.f.now c.with_bytes_mut-answer.new.f held.place was new
+    c.args.account.now mid to c.with_bytes-read.result c.with_bytes_mut-answer.result c.in-Ok.is place c.with_bytes-read.ensures c.with_bytes_mut-answer.ensures
+    (one parts held.place was mid (glance_of was.place) c.account.view_is c.account.invariant.2 refl n.pen.1 n.noted (refl, refl) n.one_more held.history n.history n.whole)
+    (one parts was new to (glance_of new.place) {view = mid} refl (n.front.1 ∙ c.account.invariant.2) n.pen.1 m.pen.1 m.noted (refl, refl) m.one_more n.history m.history m.whole)

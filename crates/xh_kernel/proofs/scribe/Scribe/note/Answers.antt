@@ -1,13 +1,17 @@
 use Rattle.xh_history.specs.Histories.{at}
-use Rattle.xh_kernel.proofs.Common.{[], ap, last_glance, subst, sym, ◌++◌, ◌∙◌, ◌∷◌, ◌≡◌}
+use Rattle.xh_kernel.proofs.Common.{Glance, [], ap, last_glance, subst, sym, ◌++◌, ◌∙◌, ◌∷◌, ◌≡◌}
 use Rattle.xh_kernel.proofs.Last.{glance_push}
 use Rattle.xh_kernel.proofs.Recorded.{noted}
+use Rattle.xh_kernel.specs.Words.{unpacked}
+use Rattle.xh_model.specs.Words.{place_of}
 use Rattle.xh_kernel.proofs.scribe.Scribe.note.Goals as goal
 
 pub invariant_of-self : goal.invariant_of-self
 invariant_of-self g c =
-    let glance = c.shown-glance.result in let pen = c.args.self.now.pen in record {
-      told = subst (λ p. last_glance p.number p.history ≡ glance) (sym c.add.ensures.pen) (glance_push pen.number pen.history c.args.front.now.number (record { call = g.call; glance = glance }));
+    let glance = c.shown-glance.result in let pen = c.args.self.now.pen in
+    let number = ap (λ (g : Glance). place_of g.process) c.shown-glance.ensures.shown ∙ c.requires.1.1.1.1.0.1 ∙ sym (ap (λ p. p.number) c.add.ensures.pen) in record {
+      told = subst (λ p. last_glance p.number p.history ≡ glance) (sym c.add.ensures.pen) (glance_push pen.number pen.history c.args.front.now.number (record { call = g.call; glance = glance }))
+          ∙ sym (subst (λ k. unpacked k c.pack-word.result ≡ glance) number c.pack-word.ensures);
     }
 
 pub returns-clause-history : goal.returns-clause-history

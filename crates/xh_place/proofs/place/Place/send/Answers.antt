@@ -1,4 +1,4 @@
-use Rattle.xh_place.proofs.Common.{arith, ◌≡◌, ℕ, ◌+◌, ◌-◌, ◌≤◌, true, List, refl, sym, ap, ◌∙◌, subst, Some, ◌==◌, list_any, vec_capacity, is_running, Event, Among, keys, put, value_at}
+use Rattle.xh_place.proofs.Common.{arith, ◌≡◌, ℕ, ◌+◌, ◌-◌, ◌≤◌, true, List, refl, sym, ap, ◌∙◌, subst, Some, ◌==◌, list_any, is_running, Event, Among, keys, put, value_at}
 use Rattle.xh_place.proofs.Common.{away, there_and_back, away_in, end_block, lens, less_all, with_done, Item, item_at, item_in, item_of, shown, with_blocks, with_events, Answers, settled}
 use Rattle.xh_place.proofs.Common.{EndpointOf}
 use Rattle.xh_place.proofs.Common.{Puts, heard, heard_shows, shown_keys, list_distinct, over_running, total_bound, IsNow, placed, place_gone, on_err_weaker, all_found, found}

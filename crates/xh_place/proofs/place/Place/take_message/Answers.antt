@@ -4,8 +4,8 @@ use Rattle.xh_place.proofs.place.Place.take_message.Goals as goal
 
 pub returns-clause-taken : goal.returns-clause-taken
 returns-clause-taken g c =
-    let t = c.pop-taken.ensures.took in let got = c.take_all-blocks.ensures.got in let way = c.pop-taken.ensures.direction.0 in let mid = c.pop-taken.new.self.place in
-    let old = c.args.self.now in let new = c.take_all-blocks.new.self in
+    let t = c.pop-taken.ensures.took in let got = c.take_all.ensures.got in let way = c.pop-taken.ensures.direction.0 in let mid = c.pop-taken.new.self.place in
+    let old = c.args.self.now in let new = c.take_all.new.self in
     let wide = seen_wide c.pop-taken.new.self new old new (ap (λ p. p.shape) t.3) (ap (λ p. p.process) t.3) c.pop-taken.ensures.seen (starts_same refl) in (
       mid,
       c.in_ok-message.message,
@@ -13,11 +13,11 @@ returns-clause-taken g c =
       record {
         number = refl;
         tag = refl;
-        records = c.take_all-blocks.ensures.records;
+        records = c.take_all.ensures.records;
         gained = got.0;
         list = got.1 ∙ ap (λ d. with_more d got.0 mid) way;
-        got = subst (λ d. AreGot (IsSeen old new) d got.0 c.take_all-blocks.result.items) way
-            (all_got_as (IsSeen c.pop-taken.new.self new) (IsSeen old new) wide c.pop-taken.result.1 got.0 c.take_all-blocks.result.items got.2);
+        got = subst (λ d. AreGot (IsSeen old new) d got.0 c.take_all.new.got.items) way
+            (all_got_as (IsSeen c.pop-taken.new.self new) (IsSeen old new) wide c.pop-taken.result.1 got.0 c.take_all.new.got.items got.2);
       },
     )
 
