@@ -1,122 +1,79 @@
--- The vaults take in the accounts: which arenas they have, whether they are full, and what their lines say.
-use Rattle.xh_books.proofs.Common.{AccountOf, All, All-cons, All-head, All-nil, All-tail, AreGathered, IsFull, IsOpen, List, Move, PartsOf, TableId, TallyOf, VaultOf, [], ap, arena_lines, arith}
-use Rattle.xh_books.proofs.Common.{back_of, bytes_out, closed_line, drop, get_or, holes_of, ids_of, length, length-drop, length-map, map, refl, set, slice_index, subst, suc, sum_by, sum_by-cons}
-use Rattle.xh_books.proofs.Common.{sym, take, taken_of, vault_names, with_tallies, with_tally, zero, ℕ, ◌++◌, ◌+◌, ◌<◌, ◌∙◌, ◌∷◌, ◌≡◌}
+-- The vaults take in the accounts, vault by vault.
+use Rattle.xh_books.proofs.Common.{AccountOf, All, AreGathered, IsOpen, List, Move, PartsOf, TallyOf, VaultOf, [], ap, arena_line, arena_lines, arith, closed_line, flat_map, get_or, ids_of, length}
+use Rattle.xh_books.proofs.Common.{length-map, lengths_of, map, refl, slice_index, subst, suc, sum_by, sum_by-cons, sym, vault_names, with_tally, tallies_of, zero, ℕ, ◌+◌, ◌<◌, ◌∙◌, ◌∷◌, ◌≡◌}
+use Rattle.std.proofs.lemmas.List.{Folds.flat_map-map, get_or-map}
 
--- ---- one account, tally by tally
+pub same_id : (ts : List TallyOf) (vs : List VaultOf) → ids_of ts ≡ vault_names vs → (k : ℕ) (t : TallyOf) (d : VaultOf) → k < length vs → (get_or ts k t).id ≡ (get_or vs k d).id
+same_id ts [] e k t d below = absurd (omega arith)
+same_id [] (v ∷ vs) e k t d below = absurd (cc)
+same_id (x ∷ ts) (v ∷ vs) e zero t d below = cc
+same_id (x ∷ ts) (v ∷ vs) e (suc k) t d below = same_id ts vs (cc) k t d (omega arith)
 
-pub collect_step : (vs : List VaultOf) (a : ℕ) (d : VaultOf) (t : TallyOf) (ts : List TallyOf) → a < length vs
-    → take a vs ++ with_tallies (drop a vs) (t ∷ ts) ≡ take (suc a) (set vs a (with_tally (get_or vs a d) t)) ++ with_tallies (drop (suc a) (set vs a (with_tally (get_or vs a d) t))) ts
-collect_step [] a d t ts h = absurd (omega arith)
-collect_step (v ∷ vs) zero d t ts h = refl
-collect_step (v ∷ vs) (suc a) d t ts h = ap (λ l. v ∷ l) (collect_step vs a d t ts (omega arith))
+pub as_many : (ts : List TallyOf) (vs : List VaultOf) → ids_of ts ≡ vault_names vs → length ts ≡ length vs
+as_many ts vs e = sym (length-map ts (λ (x : TallyOf). x.id)) ∙ ap length e ∙ length-map vs (λ (x : VaultOf). x.id)
 
-pub collect_done : (vs : List VaultOf) (a : ℕ) → take a vs ++ with_tallies (drop a vs) [] ≡ vs
-collect_done [] zero = refl
-collect_done [] (suc a) = refl
-collect_done (v ∷ vs) zero = refl
-collect_done (v ∷ vs) (suc a) = ap (λ l. v ∷ l) (collect_done vs a)
+-- what a worker's tallies took of an arena, or gave back
+abbrev moved : (TallyOf → ℕ) → ℕ → List TallyOf → ℕ
+moved way a ts = slice_index (map way ts) a
 
-pub collect_ids : (vs : List VaultOf) (a : ℕ) (d w : VaultOf) (z : TableId) (zs : List TableId) → z ∷ zs ≡ vault_names (drop a vs)
-    → (a < length vs) × (z ≡ (get_or vs a d).id) × (zs ≡ vault_names (drop (suc a) (set vs a w)))
-collect_ids [] zero d w z zs e = absurd (cc)
-collect_ids [] (suc a) d w z zs e = absurd (cc)
-collect_ids (v ∷ vs) zero d w z zs e = (omega arith, cc, cc)
-collect_ids (v ∷ vs) (suc a) d w z zs e = let r = collect_ids vs a d w z zs e in (omega arith, r.1, r.2)
+-- what the vault of an arena took in, and what these tallies still have of it, is what all have
+abbrev pub Takes : ℕ → List (List TallyOf) → List (List TallyOf) → VaultOf → VaultOf → Type 0
+Takes a all rest old new = (new ≡ record old { collected = new.collected }) × (length new.collected + length rest ≡ length all)
+    × (sum_by (λ m. m.taken) new.collected + sum_by (moved (λ t. t.taken) a) rest ≡ sum_by (moved (λ t. t.taken) a) all)
+    × (sum_by (λ m. m.back) new.collected + sum_by (moved (λ t. t.back) a) rest ≡ sum_by (moved (λ t. t.back) a) all)
 
-pub collect_below : (vs : List VaultOf) (a : ℕ) (z : TableId) (zs : List TableId) → z ∷ zs ≡ vault_names (drop a vs) → a < length vs
-collect_below vs a z zs e = let l = ap length e in omega (arith, l, length-map (drop a vs) (λ (v : VaultOf). v.id), length-drop a vs)
+takes_more : (a : ℕ) (all rest : List (List TallyOf)) (x : List TallyOf) (old new : VaultOf) (z : TallyOf) → a < length x → Takes a all (x ∷ rest) old new
+    → Takes a all rest old (with_tally new (get_or x a z))
+takes_more a all rest x old new z below h =
+    let t = get_or x a z in let m : Move = record { number = t.number; taken = t.taken; back = t.back } in
+    let taken = get_or-map (λ (y : TallyOf). y.taken) x a z 0 below in let back = get_or-map (λ (y : TallyOf). y.back) x a z 0 below in (
+      (let e = h.0 in cc),
+      omega (arith, h.1),
+      omega (arith, h.2, taken, sum_by-cons (λ (y : Move). y.taken) m new.collected, sum_by-cons (moved (λ t. t.taken) a) x rest),
+      omega (arith, h.3, back, sum_by-cons (λ (y : Move). y.back) m new.collected, sum_by-cons (moved (λ t. t.back) a) x rest),
+    )
 
--- ---- each account has a tally for each vault
+-- what a vault collected is all that changed
+kept : {B : Type 0} (f : VaultOf → B) → ((v : VaultOf) (ms : List Move) → f (record v { collected = ms }) ≡ f v) → (vs ws : List VaultOf) → length ws ≡ length vs
+    → ((k : ℕ) (d : VaultOf) → k < length vs → (ms : List Move) × (get_or ws k d ≡ record (get_or vs k d) { collected = ms })) → map f ws ≡ map f vs
+kept f same [] [] long each = refl
+kept f same (v ∷ vs) (w ∷ ws) long each =
+    let first = each 0 v (omega arith) in let here = ap f first.1 ∙ same v first.0 in
+    let rest = kept f same vs ws (omega arith) (λ k d below. each (suc k) d (omega arith)) in λ i. here i ∷ rest i
+kept f same vs ws long each = absurd (omega arith)
 
-pub as_many : (zs : List TableId) (vs : List VaultOf) (ts : List TallyOf) → vault_names vs ≡ zs → ids_of ts ≡ zs → length ts ≡ length vs
-as_many zs vs ts v t = sym (length-map ts (λ (x : TallyOf). x.id)) ∙ ap length (t ∙ sym v) ∙ length-map vs (λ (x : VaultOf). x.id)
+-- one worker's tallies more
+pub gathers : (all left rest : List (List TallyOf)) (x : List TallyOf) (vs old new : List VaultOf) → left ≡ x ∷ rest → length old ≡ length vs → length new ≡ length old → length x ≡ length old
+    → ((k : ℕ) (d : VaultOf) (t : TallyOf) → k < length old → get_or new k d ≡ with_tally (get_or old k d) (get_or x k t))
+    → ((k : ℕ) (d : VaultOf) → k < length vs → Takes k all left (get_or vs k d) (get_or old k d))
+    → (vault_names new ≡ vault_names old) × ((k : ℕ) (d : VaultOf) → k < length vs → Takes k all rest (get_or vs k d) (get_or new k d))
+gathers all left rest x vs old new step was long many each takes = (
+  kept (λ v. v.id) (λ v ms. refl) old new long (λ k d below. (_, each k d (none d) below)),
+  λ k d below. subst (Takes k all rest (get_or vs k d)) (sym (each k d (none d) (omega arith)))
+      (takes_more k all rest x (get_or vs k d) (get_or old k d) (none d) (omega arith) (rw step at (takes k d below))),
+)
+  where
+    none : VaultOf → TallyOf
+    none d = record { id = d.id; number = 0; taken = 0; back = 0 }
 
-pub names_with : (vs : List VaultOf) (ts : List TallyOf) → vault_names (with_tallies vs ts) ≡ vault_names vs
-names_with [] ts = refl
-names_with (v ∷ vs) [] = refl
-names_with (v ∷ vs) (t ∷ ts) = ap (λ zs. v.id ∷ zs) (names_with vs ts)
+lines : (all : List (List TallyOf)) (a : ℕ) (vs ws : List VaultOf) → length ws ≡ length vs
+    → ((j k : ℕ) (d : VaultOf) → j ≡ a + k → k < length vs → closed_line (get_or ws k d)
+    ≡ record (arena_line (get_or vs k d).arena) { taken = sum_by (moved (λ t. t.taken) j) all; back = sum_by (moved (λ t. t.back) j) all }) → map closed_line ws ≡ arena_lines all a vs
+lines all a [] [] long each = refl
+lines all a (v ∷ vs) (w ∷ ws) long each =
+    let rest = lines all (suc a) vs ws (omega arith) (λ j k d e below. each j (suc k) d (omega arith) (omega arith)) in
+    let here = each a 0 v (omega arith) (omega arith) in λ i. here i ∷ rest i
+lines all a vs ws long each = absurd (omega arith)
 
--- ---- all accounts, vault by vault
-
--- what an account moved of an arena, and what its vault has collected once it took all in
-abbrev move_of : ℕ → AccountOf → Move
-move_of arena a = record { number = slice_index (map (λ t. t.number) a.tallies) arena; taken = taken_of arena a; back = back_of arena a }
-
-abbrev moves_of : ℕ → List AccountOf → List Move → List Move
-moves_of arena [] ms = ms
-moves_of arena (a ∷ rest) ms = moves_of arena rest (move_of arena a ∷ ms)
-
-abbrev pub collected : ℕ → List AccountOf → List VaultOf → List VaultOf
-collected arena all [] = []
-collected arena all (v ∷ vs) = record v { collected = moves_of arena all v.collected } ∷ collected (suc arena) all vs
-
--- the first of the tallies that are left, and the others
-first_left : (k : ℕ) (ts : List TallyOf) (t : TallyOf) (rest : List TallyOf) → t ∷ rest ≡ drop k ts → ((f : TallyOf → ℕ) → slice_index (map f ts) k ≡ f t) × (rest ≡ drop (suc k) ts)
-first_left zero [] t rest e = absurd (cc)
-first_left (suc k) [] t rest e = absurd (cc)
-first_left zero (x ∷ ts) t rest e = let same : x ≡ t = cc in (λ f. ap f same, cc)
-first_left (suc k) (x ∷ ts) t rest e = first_left k ts t rest e
-
-pub one_account : (a : AccountOf) (rest : List AccountOf) (k : ℕ) (vs : List VaultOf) (ts : List TallyOf) → length ts ≡ length vs → ts ≡ drop k a.tallies
-    → collected k rest (with_tallies vs ts) ≡ collected k (a ∷ rest) vs
-one_account a rest k [] ts e left = refl
-one_account a rest k (v ∷ vs) [] e left = absurd (omega arith)
-one_account a rest k (v ∷ vs) (t ∷ ts) e left =
-    let first = first_left k a.tallies t ts left in
-    let n = first.0 (λ t. t.number) in let taken = first.0 (λ t. t.taken) in let back = first.0 (λ t. t.back) in
-    let same : record { number = t.number; taken = t.taken; back = t.back } ≡ move_of k a = sym (λ i. record { number = n i; taken = taken i; back = back i }) in
-    λ i. record v { collected = moves_of k rest (same i ∷ v.collected) } ∷ one_account a rest (suc k) vs ts (omega arith) first.1 i
-
-pub none_left : (k : ℕ) (vs : List VaultOf) → vs ≡ collected k [] vs
-none_left k [] = refl
-none_left k (v ∷ vs) = ap (λ l. v ∷ l) (none_left (suc k) vs)
-
--- ---- what they are then
-
-kept : {B : Type 0} (f : VaultOf → B) → ((v : VaultOf) (ms : List Move) → f (record v { collected = ms }) ≡ f v) → (k : ℕ) (all : List AccountOf) (vs : List VaultOf)
-    → map f (collected k all vs) ≡ map f vs
-kept f same k all [] = refl
-kept f same k all (v ∷ vs) = λ i. same v (moves_of k all v.collected) i ∷ kept f same (suc k) all vs i
-
-sum_moves : (g : Move → ℕ) (part : AccountOf → ℕ) (k : ℕ) → ((a : AccountOf) → g (move_of k a) ≡ part a) → (all : List AccountOf) (ms : List Move)
-    → sum_by g (moves_of k all ms) ≡ sum_by part all + sum_by g ms
-sum_moves g part k is [] ms = omega arith
-sum_moves g part k is (a ∷ all) ms = omega (arith, sum_moves g part k is all (move_of k a ∷ ms), sum_by-cons g (move_of k a) ms, sum_by-cons part a all, is a)
-
-length-moves : (k : ℕ) (all : List AccountOf) (ms : List Move) → length (moves_of k all ms) ≡ length all + length ms
-length-moves k [] ms = omega arith
-length-moves k (a ∷ all) ms = omega (arith, length-moves k all (move_of k a ∷ ms))
-
-module _ (p : PartsOf) where
-  full : (k : ℕ) (all : List AccountOf) (vs : List VaultOf) → length all ≡ p.workers → All (IsOpen p) vs → All IsFull (collected k all vs)
-  full k all [] count fresh = All-nil IsFull
-  full k all (v ∷ vs) count fresh =
-      let o = All-head (IsOpen p) v vs fresh in
-      All-cons IsFull (record v { collected = moves_of k all v.collected }) (collected (suc k) all vs) (omega (arith, length-moves k all v.collected, ap length o.1, o.0, count))
-      (full (suc k) all vs count (All-tail (IsOpen p) v vs fresh))
-
-  lines : (k : ℕ) (all : List AccountOf) (vs : List VaultOf) → All (IsOpen p) vs → map closed_line (collected k all vs) ≡ arena_lines all k vs
-  lines k all [] fresh = refl
-  lines k all (v ∷ vs) fresh =
-      let none = (All-head (IsOpen p) v vs fresh).1 in
-      let taken : sum_by (λ (m : Move). m.taken) (moves_of k all v.collected) ≡ sum_by (taken_of k) all = omega (
-        arith,
-        sum_moves (λ m. m.taken) (taken_of k) k (λ a. refl) all v.collected,
-        ap (sum_by (λ (m : Move). m.taken)) none,
-      ) in
-      let back : sum_by (λ (m : Move). m.back) (moves_of k all v.collected) ≡ sum_by (back_of k) all = omega (
-        arith,
-        sum_moves (λ m. m.back) (back_of k) k (λ a. refl) all v.collected,
-        ap (sum_by (λ (m : Move). m.back)) none,
-      ) in
-      λ i. record { size = length v.arena.cover; out = bytes_out v.arena.cover; holes = length (holes_of v.arena.cover); taken = taken i; back = back i } ∷ lines (suc k) all vs
-      (All-tail (IsOpen p) v vs fresh) i
-
-  pub gathered : (vs ws : List VaultOf) (all : List AccountOf) → All (IsOpen p) vs → length all ≡ p.workers → ws ≡ collected 0 all vs → AreGathered all vs ws
-  gathered vs ws all fresh count is = subst (AreGathered all vs) (sym is) record {
-    names = kept (λ v. v.id) (λ v ms. refl) 0 all vs;
-    arenas = kept (λ v. v.arena) (λ v ms. refl) 0 all vs;
-    full = full 0 all vs count fresh;
-    lines = lines 0 all vs fresh;
-  }
+pub gathered : (p : PartsOf) (vs ws : List VaultOf) (accounts : List AccountOf) → All (IsOpen p) vs → length accounts ≡ p.workers → length ws ≡ length vs
+    → ((k : ℕ) (d : VaultOf) → k < length vs → Takes k (tallies_of accounts) [] (get_or vs k d) (get_or ws k d)) → AreGathered p.records.shape.records accounts vs ws
+gathered p vs ws accounts fresh count long each = record {
+  names = kept (λ v. v.id) (λ v ms. refl) vs ws long (λ k d below. (_, (each k d below).0));
+  lengths = sym (flat_map-map lengths_of (λ (v : VaultOf). v.arena) ws) ∙ ap (flat_map lengths_of) (kept (λ v. v.arena) (λ v ms. refl) vs ws long (λ k d below. (_, (each k d below).0)))
+      ∙ flat_map-map lengths_of (λ (v : VaultOf). v.arena) vs;
+  records_are = λ k d below. ap (λ (v : VaultOf). v.arena.records) (each k d (omega arith)).0 ∙ (fresh k d (omega arith)).3;
+  full = λ k d below. let is = each k d (omega arith) in let new = (fresh k d (omega arith)).0 in let workers = ap (λ (v : VaultOf). v.workers) is.0 in
+      omega (arith, is.1, new, workers, count, length-map accounts (λ (a : AccountOf). a.tallies));
+  lines = lines (tallies_of accounts) 0 vs ws long (λ j k d e below.
+      let is = each j d (omega arith) in let same = is.0 in let taken = is.2 in let back = is.3 in let z : j ≡ k = omega (arith, e) in grind (arith, same, taken, back, z));
+}

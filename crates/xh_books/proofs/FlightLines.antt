@@ -3,8 +3,7 @@ use Rattle.xh_books.proofs.Common.{All, All-cons, All-filter, All-map, All-nil, 
 use Rattle.xh_books.proofs.Common.{PlaceOf, Process, Some, Stands, [], ap, arith, bytes_in_flight, common_steps, cond, count_by, filter, filter_passes, flight_line, flight_lines, get_or}
 use Rattle.xh_books.proofs.Common.{is_listed, is_some, length, list_any_at, ltb-true, map, nat_lt, nat_tests, number_of, picked, range_with_len, refl, slice_get, suc, sum_by, sum_by-cons}
 use Rattle.xh_books.proofs.Common.{sum_same, sum_zero, sym, true, value_at, word_of, zip, ℕ, ◌*◌, ◌+◌, ◌<◌, ◌==◌, ◌∙◌, ◌∷◌, ◌≡◌, ◌≤◌}
-use Rattle.std.proofs.lemmas.List.FromFn.{get_or-map-range_with_len, get_or-range_with_len, length-map-range_with_len, length-range_with_len}
-use Rattle.std.proofs.lemmas.List.Kept.{AllPairs-filter}
+use Rattle.std.proofs.lemmas.List.{FromFn.get_or-map-range_with_len, FromFn.get_or-range_with_len, FromFn.length-map-range_with_len, FromFn.length-range_with_len, Kept.AllPairs-filter}
 use Rattle.xh_books.proofs.Terms.{exchanged}
 
 -- ---- what the lines add up to
@@ -13,19 +12,16 @@ use Rattle.xh_books.proofs.Terms.{exchanged}
 abbrev on : ℕ × ℕ → ℕ → ℕ
 on r d = cond (r.0 == 2 + 4 * d) r.1 0
 
-abbrev blocks_on : ℕ → List (ℕ × ℕ) → ℕ
-blocks_on d = count_by (λ r. r.0 == 2 + 4 * d)
-
 -- a record on the direction has bytes
 abbrev IsFull : ℕ → ℕ × ℕ → Type 0
 IsFull d r = r.0 ≡ 2 + 4 * d → 0 < r.1
 
 -- so a line has bytes where it has records, and only there
-some_bytes : (d : ℕ) (all : List (ℕ × ℕ)) → All (IsFull d) all → blocks_on d all ≤ sum_by (λ r. on r d) all
+some_bytes : (d : ℕ) (all : List (ℕ × ℕ)) → All (IsFull d) all → count_by (λ r. r.0 == 2 + 4 * d) all ≤ sum_by (λ r. on r d) all
 some_bytes d [] full = omega arith
 some_bytes d (r ∷ all) full = grind (arith, common_steps, nat_tests, full 0 r (omega arith), some_bytes d all (All-tail (IsFull d) r all full))
 
-no_bytes : (d : ℕ) (all : List (ℕ × ℕ)) → blocks_on d all ≡ 0 → sum_by (λ r. on r d) all ≡ 0
+no_bytes : (d : ℕ) (all : List (ℕ × ℕ)) → count_by (λ r. r.0 == 2 + 4 * d) all ≡ 0 → sum_by (λ r. on r d) all ≡ 0
 no_bytes d [] none = refl
 no_bytes d (r ∷ all) none = grind (arith, common_steps, nat_tests, no_bytes d all)
 

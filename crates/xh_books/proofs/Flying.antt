@@ -62,23 +62,13 @@ valued {P} r bs h then = go (value_at r bs) refl
     go None e = absurd (no_key r bs e h)
     go (Some x) e = then x e
 
-both : (b : Bool) (m : ℕ) → m ≡ cond b m 0 + cond b 0 m
-both true m = omega arith
-both false m = omega arith
-
 -- what is in no list are all others
 split : (ps : List PlaceOf) (n k : ℕ) (lens : List ℕ) (f : ℕ → ℕ) → ((i j m : ℕ) → j ≡ k + i → slice_get lens i ≡ Some m → f j ≡ cond (is_listed (number_of n j) ps) m 0)
     → sum lens ≡ sum_by f (range_with_len k (length lens)) + bytes_in_flight ps n k lens
 split ps n k [] f each = refl
 split ps n k (m ∷ ms) f each =
-    omega (
-      arith,
-      sum_by-cons (λ x. x) m ms,
-      sum_by-cons f k (range_with_len (k + 1) (length ms)),
-      both (is_listed (number_of n k) ps) m,
-      each 0 k m (omega arith) refl,
-      split ps n (k + 1) ms f (λ i j x e at. each (suc i) j x (omega arith) at),
-    )
+    let rest = split ps n (k + 1) ms f (λ i j x e at. each (suc i) j x (omega arith) at) in
+    grind (arith, sum_by-cons (λ x. x) m ms, sum_by-cons f k (range_with_len (k + 1) (length ms)), each 0 k m (omega arith) refl, rest)
 
 -- all lengths are those that the places own, and those of the records in no list
 pub all_lists : (ps : List PlaceOf) (n : ℕ) (lens : List ℕ) → 0 < n → n ≤ 256 → All (λ p. Distinct (keys p.blocks)) ps

@@ -1,6 +1,5 @@
 pub mod Common
 pub mod Collected
-pub mod Summing
 pub mod Audited
 pub mod Terms
 pub mod Ending

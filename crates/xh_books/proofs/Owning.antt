@@ -1,14 +1,11 @@
 -- What the places list is what the closed table's lots have, each once.
-use Rattle.xh_books.proofs.Common.{All, AllZip-left, AllZip-right, AreAt, AreFlightLines, AreSeats, Body, Bool, Direction, Ends, FlightLine, Held, Holder, IsHeldBy, IsHolder}
-use Rattle.xh_books.proofs.Common.{IsInFlight, IsLotAt, IsPlaceOf, IsSeatOf, IsSeatOfPlace, IsSomeAnd, Item, List, LotOf, MatchOption-at_some, None, Option, PlaceOf, PlaceSeen, Process, RecordsOf}
-use Rattle.xh_books.proofs.Common.{Shape, Some, Stands, StartsWith, TellFlight, ap, arena_of_number, arith, below_get, bytes_in_flight, bytes_owned, elem_slice, false}
-use Rattle.xh_books.proofs.Common.{false_from_ne_true, flight_lines, get_or, get_or_from_slice_get, in_range, index_back, index_of, is_listed, is_there, item_of, length, length-map, lens_of}
-use Rattle.xh_books.proofs.Common.{lot_in, map, mod-lt, never, number_back, number_of, one_holder, option_map, place_of, place_of_number, places_of, refl, same_Some, same_place, slice_elem}
-use Rattle.xh_books.proofs.Common.{slice_get, slice_get-map, subst, sum, sym, there, value_at, word_of, zip, ℕ, ◌%◌, ◌+◌, ◌<◌, ◌∙◌, ◌≡◌, ◌≤◌}
-use Rattle.xh_books.proofs.Common.{IsLeft, IsPart, carried, deeds_by, events}
-use Rattle.xh_books.proofs.Audited.{at_map}
-use Rattle.xh_books.proofs.FlightLines.{all_full, are_lines, flying_is}
-use Rattle.xh_books.proofs.Flying.{ListsAt, all_lists, listed_at}
+use Rattle.xh_books.proofs.Common.{All, AllZip-left, AllZip-right, AreAt, AreFlightLines, AreSeats, Body, Bool, Direction, Ends, FlightLine, Held, Holder, IsHeldBy, IsHolder, IsInFlight, IsLotAt}
+use Rattle.xh_books.proofs.Common.{IsPlaceOf, IsSeatOf, IsSeatOfPlace, IsSomeAnd, Item, List, LotOf, MatchOption-at_some, None, Option, PlaceOf, PlaceSeen, Process, RecordsOf, Shape, Some, Stands}
+use Rattle.xh_books.proofs.Common.{StartsWith, TellFlight, ap, arena_of_number, arith, below_get, bytes_in_flight, bytes_owned, elem_slice, false, false_from_ne_true, flight_lines, get_or}
+use Rattle.xh_books.proofs.Common.{get_or_from_slice_get, in_range, index_back, index_of, is_listed, is_there, item_of, length, length-map, lens_of, lot_in, map, mod-lt, never, number_back}
+use Rattle.xh_books.proofs.Common.{number_of, one_holder, option_map, place_of, place_of_number, places_of, refl, same_Some, same_place, slice_elem, slice_get, slice_get-map, subst, sum, sym, there}
+use Rattle.xh_books.proofs.Common.{value_at, word_of, zip, ℕ, ◌%◌, ◌+◌, ◌<◌, ◌∙◌, ◌≡◌, ◌≤◌, IsLeft, carried, deeds_by, events}
+use Rattle.xh_books.proofs.{Audited.at_map, FlightLines.all_full, FlightLines.are_lines, FlightLines.flying_is, Flying.ListsAt, Flying.all_lists, Flying.listed_at}
 
 -- ---- the seat of a place, and the place of a seat
 
@@ -145,14 +142,6 @@ module _ (fits : Body → ℕ → Bool) (all : RecordsOf) (seats : List (Held Bo
   quiet : (k m : ℕ) (h : Option Holder) → slice_get (lens_of lots) k ≡ Some m → IsHeldBy ends.owners k h → Stands ps (number_of n k) m h
   quiet k m h at held = let t = at_map (λ (l : LotOf Body). l.len) lots k m at in stands k m h t.0 t.1 t.2 held
 
-  -- the events of each place are its part of the log, and so is what moved by them
-  parts : All (IsPart ends.log) ps
-  parts j d below =
-      let p : PlaceOf = get_or ps j d in let s = seat_at seats places j p are (there ps j d below) in (
-        sym s.2.events.0 ∙ ends.parts j s.0 s.1 ∙ ap (λ (z : ℕ). events (deeds_by (place_of z) ends.log)) s.2.same.2,
-        sym s.2.events.1 ∙ ap (map item_of) (ends.moved j s.0 s.1) ∙ ap (λ (z : ℕ). map item_of (carried (deeds_by (place_of z) ends.log))) s.2.same.2,
-      )
-
   -- what is in flight was passed there last, and has its length
   passed : (k d : ℕ) → IsHeldBy ends.owners k (Some (Direction d)) → (l : LotOf Body) × (slice_get (lens_of lots) k ≡ Some l.len) × IsLeft ends.log (number_of n k) d l
   passed k d held =
@@ -164,16 +153,15 @@ module _ (fits : Body → ℕ → Bool) (all : RecordsOf) (seats : List (Held Bo
   long : length ends.owners ≡ length (lens_of lots)
   long = sym (length-map lots (λ (l : LotOf Body). l.len) ∙ ends.lots_long)
 
-  -- and each has seen a beginning of it
-  seen : All (λ p. StartsWith ends.log p.front) places
-  seen j d below = let s = seen_at seats places j (get_or places j d) are (there places j d below) in subst (StartsWith ends.log) s.2.1 (ends.fronts j s.0 s.1)
-
   in_flight : (lines : List FlightLine) → lines ≡ flight_lines (zip words (lens_of lots)) → IsInFlight all.shape places (lens_of lots) lines
   in_flight lines e = record {
     log = ends.log;
     theirs = ends.theirs;
-    parts = parts;
-    seen = seen;
+    parts = λ j d below. let p : PlaceOf = get_or ps j d in let s = seat_at seats places j p are (there ps j d below) in (
+      sym s.2.events.0 ∙ ends.parts j s.0 s.1 ∙ ap (λ (z : ℕ). events (deeds_by (place_of z) ends.log)) s.2.same.2,
+      sym s.2.events.1 ∙ ap (map item_of) (ends.moved j s.0 s.1) ∙ ap (λ (z : ℕ). map item_of (carried (deeds_by (place_of z) ends.log))) s.2.same.2,
+    );
+    seen = λ j d below. let s = seen_at seats places j (get_or places j d) are (there places j d below) in subst (StartsWith ends.log) s.2.1 (ends.fronts j s.0 s.1);
     owners = ends.owners;
     count = long;
     leads = ends.leads;

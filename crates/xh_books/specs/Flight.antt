@@ -41,17 +41,13 @@ Stands places r n None = (n ≡ 0) × (is_listed r places ≡ false)
 Stands places r n (Some (Process p)) = (0 < n) × Any (λ q. (q.process ≡ p) × IsSomeAnd (value_at r q.blocks) (λ x. x.len ≡ n)) places
 Stands places r n (Some (Direction d)) = (0 < n) × (is_listed r places ≡ false)
 
--- a place's events are its part of the log, and what left and came by them is what the log has beside each
-abbrev pub IsPart : List (Deed Body) → PlaceOf → Type 0
-IsPart log p = (p.events ≡ events (deeds_by (place_of p.process) log)) × (p.moved ≡ map item_of (carried (deeds_by (place_of p.process) log)))
-
--- These lines are what is in flight, of records that have these lengths. There is one log of all deeds on records, each by a process of these places, of which each place's events are its part,
--- and of which each place has seen a beginning. It leads from where all records are free to the owners by which each record stands where it does, and the lines are those of these owners.
+-- These lines are what is in flight, of records that have these lengths. There is one log of all deeds on records, each by a process of these places; each place's events, and what left and came by
+-- them, are its part of it, and each place has seen a beginning of it. It leads from where all records are free to the owners by which each record stands where it does; the lines are these owners'.
 -- What arrives is what was given: whatever was accepted, or is in flight, is as the last pass of its record left it. It is quiet: whatever a process or a direction has has bytes.
 pub record IsInFlight (s : Shape) (places : List PlaceSeen) (lengths : List ℕ) (lines : List FlightLine) : Type 0 where
   pub log : List (Deed Body)
   pub theirs : (e : Event) → Among (events log) e → place_of (process_of e) < s.places
-  pub parts : All (IsPart log) (places_of places)
+  pub parts : All (λ p. let own = deeds_by (place_of p.process) log in (p.events ≡ events own) × (p.moved ≡ map item_of (carried own))) (places_of places)
   pub seen : All (λ p. StartsWith log p.front) places
   pub owners : Ownership
   pub count : length owners ≡ length lengths

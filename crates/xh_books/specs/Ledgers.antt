@@ -1,47 +1,29 @@
 -- The ledger of closed books: what it says of the vaults, the places and the accounts that were handed in.
-use Rattle.std.specs.Prelude.{◌≡◌, ℕ, suc, ◌+◌, Bool, cond, is_some, List, [], ◌∷◌, All, length, map, slice_index}
+use Rattle.std.specs.Prelude.{◌≡◌, ℕ, suc, ◌+◌, Bool, cond, is_some, List, [], ◌∷◌, All, map, slice_index}
 use Rattle.std.specs.List.{filter_map, flat_map, list_any, sum_by}
-use Rattle.xh_arena.specs.Views.{VaultOf}
+use Rattle.xh_arena.specs.Views.{TallyOf, VaultOf}
+use Rattle.xh_core.specs.ArenaLines.{arena_line}
 use Rattle.xh_core.specs.declared.ledger.ArenaLine.{ArenaLine}
 use Rattle.xh_core.specs.declared.ledger.Ledger.{Ledger}
 use Rattle.xh_core.specs.declared.ledger.PlaceLine.{PlaceLine}
-use Rattle.xh_kernel.specs.Accounts.{AccountOf}
-use Rattle.xh_model.specs.Arena.{ArenaState, lengths_of}
-use Rattle.xh_model.specs.Cover.{bytes_out, holes_of}
+use Rattle.xh_model.specs.Arena.{lengths_of}
 use Rattle.xh_model.specs.Keyed.{value_at}
 use Rattle.xh_model.specs.Words.{number_of}
 use Rattle.xh_place.specs.Places.{PlaceOf, line, line_in, total_of}
 
 -- ---- arenas
 
--- the bytes of an arena that a worker took, and those that it gave back
-abbrev pub taken_of : ℕ → AccountOf → ℕ
-taken_of arena a = slice_index (map (λ t. t.taken) a.tallies) arena
+-- the lines of the arenas from a number on: what each vault says of size, bytes handed out and holes, and what the tallies of all workers took and gave back
+abbrev pub arena_lines : List (List TallyOf) → ℕ → List VaultOf → List ArenaLine
+arena_lines tallies arena [] = []
+arena_lines tallies arena (v ∷ vs) = record (arena_line v.arena) {
+  taken = sum_by (λ ts. slice_index (map (λ t. t.taken) ts) arena) tallies;
+  back = sum_by (λ ts. slice_index (map (λ t. t.back) ts) arena) tallies;
+} ∷ arena_lines tallies (suc arena) vs
 
-abbrev pub back_of : ℕ → AccountOf → ℕ
-back_of arena a = slice_index (map (λ t. t.back) a.tallies) arena
-
--- the line of an arena: what its vault says of size, bytes handed out and holes, and what all workers took and gave back
-abbrev pub arena_line : List AccountOf → ℕ → VaultOf → ArenaLine
-arena_line accounts arena v = record {
-  size = length v.arena.cover;
-  out = bytes_out v.arena.cover;
-  holes = length (holes_of v.arena.cover);
-  taken = sum_by (taken_of arena) accounts;
-  back = sum_by (back_of arena) accounts;
-}
-
--- those of the arenas from a number on
-abbrev pub arena_lines : List AccountOf → ℕ → List VaultOf → List ArenaLine
-arena_lines accounts arena [] = []
-arena_lines accounts arena (v ∷ vs) = arena_line accounts arena v ∷ arena_lines accounts (suc arena) vs
-
--- the arenas of the vaults, and the lengths of all their records, in order
-abbrev pub arenas_of : List VaultOf → List ArenaState
-arenas_of = map (λ v. v.arena)
-
-abbrev pub all_lengths : List ArenaState → List ℕ
-all_lengths = flat_map lengths_of
+-- the lengths of all records of the vaults, in order
+abbrev pub all_lengths : List VaultOf → List ℕ
+all_lengths = flat_map (λ v. lengths_of v.arena)
 
 -- ---- places
 

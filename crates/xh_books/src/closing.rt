@@ -2,6 +2,7 @@
 ghost use Rattle.std.specs.Prelude.{◌≡◌, ◌⊎◌, ◌+◌, ◌*◌, ◌<◌, ◌≤◌, All, Err, IfErr, IfOk, Ok, length, sum, vec_len};
 ghost use Rattle.std.specs.List.{sum_by};
 ghost use Rattle.xh_calls.specs.Parts.{IsOpen, vault_names};
+ghost use Rattle.xh_kernel.specs.Finished.{tallies_of};
 ghost use Rattle.xh_kernel.specs.Places.{places_of};
 ghost use Rattle.xh_model.specs.declared.limits.TheConstants.{MAX_ARENAS, PLACES};
 ghost use Rattle.xh_place.specs.Places.{IsPlaceOf};
@@ -9,7 +10,7 @@ ghost use Rattle.xh_books.specs.Closing.{AreClosed};
 ghost use Rattle.xh_core.specs.Flight.{AreFlightLines};
 ghost use Rattle.xh_books.specs.Flight.{IsInFlight};
 ghost use Rattle.xh_books.specs.inner.Steps.{AreAt, TellFlight, lens_of};
-ghost use Rattle.xh_books.specs.Ledgers.{IsBalanced, all_lengths, arena_lines, arenas_of, bytes_in_flight, bytes_owned, place_lines};
+ghost use Rattle.xh_books.specs.Ledgers.{IsBalanced, all_lengths, arena_lines, bytes_in_flight, bytes_owned, place_lines};
 
 use crate::auditing::audit;
 use crate::collecting::gather;
@@ -100,20 +101,20 @@ pub fn close_books<N: Names>(
     requires places { All (IsPlaceOf records) (places_of places.items) × (vec_len places ≡ records.shape.places) }
     requires records { records ≡ N.parts.records }
     requires accounts { vec_len accounts ≡ N.parts.workers }
-    ensures arenas { IfOk result (λ b. b.ledger.arenas.items ≡ arena_lines accounts.items 0 vaults.items) }
+    ensures arenas { IfOk result (λ b. b.ledger.arenas.items ≡ arena_lines (tallies_of accounts.items) 0 vaults.items) }
     ensures places { IfOk result (λ b. b.ledger.places.items ≡ place_lines (places_of places.items)) }
     ensures owned { IfOk result (λ b. b.ledger.owned ≡ bytes_owned (places_of places.items)) }
-    ensures flight { IfOk result (λ b. b.ledger.flight ≡ bytes_in_flight (places_of places.items) records.shape.records 0 (all_lengths (arenas_of vaults.items))) }
+    ensures flight { IfOk result (λ b. b.ledger.flight ≡ bytes_in_flight (places_of places.items) records.shape.records 0 (all_lengths vaults.items)) }
     ensures balanced { IfOk result (λ b. IsBalanced b.ledger) }
-    ensures in_flight { IfOk result (λ b. IsInFlight records.shape places.items (all_lengths (arenas_of vaults.items)) b.flight.items) }
+    ensures in_flight { IfOk result (λ b. IsInFlight records.shape places.items (all_lengths vaults.items) b.flight.items) }
     ensures lines { IfOk result (λ b. AreFlightLines b.ledger.flight b.flight.items) }
     ensures refused { IfErr result (λ e. e ≡ Refused.OutOfMemory) }
 {
     let each = usize::from(records.per_arena());
-    let vaults = gather(vaults, accounts);
-    let (flight, lots, places) = close_table(alloc, records, places)?;
-    let vaults = audit(vaults, lots, each);
+    let mut vaults = gather(vaults, accounts);
+    let (flight, mut lots, places) = close_table(alloc, records, places)?;
     let arenas = arena_lines(vaults.as_slice());
+    audit(vaults.as_mut_slice(), lots.as_mut_slice(), each);
     let ledger = ledger(arenas, places);
     Ok(Books { ledger, flight })
 }

@@ -1,8 +1,9 @@
 // The vaults take in the accounts.
-ghost use Rattle.std.specs.Prelude.{◌≡◌, All, vec_len};
+ghost use Rattle.std.specs.Prelude.{◌≡◌, ◌<◌, ℕ, All, length, slice_index_or, vec_len};
+ghost use Rattle.xh_arena.specs.Views.{TallyOf, VaultOf};
 ghost use Rattle.xh_calls.specs.Parts.{IsOpen, vault_names};
 ghost use Rattle.xh_place.specs.Tallies.{ids_of};
-ghost use Rattle.xh_books.specs.inner.Steps.{AreGathered, with_tallies};
+ghost use Rattle.xh_books.specs.inner.Steps.{AreGathered, with_tally};
 
 use xh_arena::{Tally, Vault};
 use xh_kernel::{Account, Names};
@@ -10,7 +11,8 @@ use xh_kernel::{Account, Names};
 // Each vault takes in the tally of its arena.
 fn collect_tallies(vaults: &mut [Vault], tallies: Vec<Tally>)
     requires { ids_of tallies.items ≡ vault_names vaults.old }
-    ensures { vaults.new ≡ with_tallies vaults.old tallies.items }
+    ensures count { length vaults.new ≡ length vaults.old }
+    ensures each { (k : ℕ) (d : VaultOf) (t : TallyOf) → k < length vaults.old → slice_index_or vaults.new k d ≡ with_tally (slice_index_or vaults.old k d) (slice_index_or tallies.items k t) }
 {
     let mut arena = 0usize;
     for tally in tallies {
@@ -24,7 +26,7 @@ pub(crate) fn gather<N: Names>(mut vaults: Vec<Vault>, accounts: Vec<Account<N>>
     requires names { vault_names vaults.items ≡ N.parts.records.shape.names }
     requires open_vaults { All (IsOpen N.parts) vaults.items }
     requires all { vec_len accounts ≡ N.parts.workers }
-    ensures { AreGathered accounts.items vaults.items result.items }
+    ensures { AreGathered N.parts.records.shape.records accounts.items vaults.items result.items }
 {
     for account in accounts {
         collect_tallies(vaults.as_mut_slice(), account.into_tallies());

@@ -4,7 +4,7 @@ ghost use Rattle.std.specs.List.{cons_option, sum_by};
 ghost use Rattle.arrayvec.specs.ArrayVec.{array_vec_len};
 ghost use Rattle.xh_model.specs.declared.limits.TheConstants.{MAX_ARENAS, PLACES};
 ghost use Rattle.xh_kernel.specs.Places.{places_of};
-ghost use Rattle.xh_books.specs.inner.Steps.{AreBooks, AreSeats, IsFull, closed_line};
+ghost use Rattle.xh_books.specs.inner.Steps.{AreBooks, AreSeats, HasAllTallies, closed_line};
 ghost use Rattle.xh_books.specs.Ledgers.{bytes_owned, place_lines};
 
 use arrayvec::ArrayVec;
@@ -16,7 +16,7 @@ use xh_records::Seat;
 
 // The line of an arena, of a vault that took in all its tallies.
 fn arena_line(vault: &Vault) -> ArenaLine
-    requires { IsFull vault.now }
+    requires { HasAllTallies vault.now }
     ensures line { result ≡ closed_line vault.now }
     ensures books { AreBooks vault.now }
 {
@@ -34,7 +34,7 @@ fn arena_line(vault: &Vault) -> ArenaLine
 // The lines of all arenas.
 pub(crate) fn arena_lines(vaults: &[Vault]) -> ArrayVec<ArenaLine, ARENA_LINES>
     requires few { length vaults.now ≤ MAX_ARENAS }
-    requires full { All IsFull vaults.now }
+    requires full { All HasAllTallies vaults.now }
     ensures lines { result.items ≡ map closed_line vaults.now }
     ensures books { All AreBooks vaults.now }
 {

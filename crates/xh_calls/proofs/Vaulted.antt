@@ -26,14 +26,8 @@ module _ (p : PartsOf) (a : ℕ) where
 
     entry : Enters a v w front front'
     entry =
-        let here : HasSeen front.number (at front.fronts a) pen.history = subst (λ (k : ℕ). HasSeen front.number (at front.fronts k) pen.history) own.1 seen in record {
-          others = here.0;
-          not_its_own = here.2;
-          found = subst (EndsIn v) here.1 was.1;
-          seen = front_is ∙ ap (λ (k : ℕ). record front { fronts = slice_set front.fronts k pen'.history }) own.1
-              ∙ ap (λ (h : History VaultOf). record front { fronts = slice_set front.fronts a h })
-              (ap (λ (z : PenOf VaultOf). z.history) pen_is ∙ ap (λ (h : History VaultOf). h ++ (front.number, w) ∷ []) here.1);
-        }
+        let here : HasSeen front.number (at front.fronts a) pen.history = rw own.1 at seen in
+        record { others = here.0; not_its_own = here.2; found = subst (EndsIn v) here.1 was.1; seen = (let number = own.1 in let history = here.1 in cc) }
 
     -- where it refused to carve
     pub asked : (arena n : ℕ) (X Y : Type 0) (result : Result ℕ Refused) → arena ≡ a → IsLawfulArena w.arena → IfErr result (λ e. RefusesCarve n v.arena e × (w ≡ v) × X × Y)
@@ -48,10 +42,7 @@ module _ (p : PartsOf) (a : ℕ) where
 
   stays : (v w : VaultOf) (back : ℕ) → IsVaultOf p a v → w ≡ record v { arena = w.arena; back = back } → w.arena.records ≡ v.arena.records
       → length w.arena.cover ≡ length v.arena.cover → w.arena.limit ≡ v.arena.limit → IsVaultOf p a w
-  stays v w back is books records size limit = (
-    is.0 ∙ ap Some (sym (ap (λ (z : VaultOf). z.id) books)),
-    (ap (λ (z : VaultOf). z.workers) books ∙ is.1.0, ap (λ (z : VaultOf). z.collected) books ∙ is.1.1, is.1.2, records ∙ is.1.3, size ∙ is.1.4, limit ∙ is.1.5),
-  )
+  stays v w back is books records size limit = (let e = is.0 in cc, ((let e = is.1.0 in cc), (let e = is.1.1 in cc), is.1.2, records ∙ is.1.3, size ∙ is.1.4, limit ∙ is.1.5))
 
   module _ {B : Type 0} where
     pub carve_stays : (n : ℕ) (v w : VaultOf) (lot lot' : LotOf B) (tally tally' : TallyOf) (result : Result ℕ Refused) → IsVaultOf p a v

@@ -6,7 +6,7 @@ use Rattle.xh_core.specs.Statuses.{status_of}
 use Rattle.xh_model.specs.Words.{generation_of}
 use Rattle.xh_place.specs.Places.{IsPlaceOf, PlaceOf}
 use Rattle.xh_place.specs.Tallies.{ids_of}
-use Rattle.xh_calls.specs.declared.till.Till.{Till}
+use Rattle.xh_calls.specs.declared.heap.Till.{Till}
 use Rattle.xh_calls.specs.Parts.{PartsOf}
 
 -- the tallies of the till are of the vaults of these parts, and it has seen the histories of their arenas

@@ -11,10 +11,9 @@ ghost use Rattle.xh_calls.specs.Places.{IsServed, IsTillOf, status_at};
 ghost use Rattle.xh_calls.specs.Vaults.{AsksVault};
 
 use crate::arenas::Lent;
-use crate::heap::Heap;
+use crate::heap::{Heap, Till};
 use crate::names::Names;
 use crate::starting::check_number;
-use crate::till::Till;
 use std::alloc::Global;
 use std::sync::Wait;
 use xh_core::{Block, Refused};

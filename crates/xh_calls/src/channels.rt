@@ -19,10 +19,9 @@ ghost use Rattle.xh_calls.specs.Vaults.{AsksVault};
 ghost use Rattle.xh_calls.specs.Wires.{ClosesAgain, HasLow, OpensToward, ReceivesOr, toward_high};
 
 use crate::arenas::Lent;
-use crate::heap::Heap;
+use crate::heap::{Heap, Till};
 use crate::names::Names;
 use crate::starting::check_start;
-use crate::till::Till;
 use crate::wired::Wired;
 use std::sync::Wait;
 use xh_channel::Endpoint;

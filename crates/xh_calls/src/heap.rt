@@ -4,9 +4,18 @@ ghost use Rattle.xh_model.specs.declared.limits.TheConstants.{PLACES};
 
 use crate::arenas::Arenas;
 use crate::names::Names;
+use xh_arena::{Tally, Vault};
 use xh_channel::Channels;
+use xh_history::Front;
 use xh_place::{Body, Desk};
 use xh_records::Records;
+
+/// What a worker brings to each call: its tally of each arena, and what it has seen of each arena's history.
+#[derive(Drop)]
+pub struct Till {
+    pub tallies: Vec<Tally>,
+    pub seen: Front<Vault>,
+}
 
 /// The records, the channels and the locks of the arenas. A call reaches them with the lock of its place
 /// in hand.

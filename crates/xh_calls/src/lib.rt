@@ -13,15 +13,13 @@ mod messages;
 mod names;
 mod several;
 mod starting;
-mod till;
 mod wired;
 
 pub use arenas::Arenas;
 pub use call::{Call, Entry};
-pub use heap::Heap;
+pub use heap::{Heap, Till};
 pub use making::{Bundle, Makings, make_vaults};
 pub use names::Names;
 pub use several::{Answered, MAX_ENDS};
 pub use starting::check_start;
-pub use till::Till;
 pub use wired::Wired;

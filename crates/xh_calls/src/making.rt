@@ -1,5 +1,5 @@
 // How the parts of a kernel are made: its vaults with their lots and names, and each worker's tallies.
-ghost use Rattle.std.specs.Prelude.{◌≡◌, ◌+◌, ◌∷◌, ◌++◌, [], IfErr, IfOk, vec_len};
+ghost use Rattle.std.specs.Prelude.{◌≡◌, ◌+◌, ◌∷◌, ◌++◌, [], IfErr, IfOk, OnOk, length, vec_len};
 ghost use Rattle.xh_arena.specs.Views.{AreTallies};
 ghost use Rattle.xh_calls.specs.inner.Making.{AreBundles, AreMakings};
 
@@ -42,41 +42,25 @@ fn empty_bundles(alloc: Global, workers: u8, arenas: u8) -> Result<Vec<Bundle>, 
     Ok(bundles)
 }
 
-// The bundle with one tally more.
-fn add_tally(bundle: Bundle, tally: Tally) -> Result<Bundle, AllocError>
-    ensures { IfOk result (λ b. (b.number ≡ bundle.number) × (b.tallies.items ≡ bundle.tallies.items ++ tally ∷ [])) }
-{
-    let Bundle {
-        number,
-        mut tallies,
-    } = bundle;
-    tallies.push(tally)?;
-    Ok(Bundle { number, tallies })
-}
-
-// Each bundle gets its worker's tally of one more vault.
+// Each worker's bundle gets its tally of one more vault.
 fn deal_tallies(
-    alloc: Global,
     names: &LinkedList<Name>,
     vault: &Vault,
-    bundles: Vec<Bundle>,
+    bundles: &mut [Bundle],
     tallies: Vec<Tally>,
-) -> Result<Vec<Bundle>, AllocError>
-    requires count { vec_len tallies ≡ vec_len bundles }
-    requires bundles { AreBundles names.now bundles.items }
+) -> Result<(), AllocError>
+    requires count { vec_len tallies ≡ length bundles.old }
+    requires bundles { AreBundles names.now bundles.old }
     requires tallies { AreTallies vault.now.id (vec_len tallies) tallies.items }
-    ensures count { IfOk result (λ b. vec_len b ≡ vec_len bundles) }
-    ensures each { IfOk result (λ b. AreBundles (names.now ++ vault.now.id ∷ []) b.items) }
+    ensures count { length bundles.new ≡ length bundles.old }
+    ensures each { OnOk result (AreBundles (names.now ++ vault.now.id ∷ []) bundles.new) }
 {
-    let mut dealt = Vec::with_capacity(alloc, bundles.len())?;
-    let mut left = tallies.into_iter();
-    for bundle in bundles {
-        let Some(tally) = left.next() else {
-            unreachable!()
-        };
-        dealt.push(add_tally(bundle, tally)?)?;
+    let mut number = 0usize;
+    for tally in tallies {
+        bundles[number].tallies.push(tally)?;
+        number += 1;
     }
-    Ok(dealt)
+    Ok(())
 }
 
 // One more vault.
@@ -97,13 +81,13 @@ fn add_vault(
         mut vaults,
         mut lots,
         mut names,
-        bundles,
+        mut bundles,
     } = makings;
     let made = Vault::new::<Body>(alloc, config.bytes, config.records, config.wear, workers);
     let Ok((mut vault, mut more, tallies)) = made else {
         return Err(Refused::OutOfMemory);
     };
-    let bundles = deal_tallies(alloc, &names, &vault, bundles, tallies)?;
+    deal_tallies(&names, &vault, bundles.as_mut_slice(), tallies)?;
     names.push_back(vault.name())?;
     lots.append(&mut more)?;
     vaults.push(vault)?;

@@ -8,10 +8,9 @@ ghost use Rattle.xh_place.specs.Messages.{Gives, TakesAt};
 ghost use Rattle.xh_calls.specs.Places.{IsServed, IsTillOf, status_at};
 
 use crate::arenas::Lent;
-use crate::heap::Heap;
+use crate::heap::{Heap, Till};
 use crate::names::Names;
 use crate::starting::check_number;
-use crate::till::Till;
 use std::sync::Wait;
 use xh_core::Refused;
 use xh_place::{Desk, Gate, Place, Taken};

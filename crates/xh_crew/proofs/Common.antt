@@ -5,11 +5,11 @@ pub use Rattle.std.proofs.Common.{◌==◌, ◌∙◌, ◌∷◌, ◌≡◌, ◌
 pub use Rattle.std.proofs.lemmas.Bool.Decides.{nat_tests}
 pub use Rattle.std.proofs.lemmas.List.{length-map, nil_from_length}
 pub use Rattle.std.specs.Vec.Iter.{into_iter_items, into_iter_len}
-pub use Rattle.xh_crew.specs.Plays.{AreAnswersTo, ArePlayed, Does, DoesAmong, LAST, Plays, began, part, part_of, told}
+pub use Rattle.xh_crew.specs.Plays.{AreAnswersTo, ArePlayed, DoesLine, DoesAmong, LAST, Plays, began, part, part_of, told}
 pub use Rattle.xh_crew.specs.inner.Jobs.{IsHand, Joins, Left, PlaceIsDone}
 pub use Rattle.xh_model.specs.declared.limits.TheConstants.{PLACES}
 pub use Rattle.xh_script.specs.declared.command.Line.{Line}
 pub use Rattle.xh_script.specs.declared.replies.Answered.{Answered}
 pub use Rattle.xh_script.specs.declared.replies.Reply.{Reply}
-pub use Rattle.xh_session.specs.Bindings.{Bindings, no_bindings, number_of, process_at}
+pub use Rattle.xh_session.specs.Bindings.{Bindings, no_bindings, number_at, process_at}
 pub use Rattle.xh_session.specs.Plans.{World, world_of}

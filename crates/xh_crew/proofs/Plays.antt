@@ -104,42 +104,29 @@ module _ (b : Bindings) (k : ℕ) where
   replies_more (l ∷ lines) (x ∷ answers) (suc i) line a below e long =
       if_more (part_of b l == k) x.reply _ _ _ (replies_more lines answers i line a (omega arith) e (omega arith))
 
-  -- what was told with what is left is the same after it, and enough is left
-  told_more : (own : Bool) (p : ℕ) (told : List Reply) (reply : Reply) (rest : List Reply) (parts : List (List Reply)) (all : List Reply) → (p == k) ≡ own → p < length parts
-      → get_or parts p [] ≡ reply ∷ rest → told ++ get_or parts k [] ≡ all → (told ++ (if own then reply ∷ [] else [])) ++ get_or (set parts p rest) k [] ≡ all
-  told_more true p told reply rest parts all is below first h =
-      let same : p ≡ k = grind (arith, nat_tests) in
-      let now_ : get_or (set parts p rest) k [] ≡ rest = ap (λ n. get_or (set parts p rest) n []) (sym same) ∙ get_or-set_same parts p rest [] below in
-      rw now_ (append_assoc told (reply ∷ []) rest ∙ ap (λ l. told ++ l) (sym first ∙ ap (λ n. get_or parts n []) same) ∙ h)
-  told_more false p told reply rest parts all is below first h =
-      let apart : k ≢ p = grind (arith, nat_tests) in
-      rw (get_or-set_other parts p k rest [] apart, append-nil told) h
+  -- what is told of a part, and then what is left of it, is all of it; and each of its lines that are left has one
+  abbrev pub Deals : List Line → List Answered → List (List Reply) → List Reply → ℕ → Type 0
+  Deals lines answers parts all i = (replies_in b k (take i lines) answers ++ get_or parts k [] ≡ all) × (length (get_or parts k []) ≡ length (part b k (drop i lines)))
 
-  left_enough : (own : Bool) (p : ℕ) (reply : Reply) (rest : List Reply) (parts : List (List Reply)) (line : Line) (lines : List Line) → (p == k) ≡ own → p < length parts
-      → get_or parts p [] ≡ reply ∷ rest → length (get_or parts k []) ≡ length (if own then line ∷ part b k lines else part b k lines)
-      → length (get_or (set parts p rest) k []) ≡ length (part b k lines)
-  left_enough true p reply rest parts line lines is below first h =
+  dealt : (own : Bool) (p : ℕ) (told : List Reply) (reply : Reply) (rest : List Reply) (parts : List (List Reply)) (all : List Reply) (line : Line) (lines : List Line) → (p == k) ≡ own
+      → p < length parts → get_or parts p [] ≡ reply ∷ rest → told ++ get_or parts k [] ≡ all → length (get_or parts k []) ≡ length (if own then line ∷ part b k lines else part b k lines)
+      → ((told ++ (if own then reply ∷ [] else [])) ++ get_or (set parts p rest) k [] ≡ all) × (length (get_or (set parts p rest) k []) ≡ length (part b k lines))
+  dealt true p told reply rest parts all line lines is below first h enough =
       let same : p ≡ k = grind (arith, nat_tests) in
       let now_ : get_or (set parts p rest) k [] ≡ rest = ap (λ n. get_or (set parts p rest) n []) (sym same) ∙ get_or-set_same parts p rest [] below in
       let was : get_or parts k [] ≡ reply ∷ rest = ap (λ n. get_or parts n []) (sym same) ∙ first in
-      omega (arith, ap (λ l. length l) now_, ap (λ l. length l) was, h)
-  left_enough false p reply rest parts line lines is below first h =
+      (rw now_ (append_assoc told (reply ∷ []) rest ∙ ap (λ l. told ++ l) (sym was) ∙ h), omega (arith, ap (λ l. length l) now_, ap (λ l. length l) was, enough))
+  dealt false p told reply rest parts all line lines is below first h enough =
       let apart : k ≢ p = grind (arith, nat_tests) in
-      rw (get_or-set_other parts p k rest [] apart) h
+      (rw (get_or-set_other parts p k rest [] apart, append-nil told) h, rw (get_or-set_other parts p k rest [] apart) enough)
 
-  pub next_told : (lines : List Line) (answers : List Answered) (i : ℕ) (line : Line) (reply : Reply) (rest : List Reply) (parts : List (List Reply)) (all : List Reply) → i < length lines
-      → get_or lines i line ≡ line → length answers ≡ i → part_of b line < length parts → get_or parts (part_of b line) [] ≡ reply ∷ rest
-      → replies_in b k (take i lines) answers ++ get_or parts k [] ≡ all
-      → replies_in b k (take (i + 1) lines) (answers ++ record { line = line.number; reply = reply } ∷ []) ++ get_or (set parts (part_of b line) rest) k [] ≡ all
-  next_told lines answers i line reply rest parts all below e long within first h =
-      rw (add-one i, replies_more lines answers i line (record { line = line.number; reply = reply }) below e long)
-      (told_more (part_of b line == k) (part_of b line) (replies_in b k (take i lines) answers) reply rest parts all refl within first h)
-
-  pub next_enough : (lines : List Line) (i : ℕ) (line : Line) (reply : Reply) (rest : List Reply) (parts : List (List Reply)) → i < length lines → get_or lines i line ≡ line
-      → part_of b line < length parts → get_or parts (part_of b line) [] ≡ reply ∷ rest → length (get_or parts k []) ≡ length (part b k (drop i lines))
-      → length (get_or (set parts (part_of b line) rest) k []) ≡ length (part b k (drop (i + 1) lines))
-  next_enough lines i line reply rest parts below e within first h =
-      left_enough (part_of b line == k) (part_of b line) reply rest parts line (drop (i + 1) lines) refl within first (h ∙ ap (λ ls. length (part b k ls)) (drop_at lines i line below e))
+  pub deals_more : (lines : List Line) (answers : List Answered) (i : ℕ) (line : Line) (reply : Reply) (rest : List Reply) (parts : List (List Reply)) (all : List Reply) → i < length lines
+      → get_or lines i line ≡ line → length answers ≡ i → part_of b line < length parts → get_or parts (part_of b line) [] ≡ reply ∷ rest → Deals lines answers parts all i
+      → Deals lines (answers ++ record { line = line.number; reply = reply } ∷ []) (set parts (part_of b line) rest) all (i + 1)
+  deals_more lines answers i line reply rest parts all below e long within first (h, enough) =
+      let (told, left) = dealt (part_of b line == k) (part_of b line) (replies_in b k (take i lines) answers) reply rest parts all line (drop (i + 1) lines) refl within first h
+      (enough ∙ ap (λ ls. length (part b k ls)) (drop_at lines i line below e)) in
+      (rw (add-one i, replies_more lines answers i line (record { line = line.number; reply = reply }) below e long) told, left)
 
 -- of a line's part a reply is left
 pub some_left : (b : Bindings) (lines : List Line) (i : ℕ) (line : Line) (n : ℕ) → i < length lines → get_or lines i line ≡ line → n ≡ length (part b (part_of b line) (drop i lines)) → 0 < n

@@ -1,6 +1,6 @@
 -- Lemmas on whole runs: what all have played is what the answers tell.
-use Rattle.xh_crew.proofs.Common.{Answered, ArePlayed, Bindings, Bool, Does, DoesAmong, IsHand, Joins, LAST, Left, Line, List, None, PLACES, PlaceIsDone, Plays, Reply}
-use Rattle.xh_crew.proofs.Common.{ap, arith, began, false, get_or, if◌then◌else◌, length, map, nat_tests, number_of, part, process_at, refl, subst, suc, sym, true, world_of, zero, ℕ, ◌+◌, ◌++◌}
+use Rattle.xh_crew.proofs.Common.{Answered, ArePlayed, Bindings, Bool, DoesLine, DoesAmong, IsHand, Joins, LAST, Left, Line, List, None, PLACES, PlaceIsDone, Plays, Reply}
+use Rattle.xh_crew.proofs.Common.{ap, arith, began, false, get_or, if◌then◌else◌, length, map, nat_tests, number_at, part, process_at, refl, subst, suc, sym, true, world_of, zero, ℕ, ◌+◌, ◌++◌}
 use Rattle.xh_crew.proofs.Common.{World, [], ◌<◌, ◌==◌, ◌∙◌, ◌∷◌, ◌≡◌, ◌≤◌}
 use Rattle.std.proofs.Math.Dec.{eqb-suc-zero}
 use Rattle.xh_model.specs.declared.row.Row.{Row}
@@ -12,7 +12,7 @@ use Rattle.xh_crew.specs.declared.job.Done.{Done}
 use Rattle.xh_crew.specs.declared.job.Shared.{Shared}
 use Rattle.xh_crew.specs.Plays.{AllZipFrom, PlayAll, PlaysPlace, is_placed, process_of, replies_in}
 use Rattle.xh_script.specs.Forms.{is_head}
-use Rattle.xh_session.specs.Questions.{Answer, Question}
+use Rattle.xh_session.specs.Questions.{AnswerTo, Question}
 
 -- ---- the head
 
@@ -25,8 +25,8 @@ zero_at false false n = eqb-suc-zero PLACES
 pub same_head : (b c : Bindings) (lines : List Line) → part b 0 lines ≡ part c 0 lines
 same_head b c [] = refl
 same_head b c (line ∷ lines) = rw (
-  zero_at (is_head line.command.form) (is_placed b (process_of line)) (number_of b (process_of line)),
-  zero_at (is_head line.command.form) (is_placed c (process_of line)) (number_of c (process_of line)),
+  zero_at (is_head line.command.form) (is_placed b (process_of line)) (number_at b (process_of line)),
+  zero_at (is_head line.command.form) (is_placed c (process_of line)) (number_at c (process_of line)),
   same_head b c lines,
 ) refl
 
@@ -49,7 +49,7 @@ pub behind_count : {M : Type 0} (dones : List (Done M)) (rests : List Reply) →
 behind_count [] rests = refl
 behind_count (done ∷ dones) rests = ap suc (behind_count dones rests)
 
-module _ {M S : Type 0} (state : M → S) (did : S → (q : Question) → Answer q → S → Type 0) where
+module _ {M S : Type 0} (state : M → S) (did : S → (q : Question) → AnswerTo q → S → Type 0) where
   -- what was joined of a place is what is left of it
   pub place_joined : {G : Type 0} (shared : Shared G) (k : ℕ) (machine : M) (hand : Hand M G) (done : Done M) → IsHand state shared k machine hand → Joins state did hand done
       → Left state did shared.ready.now shared.lines.now k (record { machine = state machine; names = shared.ready.now; contracts = shared.contracts.now }) done
@@ -100,21 +100,21 @@ module _ {M S : Type 0} (state : M → S) (did : S → (q : Question) → Answer
           )
 
       pub all_played : (first : S) (end : World S) (olds : List M) (heads rests : List Reply) (dones : List (Done M)) → length dones ≡ PLACES
-          → Plays (Does did) (began first contracts) (part ready.names 0 lines) heads ready → AreDone 0 olds dones → Plays (Does did) ready (part ready.names LAST lines) rests end
+          → Plays (DoesLine did) (began first contracts) (part ready.names 0 lines) heads ready → AreDone 0 olds dones → Plays (DoesLine did) ready (part ready.names LAST lines) rests end
           → AreTold ready.names lines answers (heads ∷ behind dones rests)
           → PlayAll did contracts lines answers first (map state olds) end.machine (map state (map (λ done. done.machine) dones))
       all_played first end olds heads rests dones count head places rest told = record {
         ready = ready;
         end = end;
-        head = subst (λ rs. Plays (Does did) (began first contracts) (part ready.names 0 lines) rs ready) (sym (told 0 (omega arith))) head;
+        head = subst (λ rs. Plays (DoesLine did) (began first contracts) (part ready.names 0 lines) rs ready) (sym (told 0 (omega arith))) head;
         places = places_played 0 olds dones rests places (λ j below. sym (told (suc j) (omega (arith, count))) ∙ ap (λ n. replies_in ready.names (suc n) lines answers) (omega arith));
-        rest = subst (λ rs. Plays (Does did) ready (part ready.names LAST lines) rs end)
+        rest = subst (λ rs. Plays (DoesLine did) ready (part ready.names LAST lines) rs end)
             (sym (told LAST (omega arith) ∙ ap (λ n. get_or (behind dones rests) n []) (sym count) ∙ at_last dones rests)) rest;
         left = refl;
       }
 
 -- as many machines are left
-pub played_count : {S : Type 0} (did : S → (q : Question) → Answer q → S → Type 0) (contracts : List (List Row)) (lines : List Line) (answers : List Answered) (olds news : List S)
+pub played_count : {S : Type 0} (did : S → (q : Question) → AnswerTo q → S → Type 0) (contracts : List (List Row)) (lines : List Line) (answers : List Answered) (olds news : List S)
     → ArePlayed did contracts lines answers olds news → length news ≡ length olds
 played_count did contracts lines answers [] news p = absurd p
 played_count did contracts lines answers (first ∷ olds) [] p = absurd p

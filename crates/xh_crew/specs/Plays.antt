@@ -1,9 +1,11 @@
 -- How the lines of a script are played on threads: the head, then the commands of each process by a machine of its own, and last those of processes without a place.
-use Rattle.std.specs.Prelude.{◌≡◌, ◌==◌, ◌&&◌, ◌%◌, ℕ, suc, nat_le, nat_lt, not, Bool, true, false, List, [], ◌∷◌, map, replicate, slice_index_or, slice_set, if◌then◌else◌, Option, Some, None}
+use Rattle.std.specs.Prelude.{◌≡◌, ◌≢◌, ◌⊎◌, ◌==◌, ◌&&◌, ◌%◌, ℕ, suc, nat_le, nat_lt, not, Bool, true, false, List, [], ◌∷◌, map, replicate, slice_index_or, slice_set, if◌then◌else◌, Option, Some, None}
 use Rattle.std.specs.List.{filter, list_any}
 use Rattle.xh_model.specs.declared.limits.TheConstants.{PLACES}
 use Rattle.xh_model.specs.declared.row.Row.{Row}
 use Rattle.xh_script.specs.declared.command.Line.{Line}
+use Rattle.xh_script.specs.declared.fault.Fault.{Fault}
+use Rattle.xh_script.specs.declared.fault.Fault.TheVariants.{Gate, Memory}
 use Rattle.xh_script.specs.declared.form.Form.{Form}
 use Rattle.xh_script.specs.declared.form.Form.TheVariants.{Again, Glance, Kill}
 use Rattle.xh_script.specs.declared.replies.Answered.{Answered}
@@ -11,9 +13,9 @@ use Rattle.xh_script.specs.declared.replies.Reply.{Reply}
 use Rattle.xh_script.specs.declared.replies.Reply.TheVariants.{Started}
 use Rattle.xh_script.specs.Forms.{is_head}
 use Rattle.xh_script.specs.Operands.{name}
-use Rattle.xh_session.specs.Bindings.{Bindings, names_by_place, no_bindings, number_of, process_at, renumbered, started}
+use Rattle.xh_session.specs.Bindings.{Bindings, names_by_place, no_bindings, number_at, process_at, renumbered, started}
 use Rattle.xh_session.specs.Plans.{Follows, World, plan}
-use Rattle.xh_session.specs.Questions.{Question, Answer}
+use Rattle.xh_session.specs.Questions.{Question, AnswerTo}
 
 -- ---- which lines are whose
 
@@ -27,7 +29,7 @@ is_some_of p (Some q) = q == p
 
 -- whether a process has one of the 32 places, by what the names stand for
 abbrev pub is_placed : Bindings → ℕ → Bool
-is_placed b p = nat_lt (number_of b p) PLACES && is_some_of p (process_at b (number_of b p))
+is_placed b p = nat_lt (number_at b p) PLACES && is_some_of p (process_at b (number_at b p))
 
 -- the last part of a run
 abbrev pub LAST : ℕ
@@ -36,7 +38,7 @@ LAST = suc PLACES
 -- the part of a run to which a line belongs, by what the names stand for after the head: 0 is the head, 1 + k are the commands of the process that has
 -- the place k, and the last part those of processes without a place
 abbrev pub part_of : Bindings → Line → ℕ
-part_of b line = if is_head line.command.form then 0 else if is_placed b (process_of line) then suc (number_of b (process_of line)) else LAST
+part_of b line = if is_head line.command.form then 0 else if is_placed b (process_of line) then suc (number_at b (process_of line)) else LAST
 
 -- the lines of a part, in their order
 abbrev pub part : Bindings → ℕ → List Line → List Line
@@ -110,6 +112,10 @@ Plays Step old [] (reply ∷ replies) new = ⊥
 Plays Step old (line ∷ lines) [] new = ⊥
 Plays {S} Step old (line ∷ lines) (reply ∷ replies) new = (mid : World S) × Step old line reply mid × Plays Step mid lines replies new
 
+-- a run stops so: memory was refused, or the gate stopped a worker, which one that always lets them through doesn't
+abbrev pub MayStop : Bool → Fault → Type 0
+MayStop always fault = (fault ≡ Memory) ⊎ ((fault ≡ Gate) × (always ≢ true))
+
 -- the items of two lists, place by place; the places count from k on
 abbrev pub AllZipFrom : {A B : Type 0} → (ℕ → A → B → Type 0) → ℕ → List A → List B → Type 0
 AllZipFrom R k [] [] = Unit {0}
@@ -121,16 +127,16 @@ AllZipFrom R k (x ∷ xs) (y ∷ ys) = R k x y × AllZipFrom R (suc k) xs ys
 abbrev pub began : {S : Type 0} → S → List (List Row) → World S
 began first contracts = record { machine = first; names = no_bindings; contracts = contracts }
 
-module _ {S : Type 0} (did : S → (q : Question) → Answer q → S → Type 0) where
+module _ {S : Type 0} (did : S → (q : Question) → AnswerTo q → S → Type 0) where
   -- a machine did the command of a line: what the command asked was answered by the machine, and the reply and the names follow of the answers
-  abbrev pub Does : World S → Line → Reply → World S → Type 0
-  Does old line reply new = Follows did (plan old.names old.contracts line.command) old reply new
+  abbrev pub DoesLine : World S → Line → Reply → World S → Type 0
+  DoesLine old line reply new = Follows did (plan old.names old.contracts line.command) old reply new
 
   -- the same, while other workers do the others of the lines: where it names a process that one of them starts again, that name may have another number by
   -- then; every other name stands for what it stood for
   abbrev pub DoesAmong : List Line → World S → Line → Reply → World S → Type 0
   DoesAmong lines old line reply new = (n : ℕ)
-      × Does (if names_renewed lines line then record old { names = renumbered old.names (other_of line) n } else old) line reply new
+      × DoesLine (if names_renewed lines line then record old { names = renumbered old.names (other_of line) n } else old) line reply new
 
   -- a script's lines, with the answers of a report
   module _ (contracts : List (List Row)) (lines : List Line) (answers : List Answered) where
@@ -146,9 +152,9 @@ module _ {S : Type 0} (did : S → (q : Question) → Answer q → S → Type 0)
     pub record PlayAll (first : S) (olds : List S) (last : S) (news : List S) : Type 0 where
       pub ready : World S
       pub end : World S
-      pub head : PlaysPart Does ready.names 0 (began first contracts) ready
+      pub head : PlaysPart DoesLine ready.names 0 (began first contracts) ready
       pub places : AllZipFrom (PlaysPlace ready) 0 olds news
-      pub rest : PlaysPart Does ready.names LAST ready end
+      pub rest : PlaysPart DoesLine ready.names LAST ready end
       pub left : end.machine ≡ last
 
     -- the machines, as they were before, played all lines, and this is what they are after

@@ -1,9 +1,8 @@
 //! A thread for each place that has a process.
 ghost use Rattle.std.specs.Prelude.{◌≡◌, ◌<◌, ◌≤◌, [], IfOk, MatchResult, OnOk, vec_len};
 ghost use Rattle.xh_model.specs.declared.limits.TheConstants.{PLACES};
-ghost use Rattle.xh_crew.specs.inner.Jobs.{ArePlaces, IsHand, IsJob, Joins};
-ghost use Rattle.xh_crew.specs.Plays.{AllZipFrom};
-ghost use Rattle.xh_crew.specs.Stops.{MayStop};
+ghost use Rattle.xh_crew.specs.inner.Jobs.{ArePlacesDone, IsHand, IsJob, Joins};
+ghost use Rattle.xh_crew.specs.Plays.{AllZipFrom, MayStop};
 
 use crate::job::{Done, Job, Shared};
 use crate::play::part_of;
@@ -167,7 +166,7 @@ fn run_in<
     shared: &'s Shared<'a, G>,
 ) -> Result<Vec<Done<M>>, Fault>
     requires { vec_len machines ≤ PLACES }
-    ensures { MatchResult result (λ dones. ArePlaces M.state M.did shared.now machines.items dones.items) (MayStop G.always) }
+    ensures { MatchResult result (λ dones. ArePlacesDone M.state M.did shared.now machines.items dones.items) (MayStop G.always) }
 {
     let dones = Vec::with_capacity(alloc, machines.len())?;
     let mut hands = Vec::with_capacity(alloc, machines.len())?;
@@ -188,14 +187,14 @@ pub(crate) fn work_all<'s, 'a: 's, M: Machine + Send, R: Threads + Wait + Sync, 
     shared: &'s Shared<'a, G>,
 ) -> Result<Vec<Done<M>>, Fault>
     requires { vec_len machines ≤ PLACES }
-    ensures { MatchResult result (λ dones. ArePlaces M.state M.did shared.now machines.items dones.items) (MayStop G.always) }
+    ensures { MatchResult result (λ dones. ArePlacesDone M.state M.did shared.now machines.items dones.items) (MayStop G.always) }
 {
     thread::scope(
         thread::scope_env(),
         rt,
         |scope| -> Result<Vec<Done<M>>, Fault>
             requires { vec_len machines ≤ PLACES }
-            ensures { MatchResult result (λ dones. ArePlaces M.state M.did shared.entry.now machines.items dones.items) (MayStop G.always) }
+            ensures { MatchResult result (λ dones. ArePlacesDone M.state M.did shared.entry.now machines.items dones.items) (MayStop G.always) }
         { run_in(scope, rt, alloc, machines, shared) },
     )
 }

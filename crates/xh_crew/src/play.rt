@@ -2,9 +2,8 @@
 ghost use Rattle.std.specs.Prelude.{◌≡◌, ◌<◌, ◌≤◌, [], suc, IfOk, IfErr};
 ghost use Rattle.std.specs.List.{list_any};
 ghost use Rattle.xh_model.specs.declared.limits.TheConstants.{PLACES};
-ghost use Rattle.xh_crew.specs.Plays.{DoesAmong, LAST, Plays, is_placed, names_another, names_renewed, part, part_of, renews};
+ghost use Rattle.xh_crew.specs.Plays.{DoesAmong, LAST, MayStop, Plays, is_placed, names_renewed, part, part_of, renews};
 ghost use Rattle.xh_crew.specs.inner.Jobs.{Hears, Leaves};
-ghost use Rattle.xh_crew.specs.Stops.{MayStop};
 ghost use Rattle.xh_session.specs.Plans.{world_of};
 
 use crate::job::{Done, Job, Shared};
@@ -39,12 +38,6 @@ pub(crate) fn part_of(names: &Bindings, line: &Line) -> u8
     }
 }
 
-fn names_another(form: Form) -> bool
-    ensures { result ≡ names_another form }
-{
-    matches!(form, Form::Kill | Form::Glance)
-}
-
 // Whether the line starts the process again.
 #[tactic(auto, unfolding(crate::specs::Plays::renews))]
 fn renews(process: u8, line: &Line) -> bool
@@ -57,12 +50,7 @@ fn renews(process: u8, line: &Line) -> bool
 fn is_renewed(lines: &[Line], process: u8) -> bool
     ensures { result ≡ list_any (renews process) lines.now }
 {
-    for line in lines {
-        if renews(process, line) {
-            return true;
-        }
-    }
-    false
+    lines.iter().any(|line| renews(process, line))
 }
 
 // Whether the line's command names a process, not its own, that one of the lines starts again.
@@ -71,7 +59,9 @@ fn names_renewed(lines: &[Line], line: &Line) -> bool
     ensures { result ≡ names_renewed lines.now line.now }
 {
     let other = line.command.name(1);
-    names_another(line.command.form) && other != line.command.name(0) && is_renewed(lines, other)
+    matches!(line.command.form, Form::Kill | Form::Glance)
+        && other != line.command.name(0)
+        && is_renewed(lines, other)
 }
 
 // By which number the process goes by now that the line's command names, where another worker may start it again.
@@ -110,14 +100,13 @@ fn play<'a, M: Machine, R: Wait, G: Gate>(
     shared: &Shared<'_, G>,
     session: &mut Session<'a, M>,
     place: u8,
-    room: Vec<Reply>,
+    mut replies: Vec<Reply>,
 ) -> Result<Vec<Reply>, Fault>
-    requires { (place < PLACES) × (room.items ≡ []) }
+    requires { (place < PLACES) × (replies.items ≡ []) }
     ensures played { IfOk result (λ replies. Plays (DoesAmong M.did shared.now.lines.now) (world_of M.state session.old) (part shared.now.ready.now (suc place) shared.now.lines.now) replies.items
         (world_of M.state session.new)) }
     ensures stopped { IfErr result (MayStop G.always) }
 {
-    let mut replies = room;
     let mut command = 0u32;
     for line in shared.lines {
         if part_of(shared.ready, line) == place + 1 {
@@ -153,11 +142,7 @@ impl<'a, M: Machine> Job<'a, M> {
         } else {
             Err(Fault::Memory)
         };
-        let Session {
-            machine,
-            names: _,
-            contracts: _,
-        } = session;
+        let Session { machine, .. } = session;
         let replies = played?;
         Ok(Done { machine, replies })
     }

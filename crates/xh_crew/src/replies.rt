@@ -1,5 +1,5 @@
 //! The replies to the lines of a script, out of those of its parts, and what they tell.
-ghost use Rattle.std.specs.Prelude.{◌≡◌, ◌≤◌, [], ◌∷◌, ◌++◌, IfOk, map, replicate, suc, vec_len};
+ghost use Rattle.std.specs.Prelude.{◌≡◌, [], ◌∷◌, ◌++◌, IfOk, map, replicate, suc, vec_len};
 ghost use Rattle.std.specs.Vec.Iter.{into_iter_items};
 ghost use Rattle.xh_crew.specs.inner.Jobs.{AreEnough, AreTold};
 ghost use Rattle.xh_crew.specs.Plays.{AreAnswersTo, LAST, names_after, numbers_after, told};

@@ -1,10 +1,9 @@
 //! The run itself: the head, the workers, and what they leave.
 ghost use Rattle.std.specs.Prelude.{◌≡◌, ◌≤◌, IfErr, IfOk, MatchResult, length, map, vec_len};
 ghost use Rattle.xh_model.specs.declared.limits.TheConstants.{MAX_WORKERS, PLACES};
-ghost use Rattle.xh_crew.specs.Plays.{AllZipFrom, AreAnswersTo, ArePlayed, Does, HasNames, PlayAll, Plays, part};
+ghost use Rattle.xh_crew.specs.Plays.{AllZipFrom, AreAnswersTo, ArePlayed, DoesLine, HasNames, MayStop, PlayAll, Plays, part};
 ghost use Rattle.xh_crew.specs.inner.Jobs.{PlaceIsDone};
 ghost use Rattle.xh_session.specs.Bindings.{no_bindings};
-ghost use Rattle.xh_crew.specs.Stops.{MayStop};
 ghost use Rattle.xh_session.specs.Plans.{world_of};
 
 use crate::crew::work_all;
@@ -35,7 +34,7 @@ fn run_part<'a, M: Machine>(
     lines: &[Line],
     number: u8,
 ) -> Result<Vec<Reply>, AllocError>
-    ensures { IfOk result (λ replies. Plays (Does M.did) (world_of M.state head.old) (part names.now number lines.now) replies.items (world_of M.state head.new)) }
+    ensures { IfOk result (λ replies. Plays (DoesLine M.did) (world_of M.state head.old) (part names.now number lines.now) replies.items (world_of M.state head.new)) }
 {
     let mut replies = Vec::new(alloc);
     for line in lines {
@@ -120,11 +119,7 @@ pub fn run_on<M: Machine + Send, R: Threads + Wait + Sync, G: Gate + Sync>(
     };
     let lines = script.lines.as_slice();
     let played = play_all(rt, alloc, machines, &mut head, lines, gate);
-    let Session {
-        machine,
-        names: _,
-        contracts: _,
-    } = head;
+    let Session { machine, .. } = head;
     let (mut machines, answers) = played?;
     machines.insert(0, machine)?;
     let names = latest(alloc, lines, answers.as_slice())?;

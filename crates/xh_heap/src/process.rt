@@ -10,7 +10,7 @@ ghost use Rattle.xh_core.specs.declared.refused.Refused.TheVariants as refused;
 ghost use Rattle.xh_heap.specs.Handles.{Acts, HandleOf};
 ghost use Rattle.xh_kernel.specs.Accounts.{AccountOf};
 ghost use Rattle.xh_kernel.specs.Endings.{Exits, Kills};
-ghost use Rattle.xh_kernel.specs.Histories.{Did};
+ghost use Rattle.xh_kernel.specs.Histories.{DidCall};
 ghost use Rattle.xh_kernel.specs.Lends.{LendsAll, LendsAllMut};
 ghost use Rattle.xh_kernel.specs.Waits.{AtLast, IsLastGive, SpawnsAt, no_room};
 ghost use Rattle.xh_kernel.specs.Wires.{OpensBoth, Wires};
@@ -54,7 +54,7 @@ pub trait Process: Drop {
 
     /// A block of `n` bytes of arena 0, as `alloc_in`.
     fn alloc(&mut self, n: u32) -> Result<Block, Refused>
-        ensures { Acts (λ p. Did parts leads p (call.Alloc p n 0 result)) (handle self.old) (handle self.new) }
+        ensures { Acts (λ p. DidCall parts leads p (call.Alloc p n 0 result)) (handle self.old) (handle self.new) }
     {
         self.alloc_in(0, n)
     }
@@ -64,27 +64,27 @@ pub trait Process: Drop {
     /// NoArena; BadSize where `n` is 0 or more than an arena has; NoRecord where each record of the arena is taken; OutOfMemory
     /// where a growth was refused; NoSpace where no hole holds so many; Worn where the arena handed out what it ever may.
     fn alloc_in(&mut self, arena: u32, n: u32) -> Result<Block, Refused>
-        ensures { Acts (λ p. Did parts leads p (call.Alloc p n arena result)) (handle self.old) (handle self.new) };
+        ensures { Acts (λ p. DidCall parts leads p (call.Alloc p n arena result)) (handle self.old) (handle self.new) };
 
     /// Cuts a block after its first `k` bytes: the head, which keeps its record, and the tail.
     ///
     /// NotOwned; NotData of an endpoint; BadCut where `k` is 0, no multiple of 16, or not less than the block has; NoRecord;
     /// OutOfMemory.
     fn split(&mut self, block: u16, k: u32) -> Result<(Block, Block), Refused>
-        ensures { Acts (λ p. Did parts leads p (call.Split p block k result)) (handle self.old) (handle self.new) };
+        ensures { Acts (λ p. DidCall parts leads p (call.Split p block k result)) (handle self.old) (handle self.new) };
 
     /// The bytes of a block from `at` on, as many as `out` has.
     ///
     /// NotOwned; NotData; BadRange where they reach past its end. `out` stays as it was then.
     fn read(&mut self, block: u16, at: u32, out: &mut [u8]) -> Result<(), Refused>
-        ensures call { Acts (λ p. Did parts leads p (call.Read p block at out.new result)) (handle self.old) (handle self.new) }
+        ensures call { Acts (λ p. DidCall parts leads p (call.Read p block at out.new result)) (handle self.old) (handle self.new) }
         ensures refused { OnErr result (out.new ≡ out.old) };
 
     /// These bytes stand in a block from `at` on, in place of as many.
     ///
     /// NotOwned; NotData; BadRange where they reach past its end.
     fn write(&mut self, block: u16, at: u32, bytes: &[u8]) -> Result<(), Refused>
-        ensures { Acts (λ p. Did parts leads p (call.Write p block at bytes.now result)) (handle self.old) (handle self.new) };
+        ensures { Acts (λ p. DidCall parts leads p (call.Write p block at bytes.now result)) (handle self.old) (handle self.new) };
 
     /// One call of `f` at a block's bytes, all of them, where they lie: what `f` answers. It is called under the lock of the
     /// process's place, so it must not call the heap.
@@ -105,7 +105,7 @@ pub trait Process: Drop {
 
     /// A block's bytes go back, and its record is free. It answers how many bytes. NotOwned; NotData.
     fn free(&mut self, block: u16) -> Result<u32, Refused>
-        ensures { Acts (λ p. Did parts leads p (call.Free p block result)) (handle self.old) (handle self.new) };
+        ensures { Acts (λ p. DidCall parts leads p (call.Free p block result)) (handle self.old) (handle self.new) };
 
     /// Both ends of a new channel: side 0 and side 1, each a block of 32 bytes of arena 0.
     ///
@@ -148,7 +148,7 @@ pub trait Process: Drop {
     /// Protocol where the contract doesn't allow the message, PeerClosed, and Full where as many wait as may: these three name the
     /// blocks that came back.
     fn give(&mut self, end: u16, tag: u16, blocks: &[u16]) -> Result<u64, Refused>
-        ensures { Acts (λ p. Did parts leads p (call.Give p end tag blocks.now result)) (handle self.old) (handle self.new) };
+        ensures { Acts (λ p. DidCall parts leads p (call.Give p end tag blocks.now result)) (handle self.old) (handle self.new) };
 
     /// As `give`; where as many messages wait as may, it waits until the peer takes, without a lock, and gives again. It is refused
     /// Full only with fewer blocks than were given, or where the direction has carried its last message, 2^62 - 1.
@@ -172,7 +172,7 @@ pub trait Process: Drop {
     ///
     /// NotOwned; NotEndpoint; where no message waits, PeerClosed where the peer is closed, and else Empty.
     fn take(&mut self, end: u16) -> Result<Taken, Refused>
-        ensures { Acts (λ p. Did parts leads p (call.Take p end result)) (handle self.old) (handle self.new) };
+        ensures { Acts (λ p. DidCall parts leads p (call.Take p end result)) (handle self.old) (handle self.new) };
 
     /// As `take`; where no message waits and the peer is open, it waits, without a lock.
     fn take_wait(&mut self, end: u16) -> Result<Taken, Refused>
@@ -188,7 +188,7 @@ pub trait Process: Drop {
     ///
     /// TooMany; NotOwned and NotEndpoint of the first that is; Twice; Empty where no message waits and no peer is closed.
     fn take_any(&mut self, ends: &[u16]) -> Result<Answered, Refused>
-        ensures call { Acts (λ p. Did parts leads p (call.TakeAny p ends.now result)) (handle self.old) (handle self.new) }
+        ensures call { Acts (λ p. DidCall parts leads p (call.TakeAny p ends.now result)) (handle self.old) (handle self.new) }
         ensures at { IfOk result (λ a. a.at < length ends.now) };
 
     /// As `take_any`; where no message waits and no peer is closed, it waits, without a lock. It is refused Empty of no endpoints
@@ -210,7 +210,7 @@ pub trait Process: Drop {
     ///
     /// NotOwned; NotEndpoint; Unfinished where blocks that came with it are left: so many.
     fn close(&mut self, end: u16) -> Result<u64, Refused>
-        ensures { Acts (λ p old new. (bytes : ℕ) × Did parts leads p (call.Close p end bytes result) old new) (handle self.old) (handle self.new) };
+        ensures { Acts (λ p old new. (bytes : ℕ) × DidCall parts leads p (call.Close p end bytes result) old new) (handle self.old) (handle self.new) };
 
     /// The process ends: its blocks are reclaimed, and what was on its way to its endpoints. What it gave stays on its way. It
     /// answers the bytes reclaimed.

@@ -1,6 +1,6 @@
 -- What came back of the tallies that an account lent.
 use Rattle.xh_kernel.proofs.Common.{AccountOf, Err, FrontOf, HasGivenBack, IfErr, List, MatchResult, Ok, OnOk, PartsOf, Refused, Result, TallyOf, VaultOf, ap, arith, back_of, but_back, length}
-use Rattle.xh_kernel.proofs.Common.{refl, subst, ℕ, ◌+◌, ◌-◌, ◌<◌, ◌∙◌, ◌≡◌}
+use Rattle.xh_kernel.proofs.Common.{refl, seen_of, subst, ℕ, ◌+◌, ◌-◌, ◌<◌, ◌∙◌, ◌≡◌}
 use Rattle.atomic_table.specs.Seated.{TableId}
 use Rattle.xh_calls.specs.Vaults.{AsksVault}
 use Rattle.xh_place.proofs.Counted.{tallied}
@@ -27,10 +27,11 @@ given (Err e) arena names view start end same there m = (ap (λ (a : AccountOf).
 
 -- what the till has seen is what the account has
 module _ (parts : PartsOf) where
-  pub tabled : (f : FrontOf VaultOf) → f.table ≡ parts.vaults → f ≡ record { table = parts.vaults; number = f.number; fronts = f.fronts }
-  tabled f table = λ i. record { table = table i; number = f.number; fronts = f.fronts }
+  tabled : (f : FrontOf VaultOf) → f.table ≡ parts.vaults → f ≡ record f { table = parts.vaults }
+  tabled f table = λ i. record f { table = table i }
 
-  pub asked : {A : Type 0} (arena n : ℕ) (f g f' g' : FrontOf VaultOf) (result : Result A Refused) → f ≡ f' → g ≡ g'
-      → IfErr result (AsksVault parts arena n f g) → IfErr result (AsksVault parts arena n f' g')
-  asked arena n f g f' g' result before after h =
-      subst (λ (x : FrontOf VaultOf). IfErr result (AsksVault parts arena n x g')) before (subst (λ (y : FrontOf VaultOf). IfErr result (AsksVault parts arena n f y)) after h)
+  pub asked : {A : Type 0} {view old : AccountOf} (arena n : ℕ) (f g : FrontOf VaultOf) (result : Result A Refused) → view ≡ old → record f { table = parts.vaults } ≡ seen_of parts view
+      → f.table ≡ parts.vaults → g.table ≡ parts.vaults → IfErr result (AsksVault parts arena n f g) → IfErr result (AsksVault parts arena n (seen_of parts old) (record g { table = parts.vaults }))
+  asked arena n f g result is was table table' h =
+      let before = tabled f table ∙ was ∙ ap (seen_of parts) is in
+      subst (λ x. IfErr result (AsksVault parts arena n x (record g { table = parts.vaults }))) before (subst (λ y. IfErr result (AsksVault parts arena n f y)) (tabled g table') h)

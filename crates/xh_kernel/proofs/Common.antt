@@ -1,7 +1,6 @@
 -- The names that most proofs cite, passed on from one place. Declares nothing.
-pub use Rattle.std.proofs.Common.{All, Err, IfErr, List, MatchResult, Ok, OnOk, Result, Some, [], add-zero}
-pub use Rattle.std.proofs.Common.{ap, append-nil, append_assoc, arith, drop, false, get_or, get_or-set_other, inl, length, refl, rules}
-pub use Rattle.std.proofs.Common.{set, slice_index_or, slice_set, subst, suc, sym, take, true, vec_len, zero, ℕ, ◌*◌, ◌++◌, ◌+◌, ◌-◌, ◌<◌, ◌∙◌, ◌∷◌, ◌≡◌, ◌≤◌}
+pub use Rattle.std.proofs.Common.{All, Err, IfErr, List, MatchResult, Ok, OnOk, Result, Some, [], ap, append-nil, arith, drop, false, get_or, get_or-set_other, length, refl, rules, set}
+pub use Rattle.std.proofs.Common.{slice_index_or, slice_set, subst, suc, sym, true, vec_len, ℕ, ◌*◌, ◌++◌, ◌+◌, ◌-◌, ◌<◌, ◌∙◌, ◌∷◌, ◌≡◌, ◌≤◌}
 pub use Rattle.std.proofs.lemmas.List.{get_or-map, get_or_default, map-set, set-get_or}
 pub use Rattle.std.proofs.lemmas.List.Elements.{All-cons, All-tail}
 pub use Rattle.std.specs.Vec.Iter.{into_iter_items, into_iter_len}
@@ -12,7 +11,7 @@ pub use Rattle.xh_calls.specs.Parts.{IsOpen, PartsOf}
 pub use Rattle.xh_calls.specs.inner.Making.{IsBundle}
 pub use Rattle.xh_core.specs.declared.glance.Glance.{Glance}
 pub use Rattle.xh_core.specs.declared.refused.Refused.TheVariants.{Empty}
-pub use Rattle.xh_history.specs.Histories.{FrontOf, HasSeen, History, LookOf, PenOf, Shown, StartsWith, at, fresh_front, fresh_pen, last_of}
+pub use Rattle.xh_history.specs.Histories.{FrontOf, HasSeen, History, LookOf, PenOf, StartsWith, at, fresh_front, fresh_pen}
 pub use Rattle.xh_calls.specs.Leading.{Leading}
 pub use Rattle.xh_calls.specs.Places.{status_at}
 pub use Rattle.xh_calls.specs.Several.{TakesAny}
@@ -20,8 +19,8 @@ pub use Rattle.xh_place.proofs.Seeing.{starts_same}
 pub use Rattle.xh_kernel.specs.Accounts.{AccountOf, AreFresh, IsUnmoved, seen_of}
 pub use Rattle.xh_kernel.specs.Calls.{Calls, Noted, Steps}
 pub use Rattle.xh_kernel.specs.Finished.{AreInOrder, AreSeen, LookHasSeen, histories_of, tallies_of}
-pub use Rattle.xh_kernel.specs.Histories.{Does, Goes, IsHistoryOf, IsLaw, IsUnowned, Leads, LeadsToPlace}
-pub use Rattle.xh_kernel.specs.Kept.{AreKept, IsKept}
+pub use Rattle.xh_kernel.specs.Histories.{Does, Goes, IsHistoryOf, IsLaw, IsUnowned, Leads}
+pub use Rattle.xh_kernel.specs.Kept.{AreKept, IsKeptPlace}
 pub use Rattle.xh_kernel.specs.Places.{IsFound, last_glance, places_of}
 pub use Rattle.xh_kernel.specs.Waits.{Repeats, no_room}
 pub use Rattle.xh_calls.specs.declared.call.Call.{Call}
@@ -34,7 +33,7 @@ pub use Rattle.xh_place.specs.Messages.{Gives, IsSpent, TakesAt}
 pub use Rattle.xh_place.specs.Places.{IsPlaceOf, glance_of, total_of}
 pub use Rattle.xh_place.specs.Seen.{IsSamePlace, PlaceSeen, Stays}
 pub use Rattle.std.proofs.Math.Logic.{∥∥₁_elim, ∥∥₁_map}
-pub use Rattle.std.specs.Prelude.{Bool, MatchOption, None, Option, cond, option_map, unwrap_or}
+pub use Rattle.std.specs.Prelude.{Bool, None, Option, cond, option_map, unwrap_or}
 pub use Rattle.xh_core.specs.declared.refused.Refused.{Refused}
 pub use Rattle.xh_kernel.specs.Lends.{LendsAll, LendsAllMut}
 pub use Rattle.xh_model.specs.Words.{place_of}

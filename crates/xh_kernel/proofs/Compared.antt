@@ -1,7 +1,6 @@
 -- Comparing what workers have seen with the pens of the places, place by place and worker by worker.
-use Rattle.xh_kernel.proofs.Common.{AccountOf, All, All-cons, AreInOrder, AreKept, Entry, HasSeen, History, IsKept, IsUnmoved, List, PartsOf, PenOf, PlaceSeen, [], ap, arith, at, below_more, get_or}
-use Rattle.xh_kernel.proofs.Common.{get_or-map, get_or-set_other, histories_of, length, map-set, refl, set, set-get_or, slice_set, subst, suc, sym, tallies_of, zero, ℕ, ◌+◌, ◌<◌, ◌∙◌, ◌∷◌, ◌≡◌}
-use Rattle.xh_kernel.proofs.Common.{◌≤◌}
+use Rattle.xh_kernel.proofs.Common.{AccountOf, All, All-cons, AreInOrder, AreKept, Entry, HasSeen, History, IsUnmoved, List, PartsOf, PenOf, PlaceSeen, [], ap, arith, at, below_more, get_or}
+use Rattle.xh_kernel.proofs.Common.{get_or-map, get_or-set_other, histories_of, length, map-set, set, set-get_or, slice_set, subst, sym, tallies_of, ℕ, ◌+◌, ◌<◌, ◌∙◌, ◌∷◌, ◌≡◌, ◌≤◌}
 
 -- the pen is of these parts
 abbrev Own : PartsOf → PenOf Entry → Type 0

@@ -1,8 +1,7 @@
 -- A block's bytes in the hands of a function: the entries that tell of it.
-use Rattle.xh_kernel.proofs.Common.{AccountOf, Bool, Call, Calls, Does, Entry, Err, Glance, History, IsHistoryOf, IsLaw, IsSamePlace, IsUnmoved, Leading, LendsAll, LendsAllMut, List, None, Noted}
-use Rattle.xh_kernel.proofs.Common.{Ok, Option, PartsOf, PlaceSeen, Refused, Result, Some, Stays, Steps, [], ap, append-nil, arith, at, cond, drop, false, length, option_map, place_of, refl}
-use Rattle.xh_kernel.proofs.Common.{status_at, subst, sym, unwrap_or, ℕ, ∥∥₁_elim, ∥∥₁_map, ◌++◌, ◌+◌, ◌∙◌, ◌∷◌, ◌≡◌, ◌≤◌}
-use Rattle.xh_kernel.proofs.Recorded.{led}
+use Rattle.xh_kernel.proofs.Common.{AccountOf, Bool, Call, Does, Err, IsSamePlace, IsUnmoved, Leading, LendsAll, LendsAllMut, List, None, Noted, Ok, Option, PartsOf, PlaceSeen, Refused, Result, Some}
+use Rattle.xh_kernel.proofs.Common.{Stays, Steps, [], ap, append-nil, arith, at, cond, drop, false, length, option_map, place_of, status_at, subst, sym, unwrap_or, ℕ, ◌++◌, ◌+◌, ◌∙◌, ◌∷◌, ◌≡◌, ◌≤◌}
+use Rattle.xh_kernel.proofs.Recorded.{so_too}
 use Rattle.std.proofs.Common.{nat_lt}
 use Rattle.std.proofs.lemmas.Bool.Decides.{nat_tests}
 use Rattle.std.proofs.lemmas.List.{drop_all, take_all}
@@ -14,6 +13,7 @@ use Rattle.xh_core.specs.Refusing.{Tests, first_refusal}
 use Rattle.xh_core.specs.declared.header.Header.{Header}
 use Rattle.xh_core.specs.declared.refused.Refused.TheVariants.{BadRange}
 use Rattle.xh_kernel.specs.Calls.{Moves}
+use Rattle.xh_kernel.specs.Lends.{DidAll, IsNext}
 use Rattle.xh_model.proofs.Keyed.{put_at}
 use Rattle.xh_model.specs.Keyed.{put, value_at}
 use Rattle.xh_place.specs.Bodies.{bytes, patched}
@@ -106,67 +106,33 @@ module _ {F A : Type 0} (g : Mut F (MutBor (List ℕ) × Unit {0}) (A × (MutBor
       subst (λ (zs : List ℕ). Writes (status_at p old.place) r 0 zs old new (Ok tt)) left (is_write p r old new d.0 d.1 h.place d.2 d.4 h.lent.0 d.5)
   did_write (Err why) h = record { same = (h.refused, h.place.3); read = h.lent }
 
--- ---- one entry, and what is so of the place before and after it
+-- ---- what was noted, and what is so of the bytes
 
-pub record One (parts : PartsOf) (k : ℕ) (e : Call) (before after : History Entry) (old new : PlaceSeen) (from to : AccountOf) : Type 0 where
-  pub glance : Glance
-  pub noted : Noted k e from.number from.fronts to.fronts
-  pub unmoved : IsUnmoved from to
-  pub was : IsHistoryOf parts k before old
-  pub is : IsHistoryOf parts k after new
-  pub more : after ≡ before ++ (from.number, record { call = e; glance = glance }) ∷ []
-  pub whole : at to.fronts k ≡ after
+module _ (parts : PartsOf) (leads : Leading) (p r : ℕ) where
+  -- the call was written down on the process's place, which was `now` after it
+  abbrev pub IsNoted : Call → PlaceSeen → AccountOf → AccountOf → Type 0
+  IsNoted e now_ from to =
+      Noted (place_of p) e from.number from.fronts to.fronts × IsUnmoved from to × Steps leads (place_of p) (at to.fronts (place_of p)) (λ old new. Does parts e old new × (new ≡ now_))
 
--- by what `note` tells of it, and of an account that was lent
-pub one : (parts : PartsOf) (old new : PlaceSeen) (to : AccountOf) (glance : Glance) {j k l m : ℕ} {e : Call} {before after : History Entry} {view from : AccountOf} → view ≡ from → m ≡ view.number
-    → j ≡ k → l ≡ j → Noted j e m view.fronts to.fronts → IsUnmoved view to → after ≡ before ++ (m, record { call = e; glance = glance }) ∷ [] → IsHistoryOf parts j before old
-    → IsHistoryOf parts l after new → at to.fronts j ≡ after → One parts k e before after old new from to
-one parts old new to glance {j} {k} {l} {m} {e} {before} {after} {view} {from} lent number place same noted unmoved more was is whole =
-    let mine : One parts j e before after old new view to = record {
-      glance = glance;
-      noted = subst (λ (n : ℕ). Noted j e n view.fronts to.fronts) number noted;
-      unmoved = unmoved;
-      was = was;
-      is = subst (λ (n : ℕ). IsHistoryOf parts n after new) same is;
-      more = more ∙ ap (λ (n : ℕ). before ++ (n, (let x : Entry = record { call = e; glance = glance } in x)) ∷ []) number;
-      whole = whole;
-    } in subst (λ (n : ℕ). One parts n e before after old new from to) place (subst (λ (a : AccountOf). One parts j e before after old new a to) lent mine)
-
-module _ (parts : PartsOf) (leads : Leading) (law : IsLaw parts leads) where
-  did : (k place : ℕ) → k ≡ place → (e : Call) {before after : History Entry} (old new : PlaceSeen) (from to : AccountOf) (R : PlaceSeen → PlaceSeen → Type 0)
-      → One parts k e before after old new from to → Moves e from to → R old new → Calls leads place e R from to
-  did k place is e {before} {after} old new from to R o moves so =
-      let led_is = led parts leads law k (from.number, record { call = e; glance = o.glance }) before after old new to.fronts R o.was o.is o.more o.whole so in
-      subst (λ (j : ℕ). Calls leads j e R from to) is ((o.noted, moves), led_is)
+  has : {e : Call} {now_ : PlaceSeen} (from to : AccountOf) (xs : List ℕ) → IsNoted e now_ from to → Moves e from to → HasBytes r now_.place xs → DidAll parts leads p r xs e from to
+  has from to xs n moves here = ((n.0, moves), so_too leads _ _ _ _ (λ old new s. (s.0, subst (λ (q : PlaceSeen). HasBytes r q.place xs) (sym s.1) here)) n.2)
 
   -- of the bytes that a function had
-  pub lends : {F A : Type 0} (g : Mut F (Bor (List ℕ) × Unit {0}) A) (p r k : ℕ) (f f' : F) {before after : History Entry} (old new : PlaceSeen) (from to : AccountOf)
-      (result : Result A Refused) → k ≡ place_of p → Lends g (status_at p old.place) r f f' old new result → One parts k (read_of p r new.place result) before after old new from to
-      → LendsAll parts leads g p r f f' from to result
-  lends g p r k f f' old new from to (Ok a) is h o =
-      let xs : List ℕ = bytes_at r new.place in let e : Call = Read p r 0 xs (Ok tt) in let s = has_shown g parts p r f f' old new a h in
-      (xs, did k (place_of p) is e old new from to (λ x y. Does parts e x y × HasBytes r y.place xs) o o.unmoved (did_read g parts p r f f' old new (Ok a) h, s.0), s.1)
-  lends g p r k f f' old new from to (Err why) is h o =
-      let e : Call = Read p r 0 [] (Err why) in (did k (place_of p) is e old new from to (Does parts e) o o.unmoved (did_read g parts p r f f' old new (Err why) h), h.uncalled)
+  pub lends : {F A : Type 0} (g : Mut F (Bor (List ℕ) × Unit {0}) A) (f f' : F) (old new : PlaceSeen) (from to : AccountOf) (result : Result A Refused)
+      → Lends g (status_at p old.place) r f f' old new result → IsNoted (read_of p r new.place result) new from to → LendsAll parts leads g p r f f' from to result
+  lends g f f' old new from to (Ok a) h n = let s = has_shown g parts p r f f' old new a h in (bytes_at r new.place, has from to (bytes_at r new.place) n n.1 s.0, s.1)
+  lends g f f' old new from to (Err why) h n = (((n.0, n.1), so_too leads _ _ _ _ (λ old new s. s.0) n.2), h.uncalled)
 
   -- of the bytes that a function had, and of what one left
-  pub lends_mut : {F G A : Type 0} (read : Mut G (Bor (List ℕ) × Unit {0}) (Unit {0})) (write : Mut F (MutBor (List ℕ) × Unit {0}) (A × (MutBor (List ℕ) × Unit {0}))) (p r k : ℕ)
-      (l l' : G) (f f' : F) {h0 h1 h2 : History Entry} (old was new : PlaceSeen) (from mid to : AccountOf) (answer : Result (Unit {0}) Refused) (result : Result A Refused)
-      → answer ≡ Ok tt → k ≡ place_of p → Lends read (status_at p old.place) r l l' old was answer → LendsMut write (status_at p was.place) r f f' was new result
-      → One parts k (read_of p r was.place answer) h0 h1 old was from mid → One parts k (write_of p r new.place result) h1 h2 was new mid to → LendsAllMut parts leads write p r f f' from to result
-  lends_mut read write p r k l l' f f' old was new from mid to (Ok x) (Ok a) so is had h first second =
+  pub lends_mut : {F G A : Type 0} (read : Mut G (Bor (List ℕ) × Unit {0}) (Unit {0})) (write : Mut F (MutBor (List ℕ) × Unit {0}) (A × (MutBor (List ℕ) × Unit {0})))
+      (l l' : G) (f f' : F) (old was new : PlaceSeen) (from mid to : AccountOf) (answer : Result (Unit {0}) Refused) (result : Result A Refused)
+      → answer ≡ Ok tt → Lends read (status_at p old.place) r l l' old was answer → LendsMut write (status_at p was.place) r f f' was new result
+      → IsNoted (read_of p r was.place answer) was from mid → IsNoted (write_of p r new.place result) new mid to → IsNext (place_of p) (write_of p r new.place result) mid to
+      → LendsAllMut parts leads write p r f f' from to result
+  lends_mut read write l l' f f' old was new from mid to (Ok x) (Ok a) so had h first second next =
       let xs : List ℕ = bytes_at r was.place in let ys : List ℕ = bytes_at r new.place in
-      let one : Call = Read p r 0 xs (Ok tt) in let two : Call = Write p r 0 ys (Ok tt) in
       let s = has_shown read parts p r l l' old was x had in let w = has_changed write parts p r f f' was new a xs s.0 h in
-      let entry : ℕ × Entry = (mid.number, record { call = two; glance = second.glance }) in (
-        mid,
-        xs,
-        ys,
-        did k (place_of p) is one old was from mid (λ x y. Does parts one x y × HasBytes r y.place xs) first first.unmoved (did_read read parts p r l l' old was (Ok x) had, s.0),
-        w.1,
-        did k (place_of p) is two was new mid to (λ x y. Does parts two x y × HasBytes r y.place ys) second second.unmoved (did_write write parts p r f f' was new (Ok a) h, w.0),
-        (second.glance, subst (λ (j : ℕ). at to.fronts j ≡ at mid.fronts j ++ entry ∷ []) is (second.whole ∙ second.more ∙ ap (λ (x : History Entry). x ++ entry ∷ []) (sym first.whole))),
-      )
-  lends_mut read write p r k l l' f f' old was new from mid to (Ok x) (Err why) so is had h first second =
+      (mid, xs, ys, has from mid xs first first.1 s.0, w.1, has mid to ys second second.1 w.0, next)
+  lends_mut read write l l' f f' old was new from mid to (Ok x) (Err why) so had h first second next =
       let fails : Some why ≡ None = sym h.lent ∙ ap (λ (q : PlaceOf). first_refusal (start (status_at p q) ++ range_tests (found q r) 0 0)) had.same.0 ∙ had.lent.0 in absurd (cc)
-  lends_mut read write p r k l l' f f' old was new from mid to (Err why) result so is had h first second = absurd (cc)
+  lends_mut read write l l' f f' old was new from mid to (Err why) result so had h first second next = absurd (cc)

@@ -79,5 +79,5 @@ IsLaw parts leads = (k : ℕ) (h : History Entry) (place : PlaceSeen) → (IsHis
 -- ---- a call, by its own line of the table above
 
 -- the worker made the call on the process's place, and it did there what such a call does
-abbrev pub Did : PartsOf → Leading → ℕ → Call → AccountOf → AccountOf → Type 0
-Did parts leads p e = Calls leads (place_of p) e (Does parts e)
+abbrev pub DidCall : PartsOf → Leading → ℕ → Call → AccountOf → AccountOf → Type 0
+DidCall parts leads p e = Calls leads (place_of p) e (Does parts e)

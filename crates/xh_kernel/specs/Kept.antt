@@ -4,14 +4,14 @@ use Rattle.xh_calls.specs.declared.call.Entry.{Entry}
 use Rattle.xh_calls.specs.Parts.{PartsOf}
 use Rattle.xh_history.specs.Histories.{PenOf}
 use Rattle.xh_kernel.specs.Histories.{IsHistoryOf}
-use Rattle.xh_kernel.specs.Places.{IsFound, IsTold}
+use Rattle.xh_kernel.specs.Places.{IsFound, IsLastTold}
 use Rattle.xh_place.specs.Seen.{PlaceSeen}
 
 -- a lawful place of these parts, the pen of its history, and the history
-pub record IsKept (parts : PartsOf) (p : PlaceSeen) (pen : PenOf Entry) : Type 0 where
+pub record IsKeptPlace (parts : PartsOf) (p : PlaceSeen) (pen : PenOf Entry) : Type 0 where
   pub found : IsFound parts p.place
   pub own : pen.table ≡ parts.histories
-  pub told : IsTold p.place pen
+  pub told : IsLastTold p.place pen
   pub history : IsHistoryOf parts pen.number pen.history p
 
 -- the same of each place, and the pen beside it
@@ -19,4 +19,4 @@ abbrev pub AreKept : PartsOf → List PlaceSeen → List (PenOf Entry) → Type 
 AreKept parts [] [] = Unit {0}
 AreKept parts [] (pen ∷ rest) = ⊥
 AreKept parts (p ∷ ps) [] = ⊥
-AreKept parts (p ∷ ps) (pen ∷ rest) = IsKept parts p pen × AreKept parts ps rest
+AreKept parts (p ∷ ps) (pen ∷ rest) = IsKeptPlace parts p pen × AreKept parts ps rest

@@ -11,7 +11,7 @@ use Rattle.xh_core.specs.declared.refused.Refused.{Refused}
 use Rattle.xh_history.specs.Histories.{at}
 use Rattle.xh_kernel.specs.Accounts.{AccountOf}
 use Rattle.xh_kernel.specs.Calls.{Calls}
-use Rattle.xh_kernel.specs.Histories.{Did, Does}
+use Rattle.xh_kernel.specs.Histories.{DidCall, Does}
 use Rattle.xh_model.specs.Words.{place_of}
 use Rattle.xh_place.specs.Calls.{HasBytes}
 
@@ -27,11 +27,11 @@ IsNext k e old new = (glance : Glance) × (at new.fronts k ≡ at old.fronts k +
 abbrev pub LendsAll : {F A : Type 0} → PartsOf → Leading → Mut F (Bor (List ℕ) × Unit {0}) A → ℕ → ℕ → F → F → AccountOf → AccountOf → Result A Refused → Type 0
 LendsAll parts leads g p r f f' old new result = MatchResult result
     (λ a. (shown : List ℕ) × DidAll parts leads p r shown (call.Read p r 0 shown (Ok tt)) old new × CalledAt g f shown a f')
-    (λ why. Did parts leads p (call.Read p r 0 [] (Err why)) old new × (f' ≡ f))
+    (λ why. DidCall parts leads p (call.Read p r 0 [] (Err why)) old new × (f' ≡ f))
 
 -- it read the whole block, one call of the function had these bytes and left others, and the next call of the place is the worker's write of those over the whole block; or the refusal
 abbrev pub LendsAllMut : {F A : Type 0} → PartsOf → Leading → Mut F (MutBor (List ℕ) × Unit {0}) (A × (MutBor (List ℕ) × Unit {0})) → ℕ → ℕ → F → F → AccountOf → AccountOf → Result A Refused → Type 0
 LendsAllMut parts leads g p r f f' old new result = MatchResult result
     (λ a. (mid : AccountOf) × (shown : List ℕ) × (left : List ℕ) × DidAll parts leads p r shown (call.Read p r 0 shown (Ok tt)) old mid × CalledAtMut g f shown a f' left
     × DidAll parts leads p r left (call.Write p r 0 left (Ok tt)) mid new × IsNext (place_of p) (call.Write p r 0 left (Ok tt)) mid new)
-    (λ why. Did parts leads p (call.Read p r 0 [] (Err why)) old new × (f' ≡ f))
+    (λ why. DidCall parts leads p (call.Read p r 0 [] (Err why)) old new × (f' ≡ f))

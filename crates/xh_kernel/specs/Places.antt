@@ -26,7 +26,7 @@ abbrev pub last_glance : ℕ → History Entry → Glance
 last_glance k h = unwrap_or (option_map (λ c. c.1.glance) (last_of h)) (vacant k)
 
 -- the pen is the place's own, and the last glance of its history is what the place is now
-pub record IsTold (p : PlaceOf) (pen : PenOf Entry) : Type 0 where
+pub record IsLastTold (p : PlaceOf) (pen : PenOf Entry) : Type 0 where
   pub number : place_of p.process ≡ pen.number
   pub last : last_glance pen.number pen.history ≡ glance_of p
 

@@ -3,8 +3,8 @@ ghost use Rattle.std.specs.Prelude.{◌≡◌};
 ghost use Rattle.std.proofs.Props.{props};
 ghost use Rattle.xh_kernel.specs.inner.Lawful.{Distinct-prop, Fits-prop};
 ghost use Rattle.xh_kernel.specs.Histories.{IsHistoryOf};
-ghost use Rattle.xh_kernel.specs.Kept.{IsKept};
-ghost use Rattle.xh_kernel.specs.Places.{IsSoundPlace, IsTold};
+ghost use Rattle.xh_kernel.specs.Kept.{IsKeptPlace};
+ghost use Rattle.xh_kernel.specs.Places.{IsSoundPlace, IsLastTold};
 ghost use Rattle.xh_place.specs.Places.{IsPlaceOf};
 
 use crate::looking::Waits;
@@ -24,7 +24,7 @@ pub(crate) struct Held<N: Names> {
     pub(crate) of: PhantomData<N>,
     ghost named: { IsPlaceOf N.parts.records place.place },
     ghost own: { scribe.pen.table ≡ N.parts.histories },
-    ghost told: { IsTold place.place scribe.pen },
+    ghost told: { IsLastTold place.place scribe.pen },
     ghost lawful: { IsSoundPlace place.place } by { Prim.hlevel (props, Distinct-prop, Fits-prop) },
     ghost history: { IsHistoryOf N.parts scribe.pen.number scribe.pen.history place },
 }
@@ -32,7 +32,7 @@ pub(crate) struct Held<N: Names> {
 impl<N: Names> Held<N> {
     // The place, and the pen of its history.
     pub(crate) fn into_parts(self) -> (Place, Pen<Entry>)
-        ensures { IsKept N.parts result.0 result.1 }
+        ensures { IsKeptPlace N.parts result.0 result.1 }
     {
         (self.place, self.scribe.pen)
     }

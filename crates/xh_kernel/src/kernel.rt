@@ -10,7 +10,7 @@ ghost use Rattle.xh_calls.specs.declared.call.Call.TheVariants.{Spawn};
 ghost use Rattle.xh_kernel.specs.Finished.{WereSeen, tallies_of};
 ghost use Rattle.xh_kernel.specs.Calls.{Calls};
 ghost use Rattle.xh_kernel.specs.Histories.{IsLaw};
-ghost use Rattle.xh_kernel.specs.inner.Making.{ArePens, AreSeats, AreUnseen};
+ghost use Rattle.xh_kernel.specs.inner.Making.{AreFirstSeats, ArePens, AreUnseen};
 ghost use Rattle.xh_kernel.specs.Kept.{AreKept};
 ghost use Rattle.xh_kernel.specs.Looks.{HasGlanced};
 ghost use Rattle.xh_kernel.specs.Places.{places_of};
@@ -96,7 +96,7 @@ fn lock_places<N: Names>(
     pens: Vec<Pen<Entry>>,
 ) -> Result<Vec<CachePadded<Mutex<Held<N>>>>, Refused>
     requires records { records.now ≡ N.parts.records }
-    requires seats { AreSeats N.parts.records seats.items }
+    requires seats { AreFirstSeats N.parts.records seats.items }
     requires pens { ArePens N.parts.histories pens.items }
     ensures count { IfOk result (λ l. vec_len l ≡ PLACES) }
     ensures refused { IfErr result (λ e. e ≡ Refused.OutOfMemory) }
@@ -228,8 +228,8 @@ impl<N: Names> Kernel<N> {
         let mut guard = self.held(rt, u16::from(number));
         let held: &mut Held<N> = &mut guard;
         let answer = self.shared.heap.spawn(&mut held.place);
-        held.scribe
-            .note(&self.shared, &held.place, &mut account.front, &answer);
+        let about = &answer;
+        held.scribe.note(&self.shared, &held.place, &mut account.front, about, false);
         answer
     }
 

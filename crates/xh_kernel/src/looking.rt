@@ -94,8 +94,9 @@ impl<N: Names> Held<N> {
         ensures empty { IfErr result (λ why. why ≡ Refused.Empty → (first_refusal (start (status_at p self.old.place.place)) ≡ None) × (has_end (found self.old.place.place e) ≡ true)) }
     {
         let answer = shared.heap.take(rt, &mut self.place, p, e, gate);
+        let about = (p, e, &answer);
         self.scribe
-            .note(shared, &self.place, &mut account.front, &(p, e, &answer));
+            .note(shared, &self.place, &mut account.front, &about, false);
         answer
     }
 
@@ -160,7 +161,9 @@ impl<N: Names> Held<N> {
         ensures empty { IfErr result (λ why. why ≡ Refused.Empty → first_refusal (start (status_at p self.old.place.place)) ≡ None) }
     {
         let answer = shared.heap.take_any(rt, &mut self.place, p, ends, gate);
-        self.scribe.note(shared, &self.place, &mut account.front, &(p, ends, &answer));
+        let about = (p, ends, &answer);
+        self.scribe
+            .note(shared, &self.place, &mut account.front, &about, false);
         answer
     }
 
@@ -248,7 +251,7 @@ impl<N: Names> Held<N> {
         let answer = heap.give(rt, &mut self.place, p, e, tag, blocks, gate);
         let about = (p, e, tag, blocks, &answer);
         self.scribe
-            .note(shared, &self.place, &mut account.front, &about);
+            .note(shared, &self.place, &mut account.front, &about, false);
         answer
     }
 

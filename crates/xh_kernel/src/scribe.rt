@@ -1,16 +1,16 @@
 //! What is written down of a place: its history, and by the history's word what looks see without its lock.
-ghost use Rattle.std.specs.Prelude.{◌≡◌, ◌↔◌, ◌<◌, ◌^◌, [], ◌∷◌, ◌++◌, length, true};
+ghost use Rattle.std.specs.Prelude.{◌≡◌, ◌↔◌, ◌<◌, ◌^◌, [], ◌∷◌, ◌++◌, length, true, ℕ};
 ghost use Rattle.xh_calls.specs.declared.call.Call.{Call};
 ghost use Rattle.xh_core.specs.Statuses.{is_over};
 ghost use Rattle.xh_history.specs.Histories.{at};
 ghost use Rattle.xh_kernel.specs.Calls.{Noted, Steps};
 ghost use Rattle.xh_kernel.specs.Histories.{Does, IsHistoryOf};
-ghost use Rattle.xh_kernel.specs.Places.{IsSoundPlace, IsTold, last_glance};
+ghost use Rattle.xh_kernel.specs.Places.{IsSoundPlace, IsLastTold, last_glance};
 ghost use Rattle.xh_kernel.specs.Words.{IsPackable, unpacked};
 ghost use Rattle.xh_model.specs.declared.limits.TheConstants.{GENERATIONS};
 ghost use Rattle.xh_model.specs.Words.{generation_of, place_of};
 ghost use Rattle.xh_place.specs.Places.{AreBlocks, IsPlaceOf, glance_of};
-ghost use Rattle.xh_place.specs.Seen.{PlaceSeen, Stays};
+ghost use Rattle.xh_place.specs.Seen.{PlaceSeen};
 ghost use Rattle.xh_records.specs.History.{StartsWith};
 
 use crate::shared::Shared;
@@ -56,7 +56,7 @@ fn shown(place: &Place) -> Glance
 impl Scribe {
     // The pen of a history of which the last glance is what the place is.
     pub(crate) fn new(pen: Pen<Entry>, place: &Place) -> Scribe
-        requires told { IsTold place.now.place pen }
+        requires told { IsLastTold place.now.place pen }
         requires process { generation_of place.now.place.process < GENERATIONS }
         ensures same { result.pen ≡ pen }
         ensures lawful { IsSoundPlace place.now.place }
@@ -66,7 +66,8 @@ impl Scribe {
     }
 
     // Writes down a call that a worker made on the place, and tells what the place is now. Which call it was the
-    // caller's proof says, by what is shown here. It is inlined, so that what is shown costs nothing.
+    // caller's proof says, by what is shown here. After a call like a read looks see the `same`: no word is made then.
+    // It is inlined, so that what is shown costs nothing.
     #[inline(always)]
     pub(crate) fn note<N: Names, A>(
         &mut self,
@@ -74,61 +75,31 @@ impl Scribe {
         place: &Place,
         front: &mut Front<Entry>,
         about: &A,
+        same: bool,
     )
         ghost call: { Call }
         requires pen { self.old.pen.table ≡ N.parts.histories }
         requires front { (front.old.table ≡ N.parts.histories) × (front.old.number < N.parts.workers) }
         requires place { IsPlaceOf N.parts.records place.now.place × (place_of place.now.place.process ≡ self.old.pen.number) × (generation_of place.now.place.process < GENERATIONS) }
-        requires does { (old : PlaceSeen) × (from : PlaceSeen) × IsHistoryOf N.parts self.old.pen.number self.old.pen.history old × Stays old from
-            × Does N.parts call from place.now × StartsWith place.now.front from.front }
+        requires does { (from : PlaceSeen) × IsHistoryOf N.parts self.old.pen.number self.old.pen.history from × Does N.parts call from place.now × StartsWith place.now.front from.front }
+        requires same { same ≡ true → IsLastTold place.now.place self.old.pen }
         ensures pen { (self.new.pen.table ≡ N.parts.histories) × (self.new.pen.number ≡ self.old.pen.number) }
-        ensures told { IsTold place.now.place self.new.pen }
+        ensures told { IsLastTold place.now.place self.new.pen }
         ensures lawful { IsSoundPlace place.now.place }
         ensures history { IsHistoryOf N.parts self.new.pen.number self.new.pen.history place.now }
         ensures one_more { self.new.pen.history ≡ self.old.pen.history ++ (front.old.number, record { call = call; glance = glance_of place.now.place }) ∷ [] }
         ensures whole { at front.new.fronts self.old.pen.number ≡ self.new.pen.history }
         ensures front { (front.new.table ≡ front.old.table) × (front.new.number ≡ front.old.number) }
         ensures noted { Noted self.old.pen.number call front.old.number front.old.fronts front.new.fronts }
-        ensures step { Steps N.leads self.old.pen.number (at front.new.fronts self.old.pen.number) (Does N.parts call) }
+        ensures step { (k : ℕ) → self.old.pen.number ≡ k → Steps N.leads k (at front.new.fronts k) (Does N.parts call) }
+        ensures now { (k : ℕ) → self.old.pen.number ≡ k → Steps N.leads k (at front.new.fronts k) (λ old new. Does N.parts call old new × (new ≡ place.now)) }
     {
         let glance = shown(place);
-        let word = pack(glance);
+        let word = if same { self.last } else { pack(glance) };
         let shows = if word == self.last { None } else { Some(word) };
         shared
             .histories
             .add(&mut self.pen, front, shows, &(about, glance));
         self.last = word;
-    }
-
-    // As `note`, of a call after which looks see what they saw: the word isn't made.
-    #[inline(always)]
-    pub(crate) fn note_same<N: Names, A>(
-        &mut self,
-        shared: &Shared<N>,
-        place: &Place,
-        front: &mut Front<Entry>,
-        about: &A,
-    )
-        ghost call: { Call }
-        requires pen { self.old.pen.table ≡ N.parts.histories }
-        requires front { (front.old.table ≡ N.parts.histories) × (front.old.number < N.parts.workers) }
-        requires place { IsPlaceOf N.parts.records place.now.place × (place_of place.now.place.process ≡ self.old.pen.number) × (generation_of place.now.place.process < GENERATIONS) }
-        requires does { (old : PlaceSeen) × (from : PlaceSeen) × IsHistoryOf N.parts self.old.pen.number self.old.pen.history old × Stays old from
-            × Does N.parts call from place.now × StartsWith place.now.front from.front }
-        requires same { IsTold place.now.place self.old.pen }
-        ensures pen { (self.new.pen.table ≡ N.parts.histories) × (self.new.pen.number ≡ self.old.pen.number) }
-        ensures told { IsTold place.now.place self.new.pen }
-        ensures lawful { IsSoundPlace place.now.place }
-        ensures history { IsHistoryOf N.parts self.new.pen.number self.new.pen.history place.now }
-        ensures one_more { self.new.pen.history ≡ self.old.pen.history ++ (front.old.number, record { call = call; glance = glance_of place.now.place }) ∷ [] }
-        ensures whole { at front.new.fronts self.old.pen.number ≡ self.new.pen.history }
-        ensures front { (front.new.table ≡ front.old.table) × (front.new.number ≡ front.old.number) }
-        ensures noted { Noted self.old.pen.number call front.old.number front.old.fronts front.new.fronts }
-        ensures step { Steps N.leads self.old.pen.number (at front.new.fronts self.old.pen.number) (Does N.parts call) }
-    {
-        let glance = shown(place);
-        shared
-            .histories
-            .add(&mut self.pen, front, None, &(about, glance));
     }
 }

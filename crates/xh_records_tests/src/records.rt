@@ -49,7 +49,7 @@ fn first_of<T: Drop>(mut items: Vec<T>) -> T
 }
 
 /// The first two of the items.
-fn first_two<T: Drop>(mut items: Vec<T>) -> (T, T)
+pub(crate) fn first_two<T: Drop>(mut items: Vec<T>) -> (T, T)
     requires { 2 ≤ length items.items }
     ensures { (slice_get items.items 0 ≡ Some result.0) × (slice_get items.items 1 ≡ Some result.1) }
 {

@@ -1,3 +1,2 @@
 pub mod Workers
 pub mod Runs
-pub mod Reports

@@ -14,7 +14,7 @@ use Rattle.xh_calls.specs.Leading.{Leading}
 use Rattle.xh_calls.specs.Places.{status_at}
 use Rattle.xh_place.specs.Messages.{TakesAt}
 use Rattle.xh_kernel.specs.Endings.{Exits, Kills}
-use Rattle.xh_kernel.specs.Histories.{Did}
+use Rattle.xh_kernel.specs.Histories.{DidCall}
 use Rattle.xh_kernel.specs.Waits.{AtLast, SpawnsAt}
 use Rattle.xh_kernel.specs.Wires.{OpensBoth, Wires}
 use Rattle.xh_model.specs.declared.limits.TheConstants.{MAX_BUDGET, PLACES}
@@ -22,8 +22,8 @@ use Rattle.xh_model.specs.Words.{place_of}
 use Rattle.xh_place.specs.declared.got.Got.{Got}
 use Rattle.xh_place.specs.declared.got.Got.TheVariants.{Here, Missing}
 use Rattle.xh_place.specs.declared.got.Taken.{Taken}
-use Rattle.xh_session.specs.declared.received.Received.{Received}
-use Rattle.xh_session.specs.Questions.{Question, Answer, Spawn, Open, Wire, Alloc, Split, Read, Write, Give, Take, Free, Close, Exit, Kill, Glance, filled}
+use Rattle.xh_session.specs.declared.machine.Received.{Received}
+use Rattle.xh_session.specs.Questions.{Question, AnswerTo, Spawn, Open, Wire, Alloc, Split, Read, Write, Give, Take, Free, Close, Exit, Kill, Glance, filled}
 
 -- what a worker has: its account on the kernel, and what it has seen of the glances
 pub record WorkerState : Type 0 where
@@ -50,30 +50,30 @@ gotten_answer (Err refused) = Err refused
 
 module _ (parts : PartsOf) (leads : Leading) where
   -- at each question the call of the kernel was made, in the histories and in the account, and this is what it answered
-  abbrev pub Asked : (q : Question) → Answer q → AccountOf → AccountOf → Type 0
+  abbrev pub Asked : (q : Question) → AnswerTo q → AccountOf → AccountOf → Type 0
   Asked Spawn a old new = SpawnsAt leads old new a
   Asked (Open p arena contract) a old new = OpensBoth parts leads p arena contract old new a
   Asked (Wire p q arena contract) a old new = Wires parts leads p q arena contract old new a
-  Asked (Alloc p n arena) a old new = Did parts leads p (call.Alloc p n arena a) old new × VaultRefuses parts arena (rounded n) old new a
-  Asked (Split p r at) a old new = Did parts leads p (call.Split p r at a) old new
-  Asked (Read p r at len) a old new = (room : List ℕ) × (done : Result (Unit {0}) Refused) × (length room ≡ len) × (a ≡ filled room done) × Did parts leads p (call.Read p r at room done) old new
-  Asked (Write p r at bytes) a old new = Did parts leads p (call.Write p r at bytes a) old new
-  Asked (Give p e tag blocks) a old new = Did parts leads p (call.Give p e tag blocks a) old new
-  Asked (Take p e false) a old new = (t : Result Taken Refused) × (a ≡ gotten_answer t) × Did parts leads p (call.Take p e t) old new
+  Asked (Alloc p n arena) a old new = DidCall parts leads p (call.Alloc p n arena a) old new × VaultRefuses parts arena (rounded n) old new a
+  Asked (Split p r at) a old new = DidCall parts leads p (call.Split p r at a) old new
+  Asked (Read p r at len) a old new = (room : List ℕ) × (done : Result (Unit {0}) Refused) × (length room ≡ len) × (a ≡ filled room done) × DidCall parts leads p (call.Read p r at room done) old new
+  Asked (Write p r at bytes) a old new = DidCall parts leads p (call.Write p r at bytes a) old new
+  Asked (Give p e tag blocks) a old new = DidCall parts leads p (call.Give p e tag blocks a) old new
+  Asked (Take p e false) a old new = (t : Result Taken Refused) × (a ≡ gotten_answer t) × DidCall parts leads p (call.Take p e t) old new
   Asked (Take p e true) a old new = (t : Result Taken Refused) × (a ≡ gotten_answer t) × (a ≢ Err Empty)
       × AtLast leads (place_of p) (call.Take p e) (λ answer from to. TakesAt (status_at p from.place) e from to answer) (Err Empty) t old new
-  Asked (Free p r) a old new = Did parts leads p (call.Free p r a) old new
-  Asked (Close p e) a old new = (bytes : ℕ) × Did parts leads p (call.Close p e bytes a) old new
+  Asked (Free p r) a old new = DidCall parts leads p (call.Free p r a) old new
+  Asked (Close p e) a old new = (bytes : ℕ) × DidCall parts leads p (call.Close p e bytes a) old new
   Asked (Exit p budget) a old new = Exits leads p (min budget MAX_BUDGET) old new a
   Asked (Kill by victim budget) a old new = Kills leads by victim (min budget MAX_BUDGET) old new a
   Asked (Glance place) a old new = new ≡ old
 
 -- a glance sees what the place shows, and no less than before; no other call looks
-abbrev pub Looked : (q : Question) → Answer q → LookOf Entry → LookOf Entry → Type 0
-Looked (Glance place) a old new = (new.table ≡ old.table)
+abbrev pub IsLookAfter : (q : Question) → AnswerTo q → LookOf Entry → LookOf Entry → Type 0
+IsLookAfter (Glance place) a old new = (new.table ≡ old.table)
     × MatchResult a (λ g. (place < PLACES) × HasGlanced old.fronts place g new.fronts) (λ why. (why ≡ NoProcess) × (PLACES ≤ place) × (new ≡ old))
-Looked q a old new = new ≡ old
+IsLookAfter q a old new = new ≡ old
 
 -- what a worker of a kernel of these parts does at a question
-abbrev pub did : PartsOf → Leading → WorkerState → (q : Question) → Answer q → WorkerState → Type 0
-did parts leads old q a new = Asked parts leads q a old.account new.account × Looked q a old.look new.look
+abbrev pub did : PartsOf → Leading → WorkerState → (q : Question) → AnswerTo q → WorkerState → Type 0
+did parts leads old q a new = Asked parts leads q a old.account new.account × IsLookAfter q a old.look new.look

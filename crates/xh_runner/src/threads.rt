@@ -1,18 +1,21 @@
-//! A run of a script on threads, over a kernel that is made, used and settled here.
-ghost use Rattle.std.specs.Prelude.{◌≡◌, ◌⊎◌, All, Err, IfErr, IfOk, vec_len};
+//! A run of a script on threads, over a kernel that is made, used and settled here; and from bytes to bytes.
+ghost use Rattle.std.specs.Prelude.{◌≡◌, ◌+◌, ◌⊎◌, All, Err, IfErr, IfOk, OnOk, vec_len};
 ghost use Rattle.xh_calls.specs.Parts.{AreMadeBy};
-ghost use Rattle.xh_crew.specs.Stops.{MayStop};
+ghost use Rattle.xh_crew.specs.Plays.{MayStop};
 ghost use Rattle.xh_history.specs.Histories.{fresh_look};
 ghost use Rattle.xh_kernel.specs.Accounts.{AreFresh};
 ghost use Rattle.xh_kernel.specs.Histories.{IsLaw};
 ghost use Rattle.xh_model.specs.Config.{IsConfig};
 ghost use Rattle.xh_model.specs.declared.limits.TheConstants.{MAX_WORKERS};
-ghost use Rattle.xh_runner.specs.Reports.{AnswersScript, IsLedgerOf};
-ghost use Rattle.xh_runner.specs.Runs.{HasPlayed, HasRun, RanOn};
+ghost use Rattle.xh_runner.specs.Runs.{AnswersScript, HasPlayed, HasRun, IsLedgerOf, IsReportTold, RanOn};
 ghost use Rattle.xh_script.specs.Scripts.{listing_of};
+ghost use Rattle.xh_script.specs.declared.limits.TheConstants.{MAX_SCRIPT};
+ghost use Rattle.xh_session.specs.Ends.{Done, Stopped};
+ghost use Rattle.xh_session.specs.Reading.{ReadsAtMost};
 
 use crate::worker::{hire, leave_all};
 use std::alloc::Global;
+use std::io::{Read, Write};
 use std::marker::Brand;
 use std::sync::Wait;
 use std::thread::Threads;
@@ -21,9 +24,9 @@ use xh_core::Config;
 use xh_crew::{Outcome, run_on};
 use xh_kernel::{Account, Kernel, Look, Names, Parts};
 use xh_model::limits::MAX_WORKERS;
-use xh_place::Gate;
-use xh_script::{Answered, Fault, Name, Script};
-use xh_session::Report;
+use xh_place::{Gate, OpenGate};
+use xh_script::{Answered, Fault, Name, Script, Watched};
+use xh_session::{Report, Run, read_input, write_report};
 
 // The replies, and the name of the latest process of each place.
 type Played = (Vec<Answered>, Vec<Name>);
@@ -115,4 +118,26 @@ pub fn run_threads<R: Threads + Wait + Sync, G: Gate + Sync>(
         Ok(parts) => run_named::<Brand, R, G>(rt, alloc, config, parts, script, gate),
         Err(_refused) => Err(Fault::Memory),
     }
+}
+
+/// As `run_serial_as`, on threads: each process that has a place does its commands in a thread of its own.
+///
+/// The faults of reading are those of `read_input`; Memory comes where a growth outside the commands was refused, or a
+/// thread. But for Write, a fault leaves nothing written.
+#[tactic(auto, using(xh_session::proofs::Ends::memory_stops, xh_session::proofs::Ends::unread_stops, xh_session::proofs::Ends::wrote_all, xh_session::proofs::Ends::wrote_part))]
+pub fn run_parallel<T: Threads + Wait + Sync, R: Read, W: Write>(
+    rt: &T,
+    alloc: Global,
+    reader: &mut Watched<R>,
+    writer: &mut Watched<W>,
+    run: Run,
+) -> Result<(), Fault>
+    ensures ok { OnOk result (Done R.remaining W.contents (IsReportTold run.flight run.config) reader.old reader.new writer.old writer.new) }
+    ensures err { IfErr result (Stopped R.remaining W.contents (IsReportTold run.flight run.config) run.config reader.old reader.new writer.old writer.new) }
+    ensures config { ¬ IsConfig run.config → result ≡ Err Fault.BadConfig }
+    ensures limit { ReadsAtMost R.remaining (MAX_SCRIPT + 1) reader.old reader.new }
+{
+    let input = read_input(alloc, run.config, reader)?;
+    let report = run_threads(rt, alloc, &input.script, run.config, &OpenGate)?;
+    write_report(writer, &report, run.flight)
 }

@@ -10,7 +10,7 @@ use xh_core::{Block, Contract, Glance, Refused};
 use xh_kernel::{Account, Kernel, Look, Names};
 use xh_model::limits::{MAX_BLOCKS, MAX_BUDGET};
 use xh_place::{Gate, Got, Taken};
-use xh_session::{Machine, Received};
+use xh_session::{Machine, Received, Told};
 
 /// A worker on a kernel that others work on too: what its calls take besides, an account and a look of its
 /// own among it.
@@ -69,7 +69,7 @@ impl<'a, N: Names, R: Wait, G: Gate> Machine for Worker<'a, N, R, G> {
 
     ghost did = { did N.parts N.leads };
 
-    fn spawn(&mut self) -> Result<u16, Refused> {
+    fn spawn(&mut self) -> Told<u16> {
         self.kernel.spawn(self.rt, &mut self.account, self.gate)
     }
 
@@ -78,7 +78,7 @@ impl<'a, N: Names, R: Wait, G: Gate> Machine for Worker<'a, N, R, G> {
         process: u16,
         arena: u32,
         contract: Option<&Contract>,
-    ) -> Result<(Block, Block), Refused> {
+    ) -> Told<(Block, Block)> {
         let account = &mut self.account;
         match contract {
             Some(contract) => {
@@ -98,7 +98,7 @@ impl<'a, N: Names, R: Wait, G: Gate> Machine for Worker<'a, N, R, G> {
         other: u16,
         arena: u32,
         contract: Option<&Contract>,
-    ) -> Result<(Block, Block), Refused> {
+    ) -> Told<(Block, Block)> {
         let account = &mut self.account;
         match contract {
             Some(contract) => {
@@ -111,54 +111,36 @@ impl<'a, N: Names, R: Wait, G: Gate> Machine for Worker<'a, N, R, G> {
         }
     }
 
-    fn alloc(
-        &mut self,
-        alloc: Global,
-        process: u16,
-        bytes: u32,
-        arena: u32,
-    ) -> Result<Block, Refused> {
+    fn alloc(&mut self, alloc: Global, process: u16, bytes: u32, arena: u32) -> Told<Block> {
         let account = &mut self.account;
         self.kernel
             .alloc(self.rt, alloc, process, bytes, arena, account, self.gate)
     }
 
-    fn split(
-        &mut self,
-        alloc: Global,
-        process: u16,
-        block: u16,
-        at: u32,
-    ) -> Result<(Block, Block), Refused> {
+    fn split(&mut self, alloc: Global, process: u16, block: u16, at: u32) -> Told<(Block, Block)> {
         let account = &mut self.account;
         self.kernel
             .split(self.rt, alloc, process, block, at, account, self.gate)
     }
 
-    fn read(&mut self, process: u16, block: u16, at: u32, room: &mut [u8]) -> Result<(), Refused> {
+    fn read(&mut self, process: u16, block: u16, at: u32, room: &mut [u8]) -> Told<()> {
         let account = &mut self.account;
         self.kernel
             .read(self.rt, process, block, at, room, account, self.gate)
     }
 
-    fn write(&mut self, process: u16, block: u16, at: u32, bytes: &[u8]) -> Result<(), Refused> {
+    fn write(&mut self, process: u16, block: u16, at: u32, bytes: &[u8]) -> Told<()> {
         let account = &mut self.account;
         self.kernel
             .write(self.rt, process, block, at, bytes, account, self.gate)
     }
 
-    fn give(
-        &mut self,
-        process: u16,
-        endpoint: u16,
-        tag: u16,
-        blocks: &[u16],
-    ) -> Result<u64, Refused> {
+    fn give(&mut self, process: u16, endpoint: u16, tag: u16, blocks: &[u16]) -> Told<u64> {
         let account = &mut self.account;
         self.kernel.give(self.rt, process, endpoint, tag, blocks, account, self.gate)
     }
 
-    fn take(&mut self, process: u16, endpoint: u16, waits: bool) -> Result<Received, Refused> {
+    fn take(&mut self, process: u16, endpoint: u16, waits: bool) -> Told<Received> {
         let taken = if waits {
             self.kernel
                 .take_wait(self.rt, process, endpoint, &mut self.account, self.gate)
@@ -169,30 +151,30 @@ impl<'a, N: Names, R: Wait, G: Gate> Machine for Worker<'a, N, R, G> {
         answered(taken)
     }
 
-    fn free(&mut self, process: u16, block: u16) -> Result<u32, Refused> {
+    fn free(&mut self, process: u16, block: u16) -> Told<u32> {
         self.kernel
             .free(self.rt, process, block, &mut self.account, self.gate)
     }
 
-    fn close(&mut self, process: u16, endpoint: u16) -> Result<u64, Refused> {
+    fn close(&mut self, process: u16, endpoint: u16) -> Told<u64> {
         self.kernel
             .close(self.rt, process, endpoint, &mut self.account, self.gate)
     }
 
-    fn exit(&mut self, process: u16, budget: u32) -> Result<u64, Refused> {
+    fn exit(&mut self, process: u16, budget: u32) -> Told<u64> {
         let budget = budget.min(u32::from(MAX_BUDGET)) as u16;
         self.kernel
             .exit(self.rt, process, budget, &mut self.account, self.gate)
     }
 
-    fn kill(&mut self, process: u16, victim: u16, budget: u32) -> Result<u64, Refused> {
+    fn kill(&mut self, process: u16, victim: u16, budget: u32) -> Told<u64> {
         let account = &mut self.account;
         let budget = budget.min(u32::from(MAX_BUDGET)) as u16;
         self.kernel
             .kill(self.rt, process, victim, budget, account, self.gate)
     }
 
-    fn glance(&mut self, place: u8) -> Result<Glance, Refused> {
+    fn glance(&mut self, place: u8) -> Told<Glance> {
         self.kernel.glance(place, &mut self.look)
     }
 }
@@ -242,13 +224,7 @@ pub fn leave_all<N: Names, R, G>(
     let mut accounts = Vec::with_capacity(alloc, workers.len())?;
     let mut looks = Vec::with_capacity(alloc, workers.len())?;
     for worker in workers {
-        let Worker {
-            rt: _,
-            kernel: _,
-            gate: _,
-            account,
-            look,
-        } = worker;
+        let Worker { account, look, .. } = worker;
         accounts.push_reserved(account);
         looks.push_reserved(look);
     }

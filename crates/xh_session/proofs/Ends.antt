@@ -1,11 +1,11 @@
 -- Lemmas on how a run ends.
-use Rattle.xh_session.proofs.Common.{Bool, Err, Fault, List, MAX_SCRIPT, Ok, Option, Reads, Report, Result, Some, Watched, Writes, WritesOrFails, after, ap, failures, false, if◌then◌else◌}
+use Rattle.xh_session.proofs.Common.{Bool, Err, Fault, List, MAX_SCRIPT, Ok, Option, Reads, Report, Result, Some, Watched, Writes, WritesOrFails, after, ap, failures, false}
 use Rattle.xh_session.proofs.Common.{inner_of, length, new_world, refl, subst, sym, text_of, told_text, true, ℕ, ◌++◌, ◌+◌, ◌∙◌, ◌≡◌, ◌≢◌, ◌≤◌}
 use Rattle.std.specs.Io.KnownBytes.{Consumes}
-use Rattle.std.proofs.Common.{IfErr, None, OnOk, [], append-nil, append_assoc, arith, inl, inr, length-append, ltb-false, nat_lt, ◌⊎◌}
+use Rattle.std.proofs.Common.{IfErr, None, OnOk, [], append-nil, append_assoc, arith, inl, inr, length-append, ◌⊎◌}
+use Rattle.std.proofs.lemmas.Bool.Decides.{nat_tests}
 use Rattle.xh_model.specs.declared.config.Config.{Config}
 use Rattle.xh_script.specs.declared.fault.Fault.TheVariants.{Memory, Read, Script, Write}
-use Rattle.xh_script.specs.declared.fault.Kind.TheVariants.{TooLong}
 use Rattle.xh_script.specs.Scripts.{Fails, Listing, script_of}
 use Rattle.xh_script.proofs.Writings.{WritesOrFails-then}
 use Rattle.xh_serial.specs.PlaceCommands.{flight_of}
@@ -34,15 +34,10 @@ pub reads_most : {R : Type 0} (remaining : R → Option (List ℕ)) (first now n
     → Reads remaining first now text → ReadsAtMost remaining room now next → length text + room ≤ MAX_SCRIPT + 1 → ReadsAtMost remaining (MAX_SCRIPT + 1) first next
 reads_most remaining first now next text room p q s = (text ++ q.0, consumes_then _ _ _ text q.0 p.taken q.1, length_both text q.0 (length text) room refl q.2 s)
 
-short_by : (b : Bool) (text : List ℕ) (rest : Result Listing Fault) (script : Listing) → nat_lt MAX_SCRIPT (length text) ≡ b
-    → (if b then Err (Script 0 TooLong) else rest) ≡ Ok script → length text ≤ MAX_SCRIPT
-short_by true text rest script e h = absurd (cc)
-short_by false text rest script e h = ltb-false MAX_SCRIPT (length text) e
-
 -- what is read as a script is no longer than one
 pub script_short : (text : List ℕ) (script : Listing) → script_of text ≡ Ok script → length text ≤ MAX_SCRIPT
 unfolding script_of
-script_short text script h = short_by (nat_lt MAX_SCRIPT (length text)) text _ script refl h
+script_short text script h = grind (arith, nat_tests)
 
 module _ {R : Type 0} (remaining : R → Option (List ℕ)) where
   -- why no text was read
@@ -95,5 +90,5 @@ module _ {R W : Type 0} (remaining : R → Option (List ℕ)) (contents : W → 
 pub told : (config : Config) (script : Listing) (r : Report) → text_of r ≡ run_text (new_world config script.contracts) script
     → r.flight.items ≡ flight_of (after (new_world config script.contracts) script.lines).machine → (flight : Bool) → IsTold flight config script (told_text flight r)
 unfolding meaning
-told config script r text lines false = text
+told config script r text lines false = append-nil (text_of r) ∙ text
 told config script r text lines true = rw (text, lines) refl

@@ -2,4 +2,3 @@ pub mod Common
 pub mod Ends
 pub mod Bindings
 pub mod Plans
-pub mod Worlds

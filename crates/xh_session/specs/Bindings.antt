@@ -1,7 +1,6 @@
 -- What the names of a script stand for.
 use Rattle.std.specs.Prelude.{ℕ, zero, suc, ◌+◌, ◌*◌, ◌%◌, List, [], ◌∷◌, ◌++◌, map, take, drop, replicate, slice_index_or, slice_set, if◌then◌else◌, not, ◌==◌, Bool, codes, slice_get}
 use Rattle.std.specs.Prelude.{option_and_then, Option, Some, None}
-use Rattle.std.specs.List.{list_any, filter}
 use Rattle.xh_model.specs.declared.limits.TheConstants.{PLACES}
 use Rattle.xh_core.specs.declared.block.Block.{Block}
 use Rattle.xh_script.specs.declared.limits.TheConstants.{MAX_PROCESSES, MAX_BLOCK_NAMES}
@@ -26,12 +25,12 @@ unfoldable pub no_bindings : Bindings
 no_bindings = record { numbers = replicate MAX_PROCESSES NOTHING; latest = replicate PLACES 0; records = nothings (MAX_PROCESSES * MAX_BLOCK_NAMES) }
 
 -- the number of a process
-abbrev pub number_of : Bindings → ℕ → ℕ
-number_of b p = slice_index_or b.numbers p NOTHING
+abbrev pub number_at : Bindings → ℕ → ℕ
+number_at b p = slice_index_or b.numbers p NOTHING
 
 -- whether a process line gave a process a place
 abbrev pub has_place : Bindings → ℕ → Bool
-has_place b p = not (number_of b p == NOTHING)
+has_place b p = not (number_at b p == NOTHING)
 
 -- a process has a number, and is the latest of its place
 abbrev pub started : Bindings → ℕ → ℕ → Bindings
@@ -50,11 +49,11 @@ abbrev pub names_by_place : List (List ℕ) → Bindings → List (List ℕ)
 names_by_place names b = map (λ p. name_at names p) b.latest
 
 -- the record that a process's name for a block stands for, and those of several names
-abbrev pub record_of : Bindings → ℕ → ℕ → ℕ
-record_of b p x = slice_index_or b.records (MAX_BLOCK_NAMES * p + x) NOTHING
+abbrev pub record_at : Bindings → ℕ → ℕ → ℕ
+record_at b p x = slice_index_or b.records (MAX_BLOCK_NAMES * p + x) NOTHING
 
 abbrev pub records_of : Bindings → ℕ → List (Word) → List ℕ
-records_of b p xs = map (λ x. record_of b p (name_in x)) xs
+records_of b p xs = map (λ x. record_at b p (name_in x)) xs
 
 -- a name stands for a record from now on
 abbrev pub bound : Bindings → ℕ → ℕ → ℕ → Bindings
@@ -89,10 +88,6 @@ abbrev pub unbound_each : Bindings → ℕ → List ℕ → Bindings
 unbound_each b p [] = b
 unbound_each b p (r ∷ rs) = unbound_each (unbound b p r) p rs
 
--- those of several records that are not among others
-abbrev pub not_among : List ℕ → List ℕ → List ℕ
-not_among others rs = filter (λ r. not (list_any (λ o. o == r) others)) rs
-
 -- the names below n are bound to nothing, and all names of a process
 unfoldable pub unbound_below : Bindings → ℕ → ℕ → Bindings
 unbound_below b p zero = b
@@ -103,4 +98,4 @@ unbound_all b p = unbound_below b p MAX_BLOCK_NAMES
 
 -- the process that has a place of the first 32 numbers, by its name
 abbrev pub process_at : Bindings → ℕ → Option ℕ
-process_at b place = option_and_then (λ p. if number_of b p == place then Some p else None) (slice_get b.latest place)
+process_at b place = option_and_then (λ p. if number_at b p == place then Some p else None) (slice_get b.latest place)

@@ -5,5 +5,4 @@ pub mod Plans
 pub mod Machines
 pub mod Meaning
 pub mod Output
-pub mod Reports
 pub mod Ends

@@ -9,8 +9,8 @@ use Rattle.xh_serial.specs.MessageCommands.{give, take}
 use Rattle.xh_serial.specs.EndingCommands.{close, exit, kill}
 use Rattle.xh_serial.specs.declared.message.Taken.{Taken as Message}
 use Rattle.xh_serial.specs.Commands.{Answer as Answered}
-use Rattle.xh_session.specs.declared.received.Received.{Received}
-use Rattle.xh_session.specs.Questions.{Question, Answer, Spawn, Open, Wire, Alloc, Split, Read, Write, Give, Take, Free, Close, Exit, Kill, Glance}
+use Rattle.xh_session.specs.declared.machine.Received.{Received}
+use Rattle.xh_session.specs.Questions.{Question, AnswerTo, Spawn, Open, Wire, Alloc, Split, Read, Write, Give, Take, Free, Close, Exit, Kill, Glance}
 
 -- a message whose blocks are all there
 abbrev pub received : Message → Received
@@ -22,7 +22,7 @@ receives (Ok message, m) = (Ok (received message), m)
 receives (Err refused, m) = (Err refused, m)
 
 -- the command of a question: its answer, and the machine after it
-abbrev pub command : (q : Question) → Machine → Answer q × Machine
+abbrev pub command : (q : Question) → Machine → AnswerTo q × Machine
 command Spawn m = spawn m
 command (Open p arena contract) m = open_channel p arena contract m
 command (Wire p q arena contract) m = wire_channel p q arena contract m
@@ -39,11 +39,11 @@ command (Kill by victim budget) m = kill by victim budget m
 command (Glance place) m = (glance place m, m)
 
 -- memory was refused
-abbrev pub Lacks : (q : Question) → Answer q → Type 0
+abbrev pub Lacks : (q : Question) → AnswerTo q → Type 0
 Lacks (Alloc p bytes arena) answer = answer ≡ Err OutOfMemory
 Lacks (Split p r at) answer = answer ≡ Err OutOfMemory
 Lacks q answer = ⊥
 
 -- unless memory was refused, a call answers what its command answers, and leaves the machine as the command does
-abbrev pub Does : Machine → (q : Question) → Answer q → Machine → Type 0
+abbrev pub Does : Machine → (q : Question) → AnswerTo q → Machine → Type 0
 Does old q answer new = ¬ Lacks q answer → command q old ≡ (answer, new)

@@ -1,5 +1,5 @@
 -- What is written for a script.
-use Rattle.std.specs.Prelude.{◌≡◌, ℕ, Bool, true, false, List, ◌++◌}
+use Rattle.std.specs.Prelude.{◌≡◌, ℕ, Bool, true, false, if◌then◌else◌, List, [], ◌++◌}
 use Rattle.xh_model.specs.declared.config.Config.{Config}
 use Rattle.xh_serial.specs.Machine.{Machine}
 use Rattle.xh_serial.specs.PlaceCommands.{flight_of, ledger_of}
@@ -8,6 +8,15 @@ use Rattle.xh_script.specs.Texts.{answer_texts, flight_texts, ledger_text}
 use Rattle.xh_session.specs.Bindings.{names_by_place}
 use Rattle.xh_session.specs.Meaning.{new_world, answers, after}
 use Rattle.xh_session.specs.Plans.{World}
+use Rattle.xh_session.specs.declared.report.Report.{Report}
+
+-- the text of a report: the replies, and then the ledger
+abbrev pub text_of : Report → List ℕ
+text_of r = answer_texts r.answers.items ++ ledger_text r.ledger r.names.items
+
+-- the same, and after it, where it is asked for, what is in flight
+abbrev pub told_text : Bool → Report → List ℕ
+told_text flight r = text_of r ++ (if flight then flight_texts r.flight.items else [])
 
 -- the ledger of a world, with the names of the script's processes
 abbrev pub world_text : List (List ℕ) → World Machine → List ℕ

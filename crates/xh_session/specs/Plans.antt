@@ -15,17 +15,18 @@ use Rattle.xh_script.specs.declared.limits.TheConstants.{MAX_LEN, MAX_TAG}
 use Rattle.xh_script.specs.declared.replies.Reply.{Reply}
 use Rattle.xh_script.specs.declared.replies.Reply.TheVariants.{Started, Bytes, Taken, NotGiven, No}
 use Rattle.xh_script.specs.Texts.{done}
+use Rattle.xh_serial.specs.MessageCommands.{without}
 use Rattle.xh_script.specs.Operands.{name, number, number_or, contract, bytes}
-use Rattle.xh_session.specs.declared.received.Received.{Received}
+use Rattle.xh_session.specs.declared.machine.Received.{Received}
 use Rattle.xh_session.specs.declared.session.Session.{Session}
-use Rattle.xh_session.specs.Bindings.{Bindings, number_of, has_place, record_of, records_of, started, bound, bound_each, unbound, unbound_each, unbound_all, not_among}
-use Rattle.xh_session.specs.Questions.{Question, Answer}
+use Rattle.xh_session.specs.Bindings.{Bindings, number_at, has_place, record_at, records_of, started, bound, bound_each, unbound, unbound_each, unbound_all}
+use Rattle.xh_session.specs.Questions.{Question, AnswerTo}
 use Rattle.xh_session.specs.Questions as ask
 
 -- a command says its reply and what names stand for from then on, or asks the machine and goes on by the answer
 pub data Plan : Type 0 where
   says : Reply → Bindings → Plan
-  asks : (q : Question) → (Answer q → Plan) → Plan
+  asks : (q : Question) → (AnswerTo q → Plan) → Plan
 
 -- the machine, what the names of the script stand for, and the script's contracts by number
 pub record World (S : Type 0) : Type 0 where
@@ -38,9 +39,9 @@ abbrev pub world_of : {M S : Type 0} → (M → S) → Session M → World S
 world_of state s = record { machine = state s.machine; names = s.names; contracts = s.contracts.now }
 
 -- where a machine does what it says at each question, a plan may come to this reply, and leave this world
-abbrev pub Follows : {S : Type 0} → (S → (q : Question) → Answer q → S → Type 0) → Plan → World S → Reply → World S → Type 0
+abbrev pub Follows : {S : Type 0} → (S → (q : Question) → AnswerTo q → S → Type 0) → Plan → World S → Reply → World S → Type 0
 Follows did (says r names) old reply new = (reply ≡ r) × (new ≡ record old { names = names })
-Follows {S} did (asks q next) old reply new = (a : Answer q) × (mid : S) × did old.machine q a mid × Follows did (next a) (record old { machine = mid }) reply new
+Follows {S} did (asks q next) old reply new = (a : AnswerTo q) × (mid : S) × did old.machine q a mid × Follows did (next a) (record old { machine = mid }) reply new
 
 -- the contract with a number, where a line names one
 abbrev pub contract_at : List (List Row) → Option ℕ → Option (List Row)
@@ -58,9 +59,9 @@ with_ends names p e q f ends = bound (bound names p e ends.0.rec) q f ends.1.rec
 
 -- of the blocks that a refused give does not hand back, the names are unbound
 abbrev pub handed_back : ℕ → List ℕ → Refused → Bindings → Bindings
-handed_back p rs (Full back) names = unbound_each names p (not_among back.items rs)
-handed_back p rs (PeerClosed back) names = unbound_each names p (not_among back.items rs)
-handed_back p rs (Protocol back) names = unbound_each names p (not_among back.items rs)
+handed_back p rs (Full back) names = unbound_each names p (without back.items rs)
+handed_back p rs (PeerClosed back) names = unbound_each names p (without back.items rs)
+handed_back p rs (Protocol back) names = unbound_each names p (without back.items rs)
 handed_back p rs _ names = names
 
 -- the names of blocks that went are unbound
@@ -90,14 +91,14 @@ renewed names p n = unbound_all (started names p n) p
 
 -- the process that a word names, by its number, and the record of a block of the line's process
 abbrev pub process_in : Bindings → List Word → ℕ → ℕ
-process_in b ws i = number_of b (name ws i)
+process_in b ws i = number_at b (name ws i)
 
 abbrev pub record_in : Bindings → List Word → ℕ → ℕ
-record_in b ws i = record_of b (name ws 0) (name ws i)
+record_in b ws i = record_at b (name ws 0) (name ws i)
 
 -- a tag is at most so great
 abbrev pub give_plan : Bindings → ℕ → ℕ → ℕ → List Word → Plan
-give_plan b p e tag xs = asks (ask.Give (number_of b p) (record_of b p e) (min tag MAX_TAG) (records_of b p xs)) (given b p (records_of b p xs))
+give_plan b p e tag xs = asks (ask.Give (number_at b p) (record_at b p e) (min tag MAX_TAG) (records_of b p xs)) (given b p (records_of b p xs))
 
 abbrev pub take_plan : Bool → Bindings → List Word → Plan
 take_plan waits b ws = asks (ask.Take (process_in b ws 0) (record_in b ws 1) waits) (replied taken (λ message. bound_each b (name ws 0) (drop 2 ws) message.blocks.items) b)

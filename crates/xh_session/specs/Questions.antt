@@ -4,7 +4,7 @@ use Rattle.xh_model.specs.declared.row.Row.{Row}
 use Rattle.xh_core.specs.declared.block.Block.{Block}
 use Rattle.xh_core.specs.declared.glance.Glance.{Glance as Look}
 use Rattle.xh_core.specs.declared.refused.Refused.{Refused}
-use Rattle.xh_session.specs.declared.received.Received.{Received}
+use Rattle.xh_session.specs.declared.machine.Received.{Received}
 
 -- a call of a machine, with its words: a process by its number, and a block or an end by its record
 pub data Question : Type 0 where
@@ -40,8 +40,8 @@ Told (Exit p budget) = ℕ
 Told (Kill by victim budget) = ℕ
 Told (Glance place) = Look
 
-abbrev pub Answer : Question → Type 0
-Answer q = Result (Told q) Refused
+abbrev pub AnswerTo : Question → Type 0
+AnswerTo q = Result (Told q) Refused
 
 -- what a read answers that fills a room
 abbrev pub filled : List ℕ → Result (Unit {0}) Refused → Result (List ℕ) Refused

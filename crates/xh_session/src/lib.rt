@@ -4,16 +4,14 @@
 mod input;
 mod machine;
 mod names;
-mod received;
 mod report;
 mod serial;
 mod session;
 mod stage;
 
 pub use input::{Input, read_input};
-pub use machine::Machine;
+pub use machine::{Machine, Received, Told};
 pub use names::Names;
-pub use received::Received;
 pub use report::{Report, write_report};
 pub use serial::{Run, run_serial, run_serial_as};
 pub use session::Session;

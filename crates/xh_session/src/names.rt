@@ -1,7 +1,8 @@
 //! What the names of a script stand for.
 ghost use Rattle.std.specs.Prelude.{◌≡◌, ◌+◌, ◌*◌, ◌%◌, ◌≤◌, ◌==◌, if◌then◌else◌, length, codes, IfOk, slice_index_or, slice_set};
-ghost use Rattle.xh_session.specs.Bindings.{Bindings, no_bindings, nothings, number_of, has_place, started, renumbered, name_at, names_by_place, record_of, records_of};
-ghost use Rattle.xh_session.specs.Bindings.{bound, bound_block, bound_each, cleared, without_record, unbound, unbound_each, unbound_all, not_among, process_at};
+ghost use Rattle.xh_serial.specs.MessageCommands.{without};
+ghost use Rattle.xh_session.specs.Bindings.{Bindings, no_bindings, nothings, number_at, has_place, started, renumbered, name_at, names_by_place, record_at, records_of};
+ghost use Rattle.xh_session.specs.Bindings.{bound, bound_block, bound_each, cleared, without_record, unbound, unbound_each, unbound_all, process_at};
 ghost use Rattle.xh_model.specs.declared.limits.TheConstants.{PLACES};
 ghost use Rattle.xh_script.specs.declared.limits.TheConstants.{MAX_WORDS, MAX_BLOCK_NAMES};
 ghost use Rattle.xh_session.specs.declared.names.TheConstants.{NOTHING};
@@ -23,7 +24,7 @@ pub(crate) const NOTHING: u16 = 65_535;
 #[derive(Drop)]
 pub struct Names {
     numbers: [u16; MAX_PROCESSES],
-    latest: [u8; PLACE_LINES],
+    pub(crate) latest: [u8; PLACE_LINES],
     records: Vec<u16>,
 }
 
@@ -91,9 +92,9 @@ fn clear_record(records: &mut [u16], process: u8, rec: u16)
 }
 
 /// Those of the records that are not among others.
-pub(crate) fn not_among(others: &[u16], records: &[u16]) -> ArrayVec<u16, MAX_WORDS>
+pub(crate) fn without(others: &[u16], records: &[u16]) -> ArrayVec<u16, MAX_WORDS>
     requires { length records.now ≤ MAX_WORDS }
-    ensures { result.items ≡ not_among others.now records.now }
+    ensures { result.items ≡ without others.now records.now }
 {
     let mut found = ArrayVec::new();
     for rec in records {
@@ -139,7 +140,7 @@ impl Names {
 
     /// The number of a process, or `NOTHING` where no `process` line gave it a place.
     pub fn number(&self, process: u8) -> u16
-        ensures { result ≡ number_of self.now process }
+        ensures { result ≡ number_at self.now process }
     {
         at(&self.numbers, usize::from(process))
     }
@@ -157,13 +158,6 @@ impl Names {
     {
         let process = *self.latest.get(usize::from(place))?;
         (self.number(process) == u16::from(place)).then_some(process)
-    }
-
-    /// By place, the name of its latest process.
-    pub(crate) fn latest(&self) -> &[u8]
-        ensures { result.now ≡ self.now.latest }
-    {
-        &self.latest
     }
 
     /// What the names stand for, once more.
@@ -186,7 +180,7 @@ impl Names {
 
     /// The record of a block's name, or `NOTHING` where it is bound to none.
     pub(crate) fn record_of(&self, process: u8, block: u8) -> u16
-        ensures { result ≡ record_of self.now process block }
+        ensures { result ≡ record_at self.now process block }
     {
         at(
             &self.records,

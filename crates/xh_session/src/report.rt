@@ -2,7 +2,7 @@
 ghost use Rattle.std.specs.Prelude.{◌<◌, length};
 ghost use Rattle.std.specs.List.{All};
 ghost use Rattle.xh_script.specs.Watching.{WritesOrFails};
-ghost use Rattle.xh_session.specs.Reports.{told_text, text_of};
+ghost use Rattle.xh_session.specs.Output.{told_text};
 
 use arrayvec::ArrayVec;
 use std::io::Write;
@@ -20,15 +20,6 @@ pub struct Report {
     pub names: Vec<Name>,
 }
 
-// Writes the replies, and then the ledger.
-fn put_report<W: Write>(writer: &mut Watched<W>, report: &Report) -> Result<(), Fault>
-    requires { All (λ line. line.place < length report.now.names.items) report.now.ledger.places.items }
-    ensures { WritesOrFails W.contents writer.old writer.new result (text_of report.now) }
-{
-    write_answers(writer, &report.answers)?;
-    write_ledger(writer, &report.ledger, &report.names)
-}
-
 /// Writes the replies, and then the ledger, and where it is asked for what is in flight, and sends all on
 /// its way.
 pub fn write_report<W: Write>(
@@ -39,7 +30,8 @@ pub fn write_report<W: Write>(
     requires { All (λ line. line.place < length report.now.names.items) report.now.ledger.places.items }
     ensures { WritesOrFails W.contents writer.old writer.new result (told_text flight report.now) }
 {
-    put_report(writer, report)?;
+    write_answers(writer, &report.answers)?;
+    write_ledger(writer, &report.ledger, &report.names)?;
     if !flight {
         return writer.flush();
     }

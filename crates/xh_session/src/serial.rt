@@ -6,9 +6,8 @@ ghost use Rattle.xh_model.specs.declared.limits.TheConstants.{PLACES};
 ghost use Rattle.xh_script.specs.declared.limits.TheConstants.{MAX_SCRIPT};
 ghost use Rattle.xh_script.specs.Scripts.{listing_of};
 ghost use Rattle.xh_session.specs.Ends.{Done, Stopped};
-ghost use Rattle.xh_session.specs.Output.{IsMeaning, IsTold};
+ghost use Rattle.xh_session.specs.Output.{IsMeaning, IsTold, told_text};
 ghost use Rattle.xh_session.specs.Reading.{ReadsAtMost};
-ghost use Rattle.xh_session.specs.Reports.{told_text};
 
 use crate::input::read_input;
 use crate::report::{Report, write_report};

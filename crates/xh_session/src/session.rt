@@ -1,16 +1,19 @@
 //! A script on a machine, command by command.
-ghost use Rattle.xh_session.specs.Plans.{Follows, plan, world_of};
+#![tactic(auto, unfolding(crate::specs::Plans::plan_by))]
 
-mod blocks;
-mod channels;
-mod messages;
-mod processes;
+ghost use Rattle.std.specs.Prelude.{◌≡◌, ◌%◌, ◌≤◌, length, map, option_map};
+ghost use Rattle.xh_model.specs.declared.limits.TheConstants.{MAX_BLOCKS, PLACES};
+ghost use Rattle.xh_script.specs.declared.limits.TheConstants.{MAX_HEX, MAX_WORDS};
+ghost use Rattle.xh_session.specs.Plans.{Follows, contract_at, give_plan, handed_back, is_alive, plan, plan_by, shown, take_plan, world_of};
 
 use crate::machine::Machine;
-use crate::names::Names;
+use crate::names::{Names, without};
+use arrayvec::ArrayVec;
 use std::alloc::Global;
-use xh_core::Contract;
-use xh_script::{Command, Form, Reply};
+use xh_core::{Block, Contract, Glance, Refused, Status};
+use xh_model::limits::{MAX_BLOCKS, MAX_BUDGET, PLACES};
+use xh_script::limits::{MAX_HEX, MAX_LEN, MAX_TAG};
+use xh_script::{Command, Form, Reply, Word};
 
 /// A machine, what the names of a script stand for, and the script's contracts by number.
 #[derive(Drop)]
@@ -20,9 +23,74 @@ pub struct Session<'a, M> {
     pub contracts: &'a [Contract],
 }
 
+/// Whether a process runs, or is being reclaimed.
+fn is_alive(look: &Result<Glance, Refused>) -> bool
+    ensures { result ≡ is_alive look.now }
+{
+    match look {
+        Ok(look) => !matches!(look.state, Status::Ended),
+        Err(_) => false,
+    }
+}
+
+/// What a place shows of a process; Ended where it shows a later one.
+fn shown(number: u16, look: Result<Glance, Refused>) -> Result<Glance, Refused>
+    ensures { result ≡ shown number look }
+{
+    match look {
+        Ok(look) if look.process != number => Err(Refused::Ended),
+        look => look,
+    }
+}
+
+fn place_of(number: u16) -> u8
+    ensures { result ≡ number % PLACES }
+{
+    (number % u16::from(PLACES)) as u8
+}
+
+fn contract_at<'a>(contracts: &'a [Contract], number: Option<u8>) -> Option<&'a Contract>
+    ensures { option_map (λ c. c.now) result ≡ contract_at contracts.now number }
+{
+    contracts.get(usize::from(number?))
+}
+
+fn array_of(bytes: &[u8]) -> ArrayVec<u8, MAX_HEX>
+    requires { length bytes.now ≤ MAX_HEX }
+    ensures { result.items ≡ bytes.now }
+{
+    let mut array = ArrayVec::new();
+    let _ = array.try_extend_from_slice(bytes);
+    array
+}
+
+fn lengths_of(blocks: &[Option<Block>]) -> ArrayVec<Option<u32>, MAX_BLOCKS>
+    requires { length blocks.now ≤ MAX_BLOCKS }
+    ensures { result.items ≡ map (option_map (λ b. b.len)) blocks.now }
+{
+    let mut lengths = ArrayVec::new();
+    for block in blocks {
+        lengths.push(block.map(|block| block.len));
+    }
+    lengths
+}
+
+/// A refused give unbinds the names of the blocks that were not handed back.
+fn keep_back(names: &mut Names, process: u8, records: &[u16], refused: &Refused)
+    requires { length records.now ≤ MAX_WORDS }
+    ensures { names.new ≡ handed_back process records.now refused.now names.old }
+{
+    let back = match refused {
+        Refused::Full { back } => back,
+        Refused::PeerClosed { back } => back,
+        Refused::Protocol { back } => back,
+        _ => return,
+    };
+    names.unbind_each(process, without(back.as_slice(), records).as_slice());
+}
+
 impl<'a, M: Machine> Session<'a, M> {
     /// Does a command: asks the machine what its plan asks, and replies what that says of the answer.
-    #[tactic(auto, unfolding(crate::specs::Plans::plan_by))]
     pub fn step(&mut self, alloc: Global, c: &Command) -> Reply
         ensures { Follows M.did (plan self.old.names self.old.contracts.now c.now) (world_of M.state self.old) result (world_of M.state self.new) }
     {
@@ -44,6 +112,227 @@ impl<'a, M: Machine> Session<'a, M> {
             Form::Kill => self.kill(c),
             Form::Glance => self.glance(c),
             Form::Again => self.again(c),
+        }
+    }
+
+    fn process(&mut self, c: &Command) -> Reply
+        ensures { Follows M.did (plan_by self.old.names self.old.contracts.now Form.Process c.now.words.items) (world_of M.state self.old) result (world_of M.state self.new) }
+    {
+        if self.names.has_place(c.name(0)) {
+            return Reply::No(Refused::Twice);
+        }
+        match self.machine.spawn() {
+            Ok(number) => {
+                self.names.start(c.name(0), number);
+                Reply::Started(number)
+            }
+            Err(refused) => Reply::No(refused),
+        }
+    }
+
+    fn wire(&mut self, c: &Command) -> Reply
+        ensures { Follows M.did (plan_by self.old.names self.old.contracts.now Form.Wire c.now.words.items) (world_of M.state self.old) result (world_of M.state self.new) }
+    {
+        let number = self.names.number(c.name(0));
+        let other = self.names.number(c.name(2));
+        let contract = contract_at(self.contracts, c.contract(5));
+        match self.machine.wire(number, other, c.number(4), contract) {
+            Ok((first, second)) => {
+                self.names.bind(c.name(0), c.name(1), first.rec);
+                self.names.bind(c.name(2), c.name(3), second.rec);
+                Reply::done(&[])
+            }
+            Err(refused) => Reply::No(refused),
+        }
+    }
+
+    fn open(&mut self, c: &Command) -> Reply
+        ensures { Follows M.did (plan_by self.old.names self.old.contracts.now Form.Open c.now.words.items) (world_of M.state self.old) result (world_of M.state self.new) }
+    {
+        let number = self.names.number(c.name(0));
+        let contract = contract_at(self.contracts, c.contract(4));
+        match self.machine.open(number, c.number(3), contract) {
+            Ok((first, second)) => {
+                self.names.bind(c.name(0), c.name(1), first.rec);
+                self.names.bind(c.name(0), c.name(2), second.rec);
+                Reply::done(&[])
+            }
+            Err(refused) => Reply::No(refused),
+        }
+    }
+
+    fn alloc(&mut self, alloc: Global, c: &Command) -> Reply
+        ensures { Follows M.did (plan_by self.old.names self.old.contracts.now Form.Alloc c.now.words.items) (world_of M.state self.old) result (world_of M.state self.new) }
+    {
+        let number = self.names.number(c.name(0));
+        match self.machine.alloc(alloc, number, c.number(2), c.number(3)) {
+            Ok(made) => {
+                self.names.bind(c.name(0), c.name(1), made.rec);
+                Reply::done(&[u64::from(made.len)])
+            }
+            Err(refused) => Reply::No(refused),
+        }
+    }
+
+    fn split(&mut self, alloc: Global, c: &Command) -> Reply
+        ensures { Follows M.did (plan_by self.old.names self.old.contracts.now Form.Split c.now.words.items) (world_of M.state self.old) result (world_of M.state self.new) }
+    {
+        let number = self.names.number(c.name(0));
+        let rec = self.names.record_of(c.name(0), c.name(1));
+        match self.machine.split(alloc, number, rec, c.number(2)) {
+            Ok((head, rest)) => {
+                self.names.bind(c.name(0), c.name(3), rest.rec);
+                Reply::done(&[u64::from(head.len), u64::from(rest.len)])
+            }
+            Err(refused) => Reply::No(refused),
+        }
+    }
+
+    fn read(&mut self, c: &Command) -> Reply
+        ensures { Follows M.did (plan_by self.old.names self.old.contracts.now Form.Read c.now.words.items) (world_of M.state self.old) result (world_of M.state self.new) }
+    {
+        let number = self.names.number(c.name(0));
+        let rec = self.names.record_of(c.name(0), c.name(1));
+        let mut bytes = [0u8; MAX_HEX];
+        let room = &mut bytes[..c.number(3).min(MAX_LEN) as usize];
+        match self.machine.read(number, rec, c.number(2), room) {
+            Ok(()) => Reply::Bytes(array_of(room)),
+            Err(refused) => Reply::No(refused),
+        }
+    }
+
+    fn write(&mut self, c: &Command) -> Reply
+        ensures { Follows M.did (plan_by self.old.names self.old.contracts.now Form.Write c.now.words.items) (world_of M.state self.old) result (world_of M.state self.new) }
+    {
+        let number = self.names.number(c.name(0));
+        let rec = self.names.record_of(c.name(0), c.name(1));
+        match self.machine.write(number, rec, c.number(2), c.bytes(3)) {
+            Ok(()) => Reply::done(&[]),
+            Err(refused) => Reply::No(refused),
+        }
+    }
+
+    fn give(&mut self, process: u8, endpoint: u8, tag: u32, words: &[Word]) -> Reply
+        requires { length words.now ≤ MAX_WORDS }
+        ensures { Follows M.did (give_plan self.old.names process endpoint tag words.now) (world_of M.state self.old) result (world_of M.state self.new) }
+    {
+        let number = self.names.number(process);
+        let rec = self.names.record_of(process, endpoint);
+        let records = self.names.records_of(process, words);
+        let tag = tag.min(MAX_TAG) as u16;
+        match self.machine.give(number, rec, tag, records.as_slice()) {
+            Ok(message) => {
+                self.names.unbind_each(process, records.as_slice());
+                Reply::done(&[message])
+            }
+            Err(refused) => {
+                keep_back(&mut self.names, process, records.as_slice(), &refused);
+                Reply::NotGiven(refused)
+            }
+        }
+    }
+
+    /// Takes a message, and waits for one where others can send it.
+    fn take(&mut self, waits: bool, c: &Command) -> Reply
+        ensures { Follows M.did (take_plan waits self.old.names c.now.words.items) (world_of M.state self.old) result (world_of M.state self.new) }
+    {
+        let number = self.names.number(c.name(0));
+        let rec = self.names.record_of(c.name(0), c.name(1));
+        match self.machine.take(number, rec, waits) {
+            Ok(message) => {
+                let blocks = message.blocks.as_slice();
+                self.names.bind_each(c.name(0), c.from(2), blocks);
+                Reply::Taken {
+                    number: message.number,
+                    tag: message.tag,
+                    blocks: lengths_of(blocks),
+                }
+            }
+            Err(refused) => Reply::No(refused),
+        }
+    }
+
+    fn free(&mut self, c: &Command) -> Reply
+        ensures { Follows M.did (plan_by self.old.names self.old.contracts.now Form.Free c.now.words.items) (world_of M.state self.old) result (world_of M.state self.new) }
+    {
+        let number = self.names.number(c.name(0));
+        let rec = self.names.record_of(c.name(0), c.name(1));
+        match self.machine.free(number, rec) {
+            Ok(len) => {
+                self.names.unbind(c.name(0), rec);
+                Reply::done(&[u64::from(len)])
+            }
+            Err(refused) => Reply::No(refused),
+        }
+    }
+
+    fn close(&mut self, c: &Command) -> Reply
+        ensures { Follows M.did (plan_by self.old.names self.old.contracts.now Form.Close c.now.words.items) (world_of M.state self.old) result (world_of M.state self.new) }
+    {
+        let number = self.names.number(c.name(0));
+        let rec = self.names.record_of(c.name(0), c.name(1));
+        match self.machine.close(number, rec) {
+            Ok(bytes) => {
+                self.names.unbind(c.name(0), rec);
+                Reply::done(&[bytes])
+            }
+            Err(refused) => Reply::No(refused),
+        }
+    }
+
+    fn exit(&mut self, c: &Command) -> Reply
+        ensures { Follows M.did (plan_by self.old.names self.old.contracts.now Form.Exit c.now.words.items) (world_of M.state self.old) result (world_of M.state self.new) }
+    {
+        let number = self.names.number(c.name(0));
+        let budget = c.number_or(1, u32::from(MAX_BUDGET));
+        match self.machine.exit(number, budget) {
+            Ok(bytes) => Reply::done(&[bytes]),
+            Err(refused) => Reply::No(refused),
+        }
+    }
+
+    fn kill(&mut self, c: &Command) -> Reply
+        ensures { Follows M.did (plan_by self.old.names self.old.contracts.now Form.Kill c.now.words.items) (world_of M.state self.old) result (world_of M.state self.new) }
+    {
+        let by = self.names.number(c.name(0));
+        let victim = self.names.number(c.name(1));
+        let budget = c.number_or(2, u32::from(MAX_BUDGET));
+        match self.machine.kill(by, victim, budget) {
+            Ok(bytes) => Reply::done(&[bytes]),
+            Err(refused) => Reply::No(refused),
+        }
+    }
+
+    fn glance(&mut self, c: &Command) -> Reply
+        ensures { Follows M.did (plan_by self.old.names self.old.contracts.now Form.Glance c.now.words.items) (world_of M.state self.old) result (world_of M.state self.new) }
+    {
+        if !self.names.has_place(c.name(0)) || !self.names.has_place(c.name(1)) {
+            return Reply::No(Refused::NoProcess);
+        }
+        let number = self.names.number(c.name(1));
+        match shown(number, self.machine.glance(place_of(number))) {
+            Ok(look) => Reply::done(&[u64::from(look.blocks), look.bytes]),
+            Err(refused) => Reply::No(refused),
+        }
+    }
+
+    fn again(&mut self, c: &Command) -> Reply
+        ensures { Follows M.did (plan_by self.old.names self.old.contracts.now Form.Again c.now.words.items) (world_of M.state self.old) result (world_of M.state self.new) }
+    {
+        if !self.names.has_place(c.name(0)) {
+            return Reply::No(Refused::NoProcess);
+        }
+        let number = self.names.number(c.name(0));
+        if is_alive(&shown(number, self.machine.glance(place_of(number)))) {
+            return Reply::No(Refused::Twice);
+        }
+        match self.machine.spawn() {
+            Ok(number) => {
+                self.names.start(c.name(0), number);
+                self.names.unbind_all(c.name(0));
+                Reply::Started(number)
+            }
+            Err(refused) => Reply::No(refused),
         }
     }
 }

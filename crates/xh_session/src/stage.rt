@@ -1,13 +1,12 @@
 //! A script on the serial machine, step by step.
-ghost use Rattle.std.specs.Prelude.{◌≡◌, ◌≢◌, ◌⊎◌, ◌<◌, length, IfOk, IfErr, OnOk, false};
+ghost use Rattle.std.specs.Prelude.{◌≡◌, ◌⊎◌, ◌<◌, length, IfOk, IfErr, OnOk};
 ghost use Rattle.std.specs.List.{All};
 ghost use Rattle.xh_model.specs.Config.{IsConfig};
 ghost use Rattle.xh_model.specs.declared.limits.TheConstants.{PLACES};
 ghost use Rattle.xh_serial.specs.PlaceCommands.{flight_of, new_machine};
 ghost use Rattle.xh_script.specs.Scripts.{listing_of};
 ghost use Rattle.xh_session.specs.Meaning.{new_world, step, answers, after};
-ghost use Rattle.xh_session.specs.Output.{run_text};
-ghost use Rattle.xh_session.specs.Reports.{text_of};
+ghost use Rattle.xh_session.specs.Output.{run_text, text_of};
 
 use crate::names::Names;
 use crate::report::Report;
@@ -34,23 +33,14 @@ impl<'a> Model for Stage<'a> {
     ghost view = { λ s. world_of (λ m. m) s.session };
 }
 
-// Whether memory was refused.
-fn lacks_memory(reply: &Reply) -> bool
-    ensures { result ≡ false → reply.now ≢ Reply.No Refused.OutOfMemory }
-{
-    matches!(reply, Reply::No(Refused::OutOfMemory))
-}
-
 fn new_machine(alloc: Global, config: Config) -> Result<Serial, Fault>
     ensures fresh { IfOk result (λ machine. machine ≡ new_machine config) }
     ensures refused { IfErr result (λ e. ((e ≡ Fault.BadConfig) × ¬ IsConfig config) ⊎ (e ≡ Fault.Memory)) }
 {
     match Serial::new(alloc, config) {
         Ok(machine) => Ok(machine),
-        Err(refused) => match refused {
-            Refused::BadSize => Err(Fault::BadConfig),
-            _ => Err(Fault::Memory),
-        },
+        Err(Refused::BadSize) => Err(Fault::BadConfig),
+        Err(_refused) => Err(Fault::Memory),
     }
 }
 
@@ -76,7 +66,7 @@ impl<'a> Stage<'a> {
         ensures after { OnOk result (self.new ≡ (step self.old line.now.command).1) }
     {
         let reply = self.session.step(alloc, &line.command);
-        if lacks_memory(&reply) {
+        if let Reply::No(Refused::OutOfMemory) = reply {
             return Err(AllocError);
         }
         Ok(Answered {
@@ -86,7 +76,7 @@ impl<'a> Stage<'a> {
     }
 
     // Does the commands of lines in order. Want of memory ends the run.
-    #[tactic(auto, using(crate::proofs::Worlds::answers_more, crate::proofs::Worlds::after_more))]
+    #[tactic(auto, using(crate::proofs::Plans::answers_more, crate::proofs::Plans::after_more))]
     fn run(&mut self, alloc: Global, lines: &[Line]) -> Result<Vec<Answered>, AllocError>
         ensures answers { IfOk result (λ replies. replies.items ≡ answers self.old lines.now) }
         ensures after { OnOk result (self.new ≡ after self.old lines.now) }
@@ -126,6 +116,6 @@ impl<'a> Stage<'a> {
     pub fn latest(&self) -> &[u8]
         ensures { result.now ≡ self.now.names.latest }
     {
-        self.session.names.latest()
+        &self.session.names.latest
     }
 }

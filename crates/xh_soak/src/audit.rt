@@ -1,44 +1,47 @@
 //! What is left at the end of a round, by calls and by the ledger.
-use crate::board::{Board, PROCESSES};
+use crate::board::{Board, HELD, OWNED, STARTED};
 use crate::caller::{Call, Caller, Told};
-use crate::plan::Plan;
+use crate::worker::Worker;
 use xh_core::{Ledger, State};
-use xh_model::limits::PLACES;
+use xh_model::limits::{PLACES, PROCESSES};
 
-// Counts what a process holds that runs, by a read of each record. None is another's too.
-fn count<C: Caller>(caller: &mut C, board: &Board, plan: Plan, p: u16) -> Told<u64> {
-    let mut held = 0u64;
-    for r in 0..u16::from(plan.config.arenas) * 256 {
-        if !matches!(caller.call(Call::Read(p, r, 0)), Err("NotOwned" | "Ended")) {
-            held = held.saturating_add(1);
-            if board.owned.set(r, 1) != 0 {
-                return Err("a block is owned twice");
+impl<'a, C: Caller, R> Worker<'a, C, R> {
+    // Counts what a process holds that runs, by a read of each record. None is another's too.
+    fn count(&mut self, p: u16) -> Told<u64> {
+        let mut held = 0u64;
+        for r in 0..u16::from(self.plan.config.arenas) * 256 {
+            let told = self.caller.call(Call::Read(p, r, 0));
+            if !matches!(told, Err("NotOwned" | "Ended")) {
+                held = held.saturating_add(1);
+                if self.board.set(OWNED, r, 1) != 0 {
+                    return Err("a block is owned twice");
+                }
             }
         }
+        Ok(held)
     }
-    Ok(held)
-}
 
-/// Counts what each process holds that runs, and ends it where that is the plan.
-pub(crate) fn count_all<C: Caller>(caller: &mut C, board: &Board, plan: Plan) -> Told<()> {
-    for p in 0..PROCESSES {
-        if board.started.get(p) != 0 {
-            let counted = count(caller, board, plan, p)?;
-            board.held.set(p % u16::from(PLACES), counted);
-            if plan.ends {
-                let _done = caller.call(Call::Exit(p, 4096));
-                board.held.set(p % u16::from(PLACES), 0);
+    /// Counts what each process holds that runs, and ends it where that is the plan.
+    pub(crate) fn count_all(&mut self) -> Told<()> {
+        for p in 0..PROCESSES {
+            if self.board.get(STARTED, p) != 0 {
+                let mut held = self.count(p)?;
+                if self.plan.ends {
+                    let _bytes = self.caller.call(Call::Exit(p, 4096));
+                    held = 0;
+                }
+                self.board.set(HELD, p % u16::from(PLACES), held);
             }
         }
+        Ok(())
     }
-    Ok(())
 }
 
 /// The ledger has as many blocks as were counted, it balances, and nothing is left once all processes have ended.
-pub(crate) fn judge(ledger: &Ledger, board: &Board, plan: Plan) -> Told<()> {
+pub(crate) fn judge(ledger: &Ledger, board: &Board, ends: bool) -> Told<()> {
     let (mut owned, mut out) = (0u64, 0u64);
     for line in &ledger.places {
-        let held = board.held.get(u16::from(line.place));
+        let held = board.get(HELD, u16::from(line.place));
         if line.state != State::Ending && held != u64::from(line.blocks) {
             return Err("a process has other blocks");
         }
@@ -49,7 +52,7 @@ pub(crate) fn judge(ledger: &Ledger, board: &Board, plan: Plan) -> Told<()> {
     }
     if owned != ledger.owned || out != ledger.out || out != owned.saturating_add(ledger.flight) {
         Err("it does not balance")
-    } else if plan.ends && out != 0 {
+    } else if ends && out != 0 {
         Err("bytes are lost")
     } else {
         Ok(())

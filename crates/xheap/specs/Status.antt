@@ -8,7 +8,7 @@ use Rattle.xh_model.specs.declared.config.Config.{Config}
 use Rattle.xh_script.specs.declared.streams.Watched.{Watched}
 use Rattle.xh_session.specs.Ends.{EndsWith}
 use Rattle.xh_session.specs.Output.{IsTold}
-use Rattle.xh_runner.specs.Reports.{IsReportTold}
+use Rattle.xh_runner.specs.Runs.{IsReportTold}
 
 module _ {R W : Type 0} (remaining : R → Option (List ℕ)) (contents : W → Option (List ℕ)) where
   -- a script was run with these limits: one by one, what it means is written, and on threads a report of its run; with what is in flight at its end, where that is asked for

@@ -6,7 +6,7 @@ use std::io::{Read, Write};
 use std::sync::Wait;
 use std::thread::Threads;
 use xh_command_line::{DONE, Options, Program, read_options, report};
-use xh_runner::{Run, run_parallel_as, run_serial_as};
+use xh_runner::{Run, run_parallel, run_serial_as};
 use xh_script::Watched;
 
 /// The program's name.
@@ -42,7 +42,7 @@ fn run<T: Threads + Wait + Sync, R: Read, W: Write, E: Write>(
     let ended = if options.serial {
         run_serial_as(alloc, reader, out, run)
     } else {
-        run_parallel_as(rt, alloc, reader, out, run)
+        run_parallel(rt, alloc, reader, out, run)
     };
     match ended {
         Ok(()) => DONE,

@@ -1,15 +1,17 @@
 -- What the steps of closing say: taking the accounts in, ending the places, closing the table, auditing.
-use Rattle.std.specs.Prelude.{◌≡◌, ℕ, ◌+◌, ◌/◌, ◌%◌, ◌<◌, List, [], ◌∷◌, All, length, map, slice_get, Some, sum}
+use Rattle.std.specs.Prelude.{◌≡◌, ℕ, ◌+◌, ◌/◌, ◌%◌, ◌<◌, List, ◌∷◌, All, length, map, slice_get, Some, sum}
 use Rattle.std.specs.List.{AllZip, sum_by}
 use Rattle.atomic_table.specs.Seated.{TableId}
 use Rattle.xh_arena.specs.Views.{LotOf, TallyOf, VaultOf}
+use Rattle.xh_core.specs.ArenaLines.{arena_line}
 use Rattle.xh_core.specs.declared.flight.FlightLine.{FlightLine}
 use Rattle.xh_core.specs.declared.ledger.ArenaLine.{ArenaLine}
 use Rattle.xh_kernel.specs.Accounts.{AccountOf}
 use Rattle.xh_calls.specs.Parts.{vault_names}
+use Rattle.xh_kernel.specs.Finished.{tallies_of}
 use Rattle.xh_kernel.specs.Places.{places_of}
 use Rattle.xh_model.specs.Arena.{lengths_of}
-use Rattle.xh_model.specs.Cover.{bytes_out, holes_of}
+use Rattle.xh_model.specs.Cover.{bytes_out}
 use Rattle.xh_model.specs.Keyed.{value_at}
 use Rattle.xh_place.specs.declared.body.Body.{Body}
 use Rattle.xh_place.specs.Places.{Item, Lists, PlaceOf, item_of}
@@ -18,7 +20,7 @@ use Rattle.xh_records.specs.Seats.{Held}
 use Rattle.xh_records.specs.declared.shape.Shape.{Shape}
 use Rattle.xh_core.specs.Flight.{AreFlightLines}
 use Rattle.xh_books.specs.Flight.{IsInFlight}
-use Rattle.xh_books.specs.Ledgers.{arena_lines, arenas_of, bytes_in_flight}
+use Rattle.xh_books.specs.Ledgers.{all_lengths, arena_lines, bytes_in_flight}
 
 -- ---- the accounts
 
@@ -26,36 +28,25 @@ use Rattle.xh_books.specs.Ledgers.{arena_lines, arenas_of, bytes_in_flight}
 abbrev pub with_tally : VaultOf → TallyOf → VaultOf
 with_tally v t = record v { collected = record { number = t.number; taken = t.taken; back = t.back } ∷ v.collected }
 
--- each vault takes in the tally of its arena
-abbrev pub with_tallies : List VaultOf → List TallyOf → List VaultOf
-with_tallies [] ts = []
-with_tallies (v ∷ vs) [] = v ∷ vs
-with_tallies (v ∷ vs) (t ∷ ts) = with_tally v t ∷ with_tallies vs ts
-
 -- a vault that took in all its tallies
-abbrev pub IsFull : VaultOf → Type 0
-IsFull v = length v.collected ≡ v.workers
+abbrev pub HasAllTallies : VaultOf → Type 0
+HasAllTallies v = length v.collected ≡ v.workers
 
 -- the line of such a vault
 abbrev pub closed_line : VaultOf → ArenaLine
-closed_line v = record {
-  size = length v.arena.cover;
-  out = bytes_out v.arena.cover;
-  holes = length (holes_of v.arena.cover);
-  taken = sum_by (λ m. m.taken) v.collected;
-  back = sum_by (λ m. m.back) v.collected;
-}
+closed_line v = record (arena_line v.arena) { taken = sum_by (λ m. m.taken) v.collected; back = sum_by (λ m. m.back) v.collected }
 
 -- its books: the bytes handed out are the lengths of its records, and what was taken less what came back
 abbrev pub AreBooks : VaultOf → Type 0
 AreBooks v = (bytes_out v.arena.cover ≡ sum (lengths_of v.arena)) × (sum_by (λ m. m.taken) v.collected ≡ sum_by (λ m. m.back) v.collected + bytes_out v.arena.cover)
 
 -- the vaults with all accounts taken in
-pub record AreGathered (accounts : List AccountOf) (old new : List VaultOf) : Type 0 where
+pub record AreGathered (records : ℕ) (accounts : List AccountOf) (old new : List VaultOf) : Type 0 where
   pub names : vault_names new ≡ vault_names old
-  pub arenas : arenas_of new ≡ arenas_of old
-  pub full : All IsFull new
-  pub lines : map closed_line new ≡ arena_lines accounts 0 old
+  pub lengths : all_lengths new ≡ all_lengths old
+  pub records_are : All (λ v. v.arena.records ≡ records) new
+  pub full : All HasAllTallies new
+  pub lines : map closed_line new ≡ arena_lines (tallies_of accounts) 0 old
 
 -- ---- the places
 

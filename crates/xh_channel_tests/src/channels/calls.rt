@@ -1,6 +1,5 @@
 //! What an end does and what is answered, to be compared.
 use arrayvec::ArrayVec;
-use std::fmt::Debug;
 use std::process::Abort;
 use std::sync::Wait;
 use std::time::{Clock, Duration};
@@ -40,7 +39,7 @@ pub(super) const REST: u64 = 200;
 
 /// The number of a message that was put; its number, tag and block; the number of a refusal and the block handed back; the turn,
 /// or how many messages were put or taken; nothing.
-#[derive(Clone, Copy, Debug, PartialEq)]
+#[derive(Clone, Copy, PartialEq)]
 pub(super) enum Answer {
     Sent(u64),
     Taken(u64, u16, Option<u16>),
@@ -200,13 +199,8 @@ pub(super) fn by_end<R: Clock + Wait>(
 }
 
 /// They are the same.
-pub(super) fn assert_same<T: PartialEq + Debug + Drop>(
-    rt: &impl Abort,
-    at: usize,
-    found: T,
-    expected: T,
-) {
-    assert_eq!(rt; found, expected, "call {at}");
+pub(super) fn assert_same<T: PartialEq + Drop>(rt: &impl Abort, at: usize, found: T, expected: T) {
+    assert!(rt; found == expected, "call {at}");
 }
 
 /// Both ends of a channel.

@@ -6,15 +6,14 @@ use Rattle.xh_crew.specs.declared.crew.Hand.TheVariants.{Works, Idle}
 use Rattle.xh_crew.specs.declared.job.Done.{Done}
 use Rattle.xh_crew.specs.declared.job.Job.{Job}
 use Rattle.xh_crew.specs.declared.job.Shared.{Shared}
-use Rattle.xh_crew.specs.Stops.{MayStop}
-use Rattle.xh_crew.specs.Plays.{AllZipFrom, DoesAmong, LAST, Plays, names_renewed, other_of, part, replies_in}
+use Rattle.xh_crew.specs.Plays.{AllZipFrom, DoesAmong, LAST, MayStop, Plays, names_renewed, other_of, part, replies_in}
 use Rattle.xh_script.specs.declared.command.Line.{Line}
 use Rattle.xh_script.specs.declared.fault.Fault.{Fault}
 use Rattle.xh_script.specs.declared.replies.Answered.{Answered}
 use Rattle.xh_script.specs.declared.replies.Reply.{Reply}
 use Rattle.xh_session.specs.Bindings.{Bindings, process_at, renumbered}
 use Rattle.xh_session.specs.Plans.{World, world_of}
-use Rattle.xh_session.specs.Questions.{Question, Answer}
+use Rattle.xh_session.specs.Questions.{Question, AnswerTo}
 
 -- ---- a job
 
@@ -28,7 +27,7 @@ module _ {M S : Type 0} (state : M → S) where
     pub world : world_of state job.session ≡ record { machine = state machine; names = shared.ready.now; contracts = shared.contracts.now }
     pub place : job.place ≡ k
 
-  module _ (did : S → (q : Question) → Answer q → S → Type 0) where
+  module _ (did : S → (q : Question) → AnswerTo q → S → Type 0) where
     -- a machine played the lines of the place k from a world on, by what the names stood for after the head
     abbrev pub Left : Bindings → List Line → ℕ → World S → Done M → Type 0
     Left b lines k old done = (end : World S) × Plays (DoesAmong did lines) old (part b (suc k) lines) done.replies.items end × (end.machine ≡ state done.machine)
@@ -45,7 +44,7 @@ module _ {M G S : Type 0} (state : M → S) where
   IsHand shared k machine (Works handle) = (handle.promise.shared.now ≡ shared) × IsJob state shared k machine handle.promise.job.value
   IsHand shared k machine (Idle idle) = (idle ≡ machine) × (k < PLACES) × (process_at shared.ready.now k ≡ None)
 
-  module _ (did : S → (q : Question) → Answer q → S → Type 0) where
+  module _ (did : S → (q : Question) → AnswerTo q → S → Type 0) where
     -- a job is done
     abbrev pub IsDone : Shared G → Job M → Done M → Type 0
     IsDone shared job done = Left state did shared.ready.now shared.lines.now job.place (world_of state job.session) done
@@ -60,8 +59,8 @@ module _ {M G S : Type 0} (state : M → S) where
     Joins (Idle machine) done = (done.machine ≡ machine) × (done.replies.items ≡ [])
 
     -- what is left of the places
-    abbrev pub ArePlaces : Shared G → List M → List (Done M) → Type 0
-    ArePlaces shared = AllZipFrom (λ k machine done. Left state did shared.ready.now shared.lines.now k
+    abbrev pub ArePlacesDone : Shared G → List M → List (Done M) → Type 0
+    ArePlacesDone shared = AllZipFrom (λ k machine done. Left state did shared.ready.now shared.lines.now k
         (record { machine = state machine; names = shared.ready.now; contracts = shared.contracts.now }) done) 0
 
 -- ---- the replies

@@ -16,8 +16,8 @@ use Rattle.xh_calls.specs.declared.call.Entry.{Entry}
 abbrev pub IsFirstSeat : RecordsOf → ℕ → Held Body → Type 0
 IsFirstSeat all k x = IsSeatOf all x × (x.process ≡ k) × (x.lots ≡ [])
 
-abbrev pub AreSeats : RecordsOf → List (Held Body) → Type 0
-AreSeats all xs = (length xs ≡ PLACES) × ((k : ℕ) (x : Held Body) → slice_get xs k ≡ Some x → IsFirstSeat all k x)
+abbrev pub AreFirstSeats : RecordsOf → List (Held Body) → Type 0
+AreFirstSeats all xs = (length xs ≡ PLACES) × ((k : ℕ) (x : Held Body) → slice_get xs k ≡ Some x → IsFirstSeat all k x)
 
 -- the pen of each place's history, in which no call stands yet
 abbrev pub ArePens : TableId → List (PenOf Entry) → Type 0
@@ -47,7 +47,7 @@ pub record AreParts (p : PartsOf) (vs : List VaultOf) (xs : List (Held Body)) (b
   pub arenas : length vs ≤ MAX_ARENAS
   pub size : (p.size % UNIT ≡ 0) × (p.size ≤ MAX_BYTES)
   pub places : p.records.shape.places ≡ PLACES
-  pub seats : AreSeats p.records xs
+  pub seats : AreFirstSeats p.records xs
   pub pens_are : ArePens p.histories pens
   pub bundles : AreBundles p.records.shape.names bs
   pub looks_are : (length looks ≡ length bs) × All (λ l. l ≡ fresh_look p.histories) looks

@@ -43,8 +43,7 @@ impl<N: Names> Kernel<N> {
         let till = &mut account.till;
         let answer = heap.alloc(rt, alloc, &mut held.place, p, n, arena, till, gate);
         let about = (p, n, arena, &answer);
-        held.scribe
-            .note(&self.shared, &held.place, &mut account.front, &about);
+        held.scribe.note(&self.shared, &held.place, &mut account.front, &about, false);
         answer
     }
 
@@ -70,8 +69,7 @@ impl<N: Names> Kernel<N> {
         let heap = &self.shared.heap;
         let answer = heap.split(rt, alloc, &mut held.place, p, r, k, &mut account.till, gate);
         let about = (p, r, k, &answer);
-        held.scribe
-            .note(&self.shared, &held.place, &mut account.front, &about);
+        held.scribe.note(&self.shared, &held.place, &mut account.front, &about, false);
         answer
     }
 
@@ -96,8 +94,7 @@ impl<N: Names> Kernel<N> {
         let held: &mut Held<N> = &mut guard;
         let answer = self.shared.heap.read(&mut held.place, p, r, at, out);
         let about = (p, r, at, &*out, &answer);
-        held.scribe
-            .note_same(&self.shared, &held.place, &mut account.front, &about);
+        held.scribe.note(&self.shared, &held.place, &mut account.front, &about, true);
         answer
     }
 
@@ -120,8 +117,7 @@ impl<N: Names> Kernel<N> {
         let held: &mut Held<N> = &mut guard;
         let answer = self.shared.heap.write(&mut held.place, p, r, at, bytes);
         let about = (p, r, at, bytes, &answer);
-        held.scribe
-            .note(&self.shared, &held.place, &mut account.front, &about);
+        held.scribe.note(&self.shared, &held.place, &mut account.front, &about, false);
         answer
     }
 
@@ -145,8 +141,7 @@ impl<N: Names> Kernel<N> {
         let held: &mut Held<N> = &mut guard;
         let answer = self.shared.heap.with_bytes(&mut held.place, p, r, f);
         let about = (p, r, &answer);
-        held.scribe
-            .note(&self.shared, &held.place, &mut account.front, &about);
+        held.scribe.note(&self.shared, &held.place, &mut account.front, &about, true);
         answer
     }
 
@@ -169,14 +164,12 @@ impl<N: Names> Kernel<N> {
         let heap = &self.shared.heap;
         let read = heap.with_bytes(&mut held.place, p, r, &mut |_: &[u8]| ());
         let about = (p, r, &read);
-        held.scribe
-            .note(&self.shared, &held.place, &mut account.front, &about);
+        held.scribe.note(&self.shared, &held.place, &mut account.front, &about, true);
         match read {
             Ok(()) => {
                 let answer = heap.with_bytes_mut(&mut held.place, p, r, f);
                 let about = (p, r, &answer);
-                held.scribe
-                    .note(&self.shared, &held.place, &mut account.front, &about);
+                held.scribe.note(&self.shared, &held.place, &mut account.front, &about, false);
                 answer
             }
             Err(refused) => Err(refused),
@@ -201,8 +194,7 @@ impl<N: Names> Kernel<N> {
         let heap = &self.shared.heap;
         let answer = heap.free(rt, &mut held.place, p, r, &mut account.till, gate);
         let about = (p, r, &answer);
-        held.scribe
-            .note(&self.shared, &held.place, &mut account.front, &about);
+        held.scribe.note(&self.shared, &held.place, &mut account.front, &about, false);
         answer
     }
 }

@@ -106,8 +106,7 @@ impl<N: Names> Kernel<N> {
         let till = &mut account.till;
         let answer = heap.open(rt, &mut held.place, p, arena, contract, till, gate);
         let about = (p, arena, &answer);
-        held.scribe
-            .note(&self.shared, &held.place, &mut account.front, &about);
+        held.scribe.note(&self.shared, &held.place, &mut account.front, &about, false);
         answer
     }
 
@@ -155,8 +154,7 @@ impl<N: Names> Kernel<N> {
         let till = &mut account.till;
         let answer = heap.open_toward(rt, &mut held.place, p, arena, contract, till, gate);
         let about = (p, arena, &answer);
-        held.scribe
-            .note(&self.shared, &held.place, &mut account.front, &about);
+        held.scribe.note(&self.shared, &held.place, &mut account.front, &about, false);
         answer
     }
 
@@ -201,8 +199,7 @@ impl<N: Names> Kernel<N> {
         let heap = &self.shared.heap;
         let answer = heap.receive(rt, &mut held.place, q, r, channel, &mut account.till, gate);
         let about = (q, r, channel, &account.till.tallies, &answer);
-        held.scribe
-            .note(&self.shared, &held.place, &mut account.front, &about);
+        held.scribe.note(&self.shared, &held.place, &mut account.front, &about, false);
         answer
     }
 
@@ -225,7 +222,6 @@ impl<N: Names> Kernel<N> {
         let heap = &self.shared.heap;
         heap.close_again(rt, &mut held.place, p, r, channel, &mut account.till, gate);
         let about = (p, r, channel, &account.till.tallies);
-        held.scribe
-            .note(&self.shared, &held.place, &mut account.front, &about);
+        held.scribe.note(&self.shared, &held.place, &mut account.front, &about, false);
     }
 }

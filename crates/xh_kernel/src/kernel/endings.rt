@@ -53,8 +53,7 @@ impl<N: Names> Kernel<N> {
         let heap = &self.shared.heap;
         let answer = heap.close(rt, &mut held.place, p, e, &mut account.till, gate);
         let about = (p, e, &account.till.tallies, &answer);
-        held.scribe
-            .note(&self.shared, &held.place, &mut account.front, &about);
+        held.scribe.note(&self.shared, &held.place, &mut account.front, &about, false);
         answer
     }
 
@@ -112,8 +111,7 @@ impl<N: Names> Kernel<N> {
         let heap = &self.shared.heap;
         let answer = heap.stop(rt, &mut held.place, p, budget, &mut account.till, gate);
         let about = (p, budget, &account.till.tallies, &answer);
-        held.scribe
-            .note(&self.shared, &held.place, &mut account.front, &about);
+        held.scribe.note(&self.shared, &held.place, &mut account.front, &about, false);
         held.wake(rt, &self.shared);
         answer
     }
@@ -130,7 +128,8 @@ impl<N: Names> Kernel<N> {
         let mut guard = self.held(rt, p);
         let held: &mut Held<N> = &mut guard;
         let answer = check_start(&held.place, p);
-        held.scribe.note(&self.shared, &held.place, &mut account.front, &(p, &answer));
+        let about = (p, &answer);
+        held.scribe.note(&self.shared, &held.place, &mut account.front, &about, false);
         answer
     }
 }

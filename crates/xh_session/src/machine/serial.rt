@@ -2,11 +2,10 @@
 ghost use Rattle.std.specs.Prelude.{◌≡◌, ◌≤◌, length, map, Some};
 ghost use Rattle.xh_session.specs.Machines.{received};
 
-use crate::machine::Machine;
-use crate::received::Received;
+use crate::machine::{Machine, Received, Told};
 use arrayvec::ArrayVec;
 use std::alloc::Global;
-use xh_core::{Block, Contract, Glance, Refused};
+use xh_core::{Block, Contract, Glance};
 use xh_model::limits::MAX_BLOCKS;
 use xh_serial::{Serial, Taken};
 
@@ -42,7 +41,7 @@ impl Machine for Serial {
 
     ghost did = { Does };
 
-    fn spawn(&mut self) -> Result<u16, Refused> {
+    fn spawn(&mut self) -> Told<u16> {
         Serial::spawn(self)
     }
 
@@ -51,7 +50,7 @@ impl Machine for Serial {
         process: u16,
         arena: u32,
         contract: Option<&Contract>,
-    ) -> Result<(Block, Block), Refused> {
+    ) -> Told<(Block, Block)> {
         match contract {
             Some(contract) => self.open_with(process, arena, contract.copy()),
             None => Serial::open(self, process, arena),
@@ -64,72 +63,54 @@ impl Machine for Serial {
         other: u16,
         arena: u32,
         contract: Option<&Contract>,
-    ) -> Result<(Block, Block), Refused> {
+    ) -> Told<(Block, Block)> {
         match contract {
             Some(contract) => self.wire_with(process, other, arena, contract.copy()),
             None => Serial::wire(self, process, other, arena),
         }
     }
 
-    fn alloc(
-        &mut self,
-        alloc: Global,
-        process: u16,
-        bytes: u32,
-        arena: u32,
-    ) -> Result<Block, Refused> {
+    fn alloc(&mut self, alloc: Global, process: u16, bytes: u32, arena: u32) -> Told<Block> {
         Serial::alloc(self, alloc, process, bytes, arena)
     }
 
-    fn split(
-        &mut self,
-        alloc: Global,
-        process: u16,
-        block: u16,
-        at: u32,
-    ) -> Result<(Block, Block), Refused> {
+    fn split(&mut self, alloc: Global, process: u16, block: u16, at: u32) -> Told<(Block, Block)> {
         Serial::split(self, alloc, process, block, at)
     }
 
-    fn read(&mut self, process: u16, block: u16, at: u32, room: &mut [u8]) -> Result<(), Refused> {
+    fn read(&mut self, process: u16, block: u16, at: u32, room: &mut [u8]) -> Told<()> {
         Serial::read(self, process, block, at, room)
     }
 
-    fn write(&mut self, process: u16, block: u16, at: u32, bytes: &[u8]) -> Result<(), Refused> {
+    fn write(&mut self, process: u16, block: u16, at: u32, bytes: &[u8]) -> Told<()> {
         Serial::write(self, process, block, at, bytes)
     }
 
-    fn give(
-        &mut self,
-        process: u16,
-        endpoint: u16,
-        tag: u16,
-        blocks: &[u16],
-    ) -> Result<u64, Refused> {
+    fn give(&mut self, process: u16, endpoint: u16, tag: u16, blocks: &[u16]) -> Told<u64> {
         Serial::give(self, process, endpoint, tag, blocks)
     }
 
-    fn take(&mut self, process: u16, endpoint: u16, _waits: bool) -> Result<Received, Refused> {
+    fn take(&mut self, process: u16, endpoint: u16, _waits: bool) -> Told<Received> {
         Serial::take(self, process, endpoint).map(received)
     }
 
-    fn free(&mut self, process: u16, block: u16) -> Result<u32, Refused> {
+    fn free(&mut self, process: u16, block: u16) -> Told<u32> {
         Serial::free(self, process, block)
     }
 
-    fn close(&mut self, process: u16, endpoint: u16) -> Result<u64, Refused> {
+    fn close(&mut self, process: u16, endpoint: u16) -> Told<u64> {
         Serial::close(self, process, endpoint)
     }
 
-    fn exit(&mut self, process: u16, budget: u32) -> Result<u64, Refused> {
+    fn exit(&mut self, process: u16, budget: u32) -> Told<u64> {
         Serial::exit(self, process, budget)
     }
 
-    fn kill(&mut self, process: u16, victim: u16, budget: u32) -> Result<u64, Refused> {
+    fn kill(&mut self, process: u16, victim: u16, budget: u32) -> Told<u64> {
         Serial::kill(self, process, victim, budget)
     }
 
-    fn glance(&mut self, place: u8) -> Result<Glance, Refused> {
+    fn glance(&mut self, place: u8) -> Told<Glance> {
         Serial::glance(self, place)
     }
 }

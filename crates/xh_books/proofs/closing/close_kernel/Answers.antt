@@ -1,5 +1,6 @@
-use Rattle.xh_books.proofs.Common.{All, ArenaLine, IsInFlight, List, PLACES, PlaceLine, RecordsOf, all_lengths, ap, arenas_of, bytes_in_flight, length, places_of, refl, rules, subst, sym, ◌<◌, ◌∙◌, ◌≡◌}
-use Rattle.xh_books.proofs.LedgerLines.{lines_are_of, lines_same, lines_within}
+use Rattle.xh_books.proofs.Common.{All, ArenaLine, IsInFlight, List, PLACES, PlaceLine, RecordsOf, TallyOf, all_lengths, ap, arena_lines, bytes_in_flight, length, places_of, refl, rules, subst, sym}
+use Rattle.xh_books.proofs.Common.{tallies_of, ◌<◌, ◌∙◌, ◌≡◌}
+use Rattle.xh_books.proofs.LedgerLines.{lines_are_of, lines_within}
 use Rattle.xh_books.proofs.closing.close_kernel.Goals as goal
 
 pub returns-in-Ok-close_books-clause-closed : goal.returns-in-Ok-close_books-clause-closed
@@ -18,19 +19,19 @@ returns-in-Ok-close_books-clause-closed g c =
         workers = count;
         seen = done.seen.2;
         open_vaults = (done.vaults.0, done.vaults.1);
-        arenas = closed.arenas ∙ lines_same f.accounts.items made.accounts.items done.same 0 f.vaults.items;
+        arenas = closed.arenas ∙ ap (λ (ts : List (List TallyOf)). arena_lines ts 0 f.vaults.items) done.same;
         lines = closed.places;
         owned = closed.owned;
-        flight = closed.flight ∙ ap (λ (x : RecordsOf). bytes_in_flight (places_of f.places.items) x.shape.records 0 (all_lengths (arenas_of f.vaults.items))) done.records;
+        flight = closed.flight ∙ ap (λ (x : RecordsOf). bytes_in_flight (places_of f.places.items) x.shape.records 0 (all_lengths f.vaults.items)) done.records;
         balanced = closed.balanced;
-        in_flight = subst (λ (x : RecordsOf). IsInFlight x.shape f.places.items (all_lengths (arenas_of f.vaults.items)) c.in-Ok-close_books.books.flight.items) done.records closed.in_flight;
+        in_flight = subst (λ (x : RecordsOf). IsInFlight x.shape f.places.items (all_lengths f.vaults.items) c.in-Ok-close_books.books.flight.items) done.records closed.in_flight;
       },
     )
 
 pub returns-in-Ok-close_books-clause-arenas : goal.returns-in-Ok-close_books-clause-arenas
 returns-in-Ok-close_books-clause-arenas g c =
     let parts = g.N.Names.parts in let f = c.in-Ok-finish.field-0 in let vaults = c.in-Ok-finish.ensures.vaults in
-    let lines = lines_are_of parts f.accounts.items 0 f.vaults.items vaults.1 in
+    let lines = lines_are_of parts (tallies_of f.accounts.items) 0 f.vaults.items vaults.1 in
     subst (λ (ls : List ArenaLine). (length ls ≡ length parts.records.shape.names) × All (λ a. a.size ≡ parts.size) ls) (sym c.in-Ok-close_books.ensures.arenas) (lines.0 ∙ ap length vaults.0, lines.1)
 
 pub returns-in-Ok-close_books-clause-places : goal.returns-in-Ok-close_books-clause-places

@@ -1,31 +1,26 @@
-use Rattle.xh_books.proofs.Common.{VaultOf, add-one, ap, drop, ids_of, into_iter_items, nil_from_length, rules, set, slice_index_or, sym, take, with_tallies, with_tally, ◌++◌, ◌+◌, ◌∙◌}
-use Rattle.xh_books.proofs.Collected.{collect_below, collect_done, collect_ids, collect_step}
+use Rattle.xh_books.proofs.Common.{TallyOf, VaultOf, ap, arith, rules, slice_index_or, sym, ◌+◌, ◌∙◌, ◌≡◌}
+use Rattle.std.proofs.lemmas.{Grind.get_or-set_at, List.get_or-set_other, List.get_or_default}
+use Rattle.xh_books.proofs.Collected.{as_many, same_id}
 use Rattle.xh_books.proofs.collecting.collect_tallies.Goals as goal
 
-pub bounds-vaults-arena : goal.bounds-vaults-arena
-bounds-vaults-arena c =
-    let l = c.loop-tally in
-    collect_below l.vaults l.arena c.in-Some.tally.id (ids_of (into_iter_items c.next.new.self)) (sym (ap ids_of c.in-Some.ensures.steps.0) ∙ l.invariant.1)
+pub loop-tally-init : goal.loop-tally-init
+loop-tally-init c = let long = as_many c.args.tallies.items c.args.vaults.now c.requires in search (rules, long)
 
 pub collect-requires : goal.collect-requires
 collect-requires c =
-    let l = c.loop-tally in let d = c.index-vaults-arena.result in
-    (collect_ids l.vaults l.arena d d c.in-Some.tally.id (ids_of (into_iter_items c.next.new.self)) (sym (ap ids_of c.in-Some.ensures.steps.0) ∙ l.invariant.1)).1
+    let l = c.loop-tally in let was = l.invariant in let k = l.arena in let d = c.index-vaults-arena.result in let t = c.in-Some.tally in let step = c.in-Some.ensures.steps in
+    let tally : t ≡ slice_index_or c.args.tallies.items k t = let h = was.4 0 t in grind rules in
+    ap (λ (x : TallyOf). x.id) tally ∙ same_id c.args.tallies.items c.args.vaults.now c.requires k t d (search rules) ∙ sym (ap (λ (v : VaultOf). v.id) (was.3 k d (omega arith)))
 
 pub loop-tally-preserved : goal.loop-tally-preserved
 loop-tally-preserved c =
-    let l = c.loop-tally in let d = c.index-vaults-arena.result in let t = c.in-Some.tally in let rest = into_iter_items c.next.new.self in
-    let step = c.in-Some.ensures.steps.0 in
-    let w = with_tally (slice_index_or l.vaults l.arena d) t in
-    let ids = collect_ids l.vaults l.arena d w t.id (ids_of rest) (sym (ap ids_of step) ∙ l.invariant.1) in
-    let kept = c.collect.ensures.kept in
-    let at = λ (v : VaultOf). set l.vaults l.arena v in (
-      ap (λ (v : VaultOf). take (l.arena + 1) (at v) ++ with_tallies (drop (l.arena + 1) (at v)) rest) kept
-          ∙ (rw (add-one l.arena) (sym (collect_step l.vaults l.arena d t rest ids.0) ∙ ap (λ r. take l.arena l.vaults ++ with_tallies (drop l.arena l.vaults) r) (sym step) ∙ l.invariant.0)),
-      rw (kept, add-one l.arena) ids.2,
+    let l = c.loop-tally in let was = l.invariant in let n = l.arena in let r = c.index-vaults-arena.result in let t = c.in-Some.tally in let step = c.in-Some.ensures.steps in
+    let vs = c.args.vaults.now in let ts = c.args.tallies.items in let new = c.collect.new.self in let kept = c.collect.ensures.kept in
+    let tally : t ≡ slice_index_or ts n t = let h = was.4 0 t in grind rules in (
+      search rules,
+      search rules,
+      (λ k d e below. let h = was.2 k d e in let at = get_or-set_at l.vaults n k new d in let other = get_or-set_other l.vaults n k new d in let before = was.3 n r in
+          let vault = get_or_default vs n r d in let mine = get_or_default ts n t e in grind (rules, tally, kept, h, at, other, before, vault, mine)),
+      (λ k d from. let h = was.3 k d in let other = get_or-set_other l.vaults n k new d in grind (rules, h, other)),
+      (λ k e below. let h = was.4 (k + 1) e in grind rules),
     )
-
-pub returns : goal.returns
-returns c =
-    let l = c.loop-tally in
-    sym (collect_done l.vaults l.arena) ∙ ap (λ r. take l.arena l.vaults ++ with_tallies (drop l.arena l.vaults) r) (sym (nil_from_length _ (search rules))) ∙ l.invariant.0

@@ -1,6 +1,6 @@
 use Rattle.xh_crew.proofs.Common.{Joins, MatchResult, into_iter_items, ℕ}
 use Rattle.xh_crew.proofs.Plays.{ZipsOn}
-use Rattle.xh_crew.specs.Stops.{MayStop}
+use Rattle.xh_crew.specs.Plays.{MayStop}
 use Rattle.xh_crew.proofs.crew.join_all.Given as goal
 
 abbrev pub invariant-loop-hand : goal.invariant-loop-hand

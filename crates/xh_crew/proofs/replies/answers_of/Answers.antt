@@ -2,7 +2,7 @@ use Rattle.xh_crew.proofs.Common.{LAST, List, Reply, [], ap, arith, get_or, into
 use Rattle.std.proofs.Common.{rules, take}
 use Rattle.std.proofs.lemmas.List.{get_or-map, map-set, map_more, map_push}
 use Rattle.xh_crew.specs.Plays.{part_of}
-use Rattle.xh_crew.proofs.Plays.{next_enough, next_told, some_left}
+use Rattle.xh_crew.proofs.Plays.{deals_more, some_left}
 use Rattle.xh_crew.proofs.replies.answers_of.Goals as goal
 
 -- what the part of an index holds, where each part holds so much
@@ -19,7 +19,7 @@ unreachable-requires c =
     let held = held_at into_iter_items l.parts.items c.from-part.result (part_of b line) c.part_of.result c.index_mut.result.now c.from-part.ensures c.part_of.ensures.is
     c.index_mut.ensures.value c.part_of.ensures.within (omega (arith, l.invariant.count, l.parts.ok)) in
     let some = some_left b c.args.lines.now l.line-index line (length (into_iter_items c.index_mut.result.now)) c.loop-line-test.true (sym c.line-item.is)
-    (ap (λ q. length q) (sym held.0) ∙ l.invariant.enough (part_of b line) held.1) in
+    (ap (λ q. length q) (sym held.0) ∙ (l.invariant.deals (part_of b line) held.1).1) in
     omega (arith, some, c.index_mut.result.now.rest.ok, c.in_default.ensures.cases.0)
 
 pub loop-line-preserved : goal.loop-line-preserved
@@ -38,9 +38,8 @@ loop-line-preserved c =
     map-set into_iter_items l.parts.items c.from-part.result c.next.new.self ∙ ap (λ n. set parts n rest) (c.from-part.ensures ∙ c.part_of.ensures.is) in record {
       same = rw c.in_ok-push.ensures.items (map_push (λ a. a.line) l.answers.items _ ∙ ap (λ ns. ns ++ line.number ∷ []) l.invariant.same
           ∙ sym (map_more (λ x. x.number) lines l.line-index line c.loop-line-test.true ∙ ap (λ x. map (λ y. y.number) (take l.line-index lines) ++ x.number ∷ []) (sym c.line-item.is)));
-      enough = λ k under. rw now_ (next_enough b k lines l.line-index line c.in-Some.reply rest parts c.loop-line-test.true (sym c.line-item.is) held.2 first (l.invariant.enough k under));
-      told = λ k under. rw (now_, c.in_ok-push.ensures.items)
-          (next_told b k lines l.answers.items l.line-index line c.in-Some.reply rest parts _ c.loop-line-test.true (sym c.line-item.is) (omega arith) held.2 first (l.invariant.told k under));
+      deals = λ k under. rw (now_, c.in_ok-push.ensures.items)
+          (deals_more b k lines l.answers.items l.line-index line c.in-Some.reply rest parts _ c.loop-line-test.true (sym c.line-item.is) (omega arith) held.2 first (l.invariant.deals k under));
       count = search rules;
       made = search rules;
     }

@@ -3,8 +3,7 @@ use Rattle.xh_calls.specs.Parts.{AreMadeBy}
 use Rattle.xh_core.specs.declared.ledger.ArenaLine.{ArenaLine}
 use Rattle.xh_model.specs.declared.limits.TheConstants.{MAX_WORKERS}
 use Rattle.xh_script.specs.Scripts.{listing_of}
-use Rattle.xh_runner.specs.Reports.{AnswersScript}
-use Rattle.xh_runner.specs.Runs.{HasPlayed}
+use Rattle.xh_runner.specs.Runs.{AnswersScript, HasPlayed}
 use Rattle.xh_runner.proofs.threads.run_named.Goals as goal
 
 pub returns-clause-run : goal.returns-clause-run

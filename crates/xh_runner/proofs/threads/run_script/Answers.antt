@@ -36,7 +36,8 @@ returns-clause-answers g c = record {
 
 pub returns-clause-count : goal.returns-clause-count
 returns-clause-count g c =
-    let count = played_count (did g.N.Names.parts g.N.Names.leads) c.args.script.now.contracts.items c.args.script.now.lines.items c.in_ok-machines.field-0.answers.items _ _ c.in_ok-machines.ensures.played in
+    let count = played_count (did g.N.Names.parts g.N.Names.leads) c.args.script.now.contracts.items c.args.script.now.lines.items
+    c.in_ok-machines.field-0.answers.items _ _ c.in_ok-machines.ensures.played in
     let olds = length-map {B = WorkerState} c.in_ok-workers.workers.items (λ w. record { account = w.account; look = w.look }) in
     let news = length-map {B = WorkerState} c.in_ok-machines.field-0.machines.items (λ w. record { account = w.account; look = w.look }) in
     omega (

@@ -4,14 +4,7 @@ use Rattle.xh_calls.proofs.Wiring.{closes_again}
 use Rattle.xh_calls.proofs.heap.Heap.close_again.Goals as goal
 
 pub returns-in-Err-clause-closed : goal.returns-in-Err-clause-closed
-returns-in-Err-clause-closed g c = (
-  c.args.place.now,
-  stays_itself c.args.place.now,
-  (stays_itself c.args.place.now).1,
-  0,
-  inl ((refl, refl), inl (_, c.in-Err.ensures)),
-  none_back refl,
-)
+returns-in-Err-clause-closed g c = let same = stays_itself c.args.place.now in (c.args.place.now, same, same.1, 0, inl ((refl, refl), inl (_, c.in-Err.ensures)), none_back refl)
 
 pub returns-then-has_low-clause-closed : goal.returns-then-has_low-clause-closed
 returns-then-has_low-clause-closed g c =
@@ -22,11 +15,6 @@ returns-then-has_low-clause-closed g c =
     (from, c.has_low.ensures.same, c.close-closed.ensures.same.0.3, d.0, d.1, d.2)
 
 pub returns-else-has_low-clause-closed : goal.returns-else-has_low-clause-closed
-returns-else-has_low-clause-closed g c = (
-  c.args.place.now,
-  stays_itself c.args.place.now,
-  c.has_low.ensures.same.1,
-  0,
-  inl ((c.has_low.ensures.same.0, refl), inr (c.has_low.ensures.no c.if-has_low.false)),
-  none_back refl,
-)
+returns-else-has_low-clause-closed g c =
+    let old = c.args.place.now in let same = c.has_low.ensures.same in
+    (old, stays_itself old, same.1, 0, inl ((same.0, refl), inr (c.has_low.ensures.no c.if-has_low.false)), none_back refl)

@@ -22,36 +22,24 @@ dealt p a n m (Some v) was left long more is names all =
     let d = drop_cons p.records.shape.names a v.id (vault_names left) (sym (ap vault_names is.0) ∙ names) in let each = subst (All (IsOpen p)) is.0 all in
     (((d.0, All-head (IsOpen p) v left each), tt), d.1, All-tail (IsOpen p) v left each)
 
-pub unreachable-requires : goal.unreachable-requires
-unreachable-requires g c =
-    let some : 0 < length (into_iter_items c.args.pens.now) = omega (arith, c.requires.pens.0, c.requires.arena) in search (rules, some)
-
 pub invariant_of-result : goal.invariant_of-result
 invariant_of-result g c =
-    let rest = c.args.rest.now in let left = c.next-vault.new.self in let parts = g.N.Names.parts in
+    let parts = g.N.Names.parts in
     let some : 0 < length (into_iter_items c.args.pens.now) = omega (arith, c.requires.pens.0, c.requires.arena) in
     let pen = first_of (λ k (x : PenOf VaultOf). x ≡ fresh_pen parts.vaults k) g.row.A _ _ c.in-Some.pen c.in-Some.ensures.items _ c.requires.pens.1 some in
     subst (λ (p : PenOf VaultOf). IsKeptAt parts g.row.A (record { vault = c.next-vault.result; pen = p })) (sym pen) (
       (refl, refl),
-      (dealt parts g.row.A (into_iter_len rest) (into_iter_len left) c.next-vault.result (into_iter_items rest) (into_iter_items left) (search rules) (search rules) c.next-vault.ensures.cases
-          c.requires.names c.requires.open_vaults).0,
+      (dealt parts g.row.A _ _ c.next-vault.result _ _ (search rules) (search rules) c.next-vault.ensures.cases c.requires.names c.requires.open_vaults).0,
     )
 
-pub returns-clause-names : goal.returns-clause-names
-returns-clause-names g c =
-    let rest = c.args.rest.now in let left = c.next-vault.new.self in
-    (dealt g.N.Names.parts g.row.A (into_iter_len rest) (into_iter_len left) c.next-vault.result (into_iter_items rest) (into_iter_items left) (search rules) (search rules) c.next-vault.ensures.cases
-    c.requires.names c.requires.open_vaults).1
-
-pub returns-clause-open_vaults : goal.returns-clause-open_vaults
-returns-clause-open_vaults g c =
-    let rest = c.args.rest.now in let left = c.next-vault.new.self in
-    (dealt g.N.Names.parts g.row.A (into_iter_len rest) (into_iter_len left) c.next-vault.result (into_iter_items rest) (into_iter_items left) (search rules) (search rules) c.next-vault.ensures.cases
-    c.requires.names c.requires.open_vaults).2
-
-pub returns-clause-pens : goal.returns-clause-pens
-returns-clause-pens g c =
-    let long = ap length c.in-Some.ensures.items in (
-      omega (arith, c.requires.pens.0, long),
-      rest_of (λ k (x : PenOf VaultOf). x ≡ fresh_pen g.N.Names.parts.vaults k) g.row.A _ _ c.in-Some.pen c.in-Some.ensures.items _ c.requires.pens.1 _ _ (omega (arith, long)) (omega arith),
-    )
+pub returns : goal.returns
+returns g c =
+    let parts = g.N.Names.parts in let long = ap length c.in-Some.ensures.items in
+    let d = dealt parts g.row.A _ _ c.next-vault.result _ _ (search rules) (search rules) c.next-vault.ensures.cases c.requires.names c.requires.open_vaults in record {
+      names = d.1;
+      open_vaults = d.2;
+      pens = (
+        omega (arith, c.requires.pens.0, long),
+        rest_of (λ k (x : PenOf VaultOf). x ≡ fresh_pen parts.vaults k) g.row.A _ _ c.in-Some.pen c.in-Some.ensures.items _ c.requires.pens.1 _ _ (omega (arith, long)) (omega arith),
+      );
+    }

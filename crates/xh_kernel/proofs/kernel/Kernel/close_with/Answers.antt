@@ -1,13 +1,13 @@
-use Rattle.xh_kernel.proofs.Calling.{back_of, came_back, refl, rules, stays_itself, stepped, ◌-◌}
+use Rattle.xh_kernel.proofs.Calling.{back_of, came_back, refl, rules, ◌-◌}
 use Rattle.xh_kernel.proofs.kernel.Kernel.close_with.Goals as goal
 
 pub note-requires : goal.note-requires
 note-requires g c κs within =
     let held = c.deref_mut-held.result.now in let e = c.close-answer.ensures in
     let came = came_back g.before (search rules) c.account.view_is refl refl e.closed in
-    (search rules, (search rules, (search rules, (search rules, (search rules, (held.place, held.place, held.history, stays_itself held.place, came.0, e.same.0.3))))))
+    (search rules, (search rules, (search rules, (search rules, (search rules, ((held.place, held.history, came.0, e.same.0.3), search rules))))))
 
 pub returns : goal.returns
 returns g c =
     let came = came_back g.before (search rules) c.account.view_is refl refl c.close-answer.ensures.closed in
-    (back_of c.close-answer.new.till.tallies.items - g.before, ((search rules, (search rules, came.1)), stepped g.N.Names.leads _ _ c.note.new.front.fronts _ (search rules) c.note.ensures.step))
+    (back_of c.close-answer.new.till.tallies.items - g.before, ((search rules, (search rules, came.1)), c.note.ensures.step _ (search rules)))

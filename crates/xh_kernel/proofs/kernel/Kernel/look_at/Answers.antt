@@ -1,10 +1,5 @@
-use Rattle.xh_kernel.proofs.Calling.{refl, rules, starts_same, stays_itself, stepped}
+use Rattle.xh_kernel.proofs.Calling.{rules}
 use Rattle.xh_kernel.proofs.kernel.Kernel.look_at.Goals as goal
 
-pub note-requires : goal.note-requires
-note-requires g c κs within =
-    let held = c.deref_mut-held.result.now in
-    (search rules, (search rules, (search rules, (search rules, (search rules, (held.place, held.place, held.history, stays_itself held.place, (refl, search rules), starts_same refl))))))
-
 pub returns : goal.returns
-returns g c = ((search rules, search rules), stepped g.N.Names.leads _ _ c.note.new.front.fronts _ (search rules) c.note.ensures.step)
+returns g c = ((search rules, search rules), c.note.ensures.step _ (search rules))

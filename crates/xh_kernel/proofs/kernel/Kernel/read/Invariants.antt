@@ -1,5 +1,5 @@
 use Rattle.xh_calls.specs.declared.call.Call.TheVariants.{Read}
 use Rattle.xh_kernel.proofs.kernel.Kernel.read.Given as goal
 
-abbrev pub ghost-note_same : goal.ghost-note_same
-ghost-note_same g a = let s = a.about.now in Read s.0 s.1 s.2 s.3.now s.4.now
+abbrev pub ghost-note : goal.ghost-note
+ghost-note g a = let s = a.about.now in Read s.0 s.1 s.2 s.3.now s.4.now

@@ -3,5 +3,5 @@ use Rattle.xh_kernel.proofs.kernel.Kernel.take_wait.Goals as goal
 
 pub loop-preserved : goal.loop-preserved
 loop-preserved g c =
-    in_vain g.N.Names.leads _ (Take c.args.p c.args.e) (λ answer old new. TakesAt (status_at c.args.p old.place) c.args.e old new answer) (Err Empty)
-    c.look_for-answer.result.0 c.args.account.now c.loop.account c.look_for-answer.new.account (rw c.in-Some-turn.is at c.look_for-answer.ensures.vain) c.loop.invariant c.look_for-answer.ensures.call
+    in_vain g.N.Names.leads _ (Take c.args.p c.args.e) (λ answer old new. TakesAt (status_at c.args.p old.place) c.args.e old new answer)
+    (Err Empty) c.look_for-answer.result.0 _ _ _ (rw c.in-Some-turn.is at c.look_for-answer.ensures.vain) c.loop.invariant c.look_for-answer.ensures.call

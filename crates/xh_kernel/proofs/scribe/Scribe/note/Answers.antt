@@ -1,35 +1,38 @@
-use Rattle.xh_history.specs.Histories.{at}
-use Rattle.xh_kernel.proofs.Common.{Glance, [], ap, last_glance, subst, sym, ◌++◌, ◌∙◌, ◌∷◌, ◌≡◌}
-use Rattle.xh_kernel.proofs.Last.{glance_push}
-use Rattle.xh_kernel.proofs.Recorded.{noted}
-use Rattle.xh_kernel.specs.Words.{unpacked}
-use Rattle.xh_model.specs.Words.{place_of}
+use Rattle.xh_history.proofs.Keeping.{last_push}
+use Rattle.xh_kernel.proofs.Common.{Does, Entry, Glance, IsHistoryOf, Option, PlaceSeen, Steps, [], ap, at, last_glance, option_map, place_of, refl, rules, subst}
+use Rattle.xh_kernel.proofs.Common.{sym, unwrap_or, ℕ, ◌++◌, ◌∙◌, ◌∷◌, ◌≡◌}
+use Rattle.xh_kernel.proofs.Recorded.{led, longer, so_too}
+use Rattle.xh_kernel.specs.Words.{shows, unpacked, vacant}
+use Rattle.xh_kernel.proofs.scribe.Scribe.note.Goals.{else-same, then-same}
 use Rattle.xh_kernel.proofs.scribe.Scribe.note.Goals as goal
 
 pub invariant_of-self : goal.invariant_of-self
 invariant_of-self g c =
-    let glance = c.shown-glance.result in let pen = c.args.self.now.pen in
-    let number = ap (λ (g : Glance). place_of g.process) c.shown-glance.ensures.shown ∙ c.requires.1.1.1.1.0.1 ∙ sym (ap (λ p. p.number) c.add.ensures.pen) in record {
-      told = subst (λ p. last_glance p.number p.history ≡ glance) (sym c.add.ensures.pen) (glance_push pen.number pen.history c.args.front.now.number (record { call = g.call; glance = glance }))
-          ∙ sym (subst (λ k. unpacked k c.pack-word.result ≡ glance) number c.pack-word.ensures);
-    }
+    let glance = c.shown-glance.result in let pen = c.args.self.now.pen in let shown = c.shown-glance.ensures.shown in
+    let number : place_of glance.process ≡ pen.number = ap (λ (g : Glance). place_of g.process) shown ∙ c.requires.1.1.1.1.0.1 in
+    let made : unpacked pen.number c.if-same.word ≡ glance = elim c.if-same.branch [
+      | then-same w ↦ ap (unpacked pen.number) w.word-is ∙ sym c.args.self.now.told ∙ (c.requires.1.1.1.1.1.1 w.if-same.true).last ∙ sym shown
+      | else-same w ↦ ap (unpacked pen.number) w.word-is ∙ subst (λ k. unpacked k w.pack-word.result ≡ glance) number w.pack-word.ensures
+    ] in
+    let last = ap (λ (o : Option (ℕ × Entry)). unwrap_or (option_map (λ c. c.1.glance) o) (vacant pen.number))
+    (last_push shows pen.history (c.args.front.now.number, record { call = g.call; glance = glance })) in
+    record { told = subst (λ p. last_glance p.number p.history ≡ unpacked p.number c.if-same.word) (sym c.add.ensures.pen) (last ∙ sym made) }
 
 pub returns-clause-history : goal.returns-clause-history
 returns-clause-history g c =
-    let d = c.requires.1.1.1.1.1 in let e = c.add.ensures in let s = c.shown-glance.ensures in
-    (noted g.N.Names.parts g.N.Names.leads c.args.shared.now.law g.call c.shown-glance.result d.0 d.1 c.args.place.now c.args.self.now.pen c.add.new.pen c.args.front.now c.add.new.front d.2 d.3
-    (record { worker = c.requires.1.1.1.0.1; does = d.4; found = (c.requires.1.1.1.1.0.0, s.lawful); seen = d.5; glance = s.shown }) e.pen e.front e.seen e.whole).0
+    let pen = c.args.self.now.pen in let d = c.requires.1.1.1.1.1.0 in let s = c.shown-glance.ensures in
+    subst (λ p. IsHistoryOf g.N.Names.parts p.number p.history c.args.place.now) (sym c.add.ensures.pen)
+    (longer g.N.Names.parts pen.history g.call d.0 d.1 c.requires.1.1.1.0.1 d.2 (c.requires.1.1.1.1.0.0, s.lawful) d.3 s.shown)
+
+pub returns-clause-now : goal.returns-clause-now
+returns-clause-now g c = λ k is.
+    let pen = c.args.self.now.pen in let d = c.requires.1.1.1.1.1.0 in let s = c.shown-glance.ensures in
+    let R : PlaceSeen → PlaceSeen → Type 0 = λ old new. Does g.N.Names.parts g.call old new × (new ≡ c.args.place.now) in
+    let x : ℕ × Entry = (c.args.front.now.number, record { call = g.call; glance = c.shown-glance.result }) in
+    let last : at c.add.new.front.fronts pen.number ≡ pen.history ++ x ∷ [] = search rules in
+    let on = longer g.N.Names.parts pen.history g.call d.0 d.1 c.requires.1.1.1.0.1 d.2 (c.requires.1.1.1.1.0.0, s.lawful) d.3 s.shown in
+    subst (λ j. Steps g.N.Names.leads j (at c.add.new.front.fronts j) R) is (subst (λ h. Steps g.N.Names.leads pen.number h R) (sym last)
+    (led g.N.Names.parts g.N.Names.leads c.args.shared.now.law pen.number x pen.history (pen.history ++ x ∷ []) d.0 c.args.place.now R d.1 on refl (d.2, refl)))
 
 pub returns-clause-step : goal.returns-clause-step
-returns-clause-step g c =
-    let d = c.requires.1.1.1.1.1 in let e = c.add.ensures in let s = c.shown-glance.ensures in
-    (noted g.N.Names.parts g.N.Names.leads c.args.shared.now.law g.call c.shown-glance.result d.0 d.1 c.args.place.now c.args.self.now.pen c.add.new.pen c.args.front.now c.add.new.front d.2 d.3
-    (record { worker = c.requires.1.1.1.0.1; does = d.4; found = (c.requires.1.1.1.1.0.0, s.lawful); seen = d.5; glance = s.shown }) e.pen e.front e.seen e.whole).2
-
-pub returns-clause-one_more : goal.returns-clause-one_more
-returns-clause-one_more g c =
-    let pen = c.args.self.now.pen in
-    ap (λ p. p.history) c.add.ensures.pen ∙ ap (λ glance. pen.history ++ (c.args.front.now.number, record { call = g.call; glance = glance }) ∷ []) c.shown-glance.ensures.shown
-
-pub returns-clause-whole : goal.returns-clause-whole
-returns-clause-whole g c = ap (at c.add.new.front.fronts) (sym (ap (λ p. p.number) c.add.ensures.pen)) ∙ c.add.ensures.whole
+returns-clause-step g c = λ k is. so_too g.N.Names.leads k _ _ _ (λ old new s. s.0) (returns-clause-now g c k is)

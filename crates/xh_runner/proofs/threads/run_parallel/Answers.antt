@@ -4,10 +4,9 @@ use Rattle.xh_script.specs.declared.script.Script.{Script}
 use Rattle.xh_script.specs.Scripts.{listing_of}
 use Rattle.xh_session.proofs.Ends.{wrote_all, wrote_part}
 use Rattle.xh_session.specs.declared.report.Report.{Report}
-use Rattle.xh_session.specs.Reports.{told_text}
-use Rattle.xh_runner.specs.Reports.{AnswersScript, IsLedgerOf, IsReportTold}
-use Rattle.xh_runner.specs.Runs.{HasRun}
-use Rattle.xh_runner.proofs.parallel.run_parallel_as.Goals as goal
+use Rattle.xh_session.specs.Output.{told_text}
+use Rattle.xh_runner.specs.Runs.{AnswersScript, HasRun, IsLedgerOf, IsReportTold}
+use Rattle.xh_runner.proofs.threads.run_parallel.Goals as goal
 
 told : (flight : Bool) (config : Config) (s : Script) (r : Report) → HasRun config (listing_of s) r → AnswersScript (listing_of s) r.answers.items r.names.items
     → IsLedgerOf config r.ledger r.flight.items → IsReportTold flight config (listing_of s) (told_text flight r)

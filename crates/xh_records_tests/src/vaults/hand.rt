@@ -1,8 +1,9 @@
 //! Calls on a vault with its first lots and tallies, and what they answer.
-ghost use Rattle.std.specs.Prelude.{◌≡◌, ◌≤◌, Some, length, slice_get};
+ghost use Rattle.std.specs.Prelude.{◌≡◌};
 
 use super::Any;
 use crate::answers::{Answer, assert_answer, of_run, of_start};
+use crate::records::first_two;
 use std::alloc::Global;
 use std::process::Abort;
 use xh_arena::{Fits, Lot, Refused, Tally, Vault};
@@ -35,16 +36,6 @@ pub enum Call {
     Books,
     Mark(u32),
     Sees(u32),
-}
-
-/// The first two of the items.
-fn first_two<T: Drop>(mut items: Vec<T>) -> (T, T)
-    requires { 2 ≤ length items.items }
-    ensures { (slice_get items.items 0 ≡ Some result.0) × (slice_get items.items 1 ≡ Some result.1) }
-{
-    let first = items.remove(0);
-    let second = items.remove(0);
-    (first, second)
 }
 
 /// A vault of 64 bytes that may hand out 80, for 4 records and 2 workers.

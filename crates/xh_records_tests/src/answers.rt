@@ -4,7 +4,7 @@ use xh_arena::Refused;
 
 /// Where a lot's bytes begin; a run of bytes by its start and length; a lot's record, extent and length; bytes, taken and
 /// given back; a number; a refusal; nothing. `Unfit` where the call may not be made.
-#[derive(Clone, Copy, Debug, PartialEq)]
+#[derive(Clone, Copy, PartialEq)]
 pub enum Answer {
     At(u32),
     Run(u32, u32),
@@ -32,5 +32,5 @@ pub fn of_run(run: Option<(u32, u32)>) -> Answer {
 
 /// Compares what a call of a table answers.
 pub fn assert_answer(rt: &impl Abort, at: usize, answered: Answer, expected: Answer) {
-    assert_eq!(rt; answered, expected, "call {at}");
+    assert!(rt; answered == expected, "call {at}");
 }

@@ -1,7 +1,0 @@
-//! The plain machine and talks by their public calls.
-#![tactic(auto)]
-
-#[cfg(test)]
-mod plain;
-#[cfg(test)]
-mod talks;
