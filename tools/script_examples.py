@@ -50,18 +50,18 @@ def one_by_one(blocks):
 
 def of_cells(head):
     for _, _, cell in rows_of("Limit"):
-        text, kind, line = re.fullmatch(r"(.*): (\w+) at line (\d+)", cell).groups()
-        yield 1, "", f"xheap: line {line}: {kind}", *script_of(text)
+        text, kind, line = re.fullmatch(r"(.*): (\w+)(?: at line (0))?", cell).groups()
+        options, lines = script_of(text)
+        yield 1, "", f"xheap: line {line or len(lines)}: {kind}", options, lines
     for number, name, _, cell in rows_of("No."):
-        if cell or name != "OutOfMemory":
-            text, reply = re.fullmatch(r"(.*): `(no [^`]*)`", cell).groups()
+        if name != "OutOfMemory":
+            text, reply = re.fullmatch(r"(.*?)(?:: `(no [^`]*)`)?", cell).groups(f"no {number} {name}")
             claim(reply.split()[1:3] == [number, name.split()[0]], f"{reply} is not the refusal of its row")
             options, lines = script_of(text)
             yield 0, f"*\n{len(head + lines)} {reply}\n*", "", options, head + lines
     for kind, _, cell in rows_of("Kind"):
         for options, lines in map(script_of, cell.split("; ")):
-            line = 0 if kind.endswith(" (line 0)") else len(lines)
-            yield 1, "", f"xheap: line {line}: {kind.split()[0]}", options, lines
+            yield 1, "", f"xheap: line {len(lines)}: {kind}", options, lines
 
 
 def examples():
