@@ -11,6 +11,7 @@ import tempfile
 import xml.dom.minidom
 
 TOP = pathlib.Path(__file__).resolve().parent.parent
+PROCESSORS = len(os.sched_getaffinity(0))
 ROOM = tempfile.TemporaryDirectory(prefix="judging.")
 REFUSER = f"{ROOM.name}/refuse_growth.so"
 
