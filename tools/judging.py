@@ -1,113 +1,300 @@
-"""How a program is run and how its answer is judged, by the gate and by ./soak. A judge returns where all is right, and
-raises Wrong where it is not; tools/test_gate tries them on wrong programs."""
-import collections
+"""How a program is run and how its answer is judged, by the gate and by ./soak. A judge returns
+where all is right, and raises Wrong where it is not; tools/test_gate tries them on wrong programs.
+"""
+from __future__ import annotations
+
+import contextlib
+import ctypes
 import difflib
 import fnmatch
 import os
 import pathlib
 import re
+import shutil
+import signal
 import subprocess
+import sys
 import tempfile
+import time
 import xml.dom.minidom
+from subprocess import PIPE
+from typing import Any, Callable, Iterator, NamedTuple, Sequence, Union
 
 TOP = pathlib.Path(__file__).resolve().parent.parent
 PROCESSORS = len(os.sched_getaffinity(0))
-ROOM = tempfile.TemporaryDirectory(prefix="judging.")
-REFUSER = f"{ROOM.name}/refuse_growth.so"
+# Where temporary files are of a run of the gate, of soak, and of what they run; `kept` makes it.
+ROOM = pathlib.Path(tempfile.gettempdir(), f"judging.{os.urandom(8).hex()}")
+# For so many seconds a program may run, and a tool that proves, builds, or runs many programs.
+LIMIT, LONG = 600, 43_200
+ENDS = signal.SIGTERM, signal.SIGINT, signal.SIGHUP
+# It sleeps, as does what it starts, one in a session of its own.
+SLEEPER = """#!/usr/bin/env bash
+setsid sleep 1000 &
+sleep 1000 &
+echo $$ $(jobs -p) >>"$STARTED"
+wait
+"""
+Word = Union[str, bytes, pathlib.Path]
+# A status, an output and a text of errors.
+Ended = tuple[int, bytes, bytes]
 
-# What a run ended with, and whether a growth of memory was refused.
-Answer = collections.namedtuple("Answer", "status out err is_refused")
+
+class Answer(NamedTuple):
+    """What a run ended with, and whether a growth of memory was refused."""
+
+    status: int
+    out: bytes
+    err: bytes
+    is_refused: bool = False
 
 
 class Wrong(Exception):
     pass
 
 
-def claim(is_so, what):
+def claim(is_so: object, what: str) -> None:
     if not is_so:
         raise Wrong(what)
 
 
-def lines_of(file):
+def around(page: pathlib.Path, tool: str) -> tuple[str, str]:
+    """What stands on the page before and behind the part that the tool makes: all between the two
+    lines that name it."""
+    marks = f"<!-- made by {tool}: do not edit -->\n", f"<!-- end of what {tool} made -->"
+    before, begin, rest = page.read_text().partition(marks[0])
+    _, end, after = rest.partition(marks[1])
+    claim(begin and end, f"{page}: the lines {marks[0]}{marks[1]} do not stand there")
+    return before + begin, end + after
+
+
+def write(file: pathlib.Path, text: str) -> None:
+    file.parent.mkdir(parents=True, exist_ok=True)
+    file.write_text(text)
+    file.chmod(0o700)
+
+
+def lines_of(file: str | pathlib.Path) -> list[str]:
     """The lines that are no comments."""
-    return [line for line in pathlib.Path(file).read_text().splitlines() if not line.startswith("#")]
+    return [it for it in pathlib.Path(file).read_text().splitlines() if not it.startswith("#")]
 
 
-def build_refuser():
-    source = TOP / "tools/refuse_growth.c"
-    subprocess.run(["cc", "-O2", "-shared", "-fPIC", "-o", REFUSER, source, "-ldl"], check=True)
+def kept(main: Callable[[], int]) -> int:
+    """The status of main, which runs in a process and a room of its own. After it, and at once
+    where a signal ends this process, nothing goes on of what it began, and the room is gone."""
+    ends = {it for it in ENDS if signal.getsignal(it) != signal.SIG_IGN}
+    before = signal.pthread_sigmask(signal.SIG_BLOCK, {*ends, signal.SIGCHLD})
+    ROOM.mkdir()
+    # rt runs programs and tests as nobody, who has to get through.
+    ROOM.chmod(0o711)
+    # Whose parent has ended is then a child of this process (PR_SET_CHILD_SUBREAPER).
+    ctypes.CDLL(None).prctl(36, 1, 0, 0, 0)
+    child, ended, status = os.fork(), False, 1
+    if not child:
+        try:
+            os.setsid()
+            signal.pthread_sigmask(signal.SIG_SETMASK, before)
+            # Where ./soak keeps what failed, also within the gate.
+            os.environ.setdefault("JUDGING_KEEPS", tempfile.gettempdir())
+            os.environ["TMPDIR"] = tempfile.tempdir = str(ROOM)
+            status = main()
+            sys.stdout.flush()
+        except Exception as wrong:
+            name = pathlib.Path(sys.argv[0]).name
+            print(f"{name}: FAILED: {type(wrong).__name__}: {wrong}", flush=True)
+        finally:
+            os._exit(status)
+    while not ended and (number := signal.sigwait({*ends, signal.SIGCHLD})) == signal.SIGCHLD:
+        while not ended and (found := os.waitpid(-1, os.WNOHANG))[0]:
+            ended, status = found[0] == child, found[1]
+    end_children()
+    shutil.rmtree(ROOM, ignore_errors=True)
+    if not ended:
+        signal.signal(number, signal.SIG_DFL)
+        signal.pthread_sigmask(signal.SIG_SETMASK, before)
+        os.kill(os.getpid(), number)
+    return os.waitstatus_to_exitcode(status) % 256
 
 
-def run(words, text=b"", **refused):
-    """Runs a program, with what tools/refuse_growth.c is told to refuse; for so long that one that still runs hangs."""
-    with tempfile.NamedTemporaryFile(dir=ROOM.name) as told:
-        env = {f"REFUSE_{name.upper()}": str(value) for name, value in refused.items() if value is not None}
-        env |= {"LD_PRELOAD": REFUSER, "REFUSE_TOLD": told.name} if env else {}
-        ran = subprocess.run(words, input=text, capture_output=True, env={**os.environ, **env}, timeout=600)
-        return Answer(ran.returncode, ran.stdout, ran.stderr, told.read() != b"")
+def end_children() -> None:
+    """Ends all that this process began, and what they began, until there is none."""
+    with contextlib.suppress(ChildProcessError):
+        while True:
+            for it in pathlib.Path("/proc/thread-self/children").read_text().split():
+                os.kill(int(it), signal.SIGKILL)
+            os.wait()
 
 
-def claim_same(answer, wanted):
+def wait_for(is_so: Callable[[], object], seconds: int) -> bool:
+    until = time.monotonic() + seconds
+    while not is_so() and time.monotonic() < until:
+        time.sleep(0.05)
+    return bool(is_so())
+
+
+def ends_at_once(number: int, folder: pathlib.Path, *words: Word) -> None:
+    """Ended by the signal it ends what it began, which is SLEEPER in this folder, and leaves no
+    file."""
+    env, null = {**os.environ, "PATH": f"{folder}:{os.environ['PATH']}"}, subprocess.DEVNULL
+    with tempfile.NamedTemporaryFile("r") as told, tempfile.TemporaryDirectory(prefix="a ") as room:
+        words = "env", "--default-signal", f"TMPDIR={room}", f"STARTED={told.name}", *words
+        with subprocess.Popen(words, env=env, stdin=null, stdout=null, stderr=null) as ran:
+            begun = wait_for(lambda: os.path.getsize(told.name), 60)
+            ran.send_signal(number)
+            try:
+                status = ran.wait(10)
+            finally:
+                ran.kill()
+        claim(begun and (status == -number or status > 128), f"{begun}, it ended with {status}")
+        started = [pathlib.Path("/proc", it) for it in told.read().split()]
+        is_over = wait_for(lambda: not any(it.exists() for it in started), 5)
+        claim(is_over and not os.listdir(room), f"it goes on, or files: {os.listdir(room)}")
+
+
+def failure(judge: Callable[..., object], *words: Any) -> str:
+    """What is wrong, if anything is."""
+    try:
+        judge(*words)
+    except Exception as wrong:
+        return f"{type(wrong).__name__}: {wrong}"
+    return ""
+
+
+def build_refuser(source: str | pathlib.Path = TOP / "tools/refuse_growth.c") -> None:
+    words = "cc", "-O2", "-shared", "-fPIC", "-o", ROOM / "refuse_growth.so", "-xc", source, "-ldl"
+    claim(run(words).status == 0, f"{source} cannot be built")
+
+
+def run(words: Sequence[Word], text: bytes = b"", limit: int = 0, **refused: int | None) -> Answer:
+    """Runs a program, with what tools/refuse_growth.c is told to refuse; at its limit all of its
+    session ends, and it is wrong."""
+    env = {f"REFUSE_{it.upper()}": str(value) for it, value in refused.items() if value is not None}
+    refuser = f"{tempfile.gettempdir()}/refuse_growth.so" if env else os.devnull
+    with tempfile.NamedTemporaryFile() as told, open(refuser) as file:
+        if env:
+            # A path without a space, at which the loader would split it.
+            env["LD_PRELOAD"] = f"/proc/{os.getpid()}/fd/{file.fileno()}"
+            env["REFUSE_TOLD"] = told.name
+        with subprocess.Popen(words, stdin=PIPE, stdout=PIPE, stderr=PIPE,
+                              env={**os.environ, **env}, start_new_session=True) as ran:
+            try:
+                out, err = ran.communicate(text, limit or LIMIT)
+            except BaseException:
+                os.killpg(ran.pid, signal.SIGKILL)
+                raise
+        said = told.read()
+    claim(not env or b"+" in said, f"no refuse_growth.so was loaded: {err!r}")
+    return Answer(ran.returncode, out, err, b"." in said)
+
+
+def passes(*words: Word) -> None:
+    ran = run(words, limit=LONG)
+    claim(ran.status == 0, (ran.out + ran.err).decode(errors="replace"))
+
+
+def has_types(*files: pathlib.Path) -> None:
+    """These that are Python have no line of more than 100 columns; and the right types, where mypy
+    is there."""
+    texts = {it: it.read_text() for it in files if it.is_file()}
+    begins = '"""', "#!/usr/bin/env python3\n"
+    ours = [it for it, text in texts.items() if text.startswith(begins)]
+    long = [line for it in ours for line in texts[it].splitlines() if len(line) > 100]
+    claim(ours and not long, "\n".join(["too long, or no file:", *long]))
+    if not shutil.which("mypy"):
+        print("gate: there is no mypy, so types are not checked", flush=True)
+        return
+    passes("mypy", "--strict", "--scripts-are-modules", "--cache-dir", ROOM / "mypy", *ours)
+
+
+def rt_ci(least: int) -> None:
+    """It passes, without a BAD EDIT, which it passes over, and so many edits are refused."""
+    words = ["timeout", "--signal=KILL", str(LONG), "rt", "ci"]
+    said = [""]
+    with subprocess.Popen(words, stdin=subprocess.DEVNULL, stdout=PIPE) as ran:
+        for line in ran.stdout or ():
+            said.append(line.decode(errors="replace"))
+            print(said[-1], end="", flush=True)
+    claim(ran.returncode == 0, f"rt ci ended with status {ran.returncode}")
+    claim(re.fullmatch(r"[1-9]\d* passed, 0 failed\n", said[-1]), f"its last line: {said[-1]!r}")
+    claim(not (bad := [it for it in said if "BAD EDIT" in it]), "".join(bad))
+    edits = sum("must-fail " in it and ": refused, as it must be" in it for it in said)
+    claim(edits >= least, f"{edits} must-fail edits were refused, and not {least}")
+
+
+def claim_same(answer: Answer | Ended, wanted: Ended) -> None:
     """The answer is this status, output and text of errors."""
-    texts = [f"{it[0]}\n{it[1].decode(errors='replace')}{it[2].decode(errors='replace')}" for it in (wanted, answer)]
-    lines = difflib.unified_diff(*map(str.splitlines, texts), "wanted", "answered", n=0, lineterm="")
+    one, other = (f"{it[0]}\n{(it[1] + it[2]).decode(errors='replace')}".splitlines()
+                  for it in (wanted, answer))
+    lines = difflib.unified_diff(one, other, "wanted", "answered", n=0, lineterm="")
     claim(answer[:3] == wanted, "\n".join([*lines][:20]))
 
 
-def written(script):
-    """What is written beside a script: its .out, or nothing where there is none; and its .status with the text of
-    errors, or that of no fault."""
+def written(script: pathlib.Path) -> Ended:
+    """What is written beside a script: its .out, or nothing where there is none; and its .status
+    with the text of errors, or that of no fault."""
     out, status = script.with_suffix(".out"), script.with_suffix(".status")
     claim(out.exists() or status.exists(), f"nothing is written of {script}")
     number, _, err = (status.read_bytes() if status.exists() else b"0").partition(b"\n")
     return int(number), out.read_bytes() if out.exists() else b"", err
 
 
-def ends_as_written(program, script, *words):
+def ends_as_written(program: Word, script: pathlib.Path, *words: str) -> None:
     claim_same(run([program, *words], script.read_bytes()), written(script))
 
 
-def is_drawn(program, script, *words):
-    """The script is drawn, as XML, and as the picture beside it or in docs/pictures/ where there is one. One with a
-    fault is not, and the fault is told as in its .status by this program's name."""
+def picture_of(script: pathlib.Path) -> pathlib.Path | None:
+    """The picture beside it or in docs/pictures/, where there is one."""
+    pictures = script.with_suffix(".svg"), TOP / "docs/pictures" / f"{script.stem}.svg"
+    return next((it for it in pictures if it.exists()), None)
+
+
+def is_drawn(program: str | pathlib.Path, script: pathlib.Path, *words: str) -> None:
+    """The script is drawn, as XML, and as its picture. One with a fault is not, and the fault is
+    told as in its .status by this program's name."""
     answer, (status, _, err) = run([program, *words], script.read_bytes()), written(script)
     if status != 0:
-        claim_same(answer, (status, b"", err.replace(b"xheap:", f"{pathlib.Path(program).name}:".encode())))
+        name = f"{pathlib.Path(program).name}:".encode()
+        claim_same(answer, (status, b"", err.replace(b"xheap:", name)))
         return
-    pictures = script.with_suffix(".svg"), TOP / "docs/pictures" / f"{script.stem}.svg"
-    claim_same(answer, (0, next((it.read_bytes() for it in pictures if it.exists()), answer.out), b""))
+    picture = picture_of(script)
+    claim_same(answer, (0, picture.read_bytes() if picture else answer.out, b""))
     xml.dom.minidom.parseString(answer.out)
 
 
-def ends(program, source, to, status, printed, reported, *words):
-    """Run on these two files it ends so, and has printed and reported these lines, in which a * is any text."""
-    answer = run(["bash", "-c", 'exec "${@:3}" <"$1" >"$2"', "-", source, to, program, *words])
+def ends(program: Word, source: Word, to: Word, status: str, printed: str, reported: str,
+         *words: Word) -> None:
+    """Run on these two files it ends so, and has printed and reported these lines, in which a *
+    is any text."""
+    bash = "bash", "-c", 'exec "${@:3}" <"$1" >"$2"', "-"
+    answer = run([*bash, source, to, program, *words])
     for found, wanted in ((answer.out, printed), (answer.err, reported)):
         claim(fnmatch.fnmatchcase(found.decode(), wanted and wanted + "\n"), str(answer))
     claim(answer.status == int(status), str(answer))
 
 
-def each_growth(words, text=b"", **refused):
-    """The answers with the first growth of memory refused, with the second, and so on until a run asks for no more,
-    whose answer is the last."""
+def each_growth(words: Sequence[Word], text: bytes = b"", **refused: int | None
+                ) -> Iterator[Answer]:
+    """The answers with the first growth of memory refused, with the second, and so on until a run
+    asks for no more, whose answer is the last."""
     answer, number = None, 0
     while not answer or answer.is_refused:
         number += 1
-        answer = run(words, text, growth=number, **refused)
+        answer = run(words, text, 0, growth=number, **refused)
         yield answer
 
 
-def passes_each_growth(program, test):
-    """A test passes whichever growth is refused; one without memory whichever is the first from which on all are."""
-    answers = [*each_growth([program, test], **{"rest": 1} if "without_memory" in test else {})]
+def passes_each_growth(program: Word, test: str) -> None:
+    """A test passes whichever growth is refused; one without memory whichever is the first from
+    which on all are."""
+    rest = 1 if "without_memory" in test else None
+    answers = [*each_growth([program, test], rest=rest)]
     for number, answer in enumerate(answers, 1):
         claim(answer.status == 0, f"growth {number}: {answer}")
     claim(len(answers) > 1, "no growth was asked for")
 
 
-def refused_line(words, text, answer):
-    """The line of the one command that says that it was refused memory. All else is as if the script did not have
-    it: the output is that of the script with a comment in its place."""
+def refused_line(words: Sequence[Word], text: bytes, answer: Answer) -> int:
+    """The line of the one command that says that it was refused memory. All else is as if the
+    script did not have it: the output is that of the script with a comment in its place."""
     lines = re.findall(rb"^(\d+) no 1 OutOfMemory$", answer.out, re.M)
     claim(len(lines) == 1 and "--serial" not in words, f"refused memory: {answer}")
     commands = text.split(b"\n")
@@ -118,12 +305,14 @@ def refused_line(words, text, answer):
     return int(lines[0])
 
 
-def program_stands_each_growth(program, script, *words):
-    """With each growth of each thread refused in turn; there is none but the first, and one a process. A run to which
-    one was refused ends with status 3, or gets by without it and is whole, as where a list asks for less; but most
-    end. Beside the script stands .growths: the lines of the commands that take memory of their own, one growth each.
-    On threads each of these says once that it was refused memory, and no other does; on one each ends the run."""
-    words, text, wanted, ended, whole, lines = [program, *words], script.read_bytes(), written(script), 0, 0, []
+def program_stands_each_growth(program: Word, script: pathlib.Path, *options: str) -> None:
+    """With each growth of each thread refused in turn; there is none but the first, and one a
+    process. A run to which one was refused ends with status 3, or gets by without it and is whole,
+    as where a list asks for less; but most end. Beside the script stands .growths: the lines of the
+    commands that take memory of their own, one growth each. On threads each of these says once that
+    it was refused memory, and no other does; on one each ends the run."""
+    words, text, wanted = [program, *options], script.read_bytes(), written(script)
+    ended, whole, lines = 0, 0, []
     for thread in range(1 + len(re.findall(rb"^process ", text, re.M))):
         *refused, last = each_growth(words, text, thread=thread)
         claim_same(last, wanted)
@@ -138,12 +327,22 @@ def program_stands_each_growth(program, script, *words):
     growths = [int(line) for line in script.with_suffix(".growths").read_text().split()]
     claim(ended > whole, f"{ended} runs ended, and {whole} were whole")
     is_so = ended > len(growths) if "--serial" in words else sorted(lines) == growths
-    claim(is_so, f"{growths} take memory; {ended} runs ended, and these lines were refused it: {lines}")
+    claim(is_so, f"{growths} take memory; {ended} runs ended, and {lines} were refused it")
 
 
-def growth_tests(file, *programs):
-    """The list has the tests of these programs that have such a name, each behind its program, and no others."""
-    listed = sorted(f"{program} {test}" for program, *tests in map(str.split, lines_of(file)) for test in tests)
-    name = re.compile(r"^(.*(?:growth|without_memory).*): test$", re.M)
-    there = sorted(f"{it.name} {test}" for it in programs for test in name.findall(run([it, "--list"]).out.decode()))
+def tests_of(program: Word) -> list[str]:
+    return re.findall(r"^(.*): test$", run([program, "--list"]).out.decode(), re.M)
+
+
+def growth_tests(file: str | pathlib.Path, *programs: pathlib.Path) -> None:
+    """The list has the tests of these programs that have such a name, each behind its program, and
+    no others."""
+    rows = map(str.split, lines_of(file))
+    listed = sorted(f"{program} {test}" for program, *tests in rows for test in tests)
+    there = sorted(f"{program.name} {test}" for program in programs for test in tests_of(program)
+                   if re.search("growth|without_memory", test))
     claim(listed and listed == there, f"in one of both: {sorted({*listed} ^ {*there})}")
+
+
+def has_tests(program: Word, least: int) -> None:
+    claim((count := len(tests_of(program))) >= least, f"it has {count} tests, and not {least}")

@@ -1,5 +1,5 @@
 # What ./xheap and ./prove share. They set top, the folder of the repository, and read this file.
-# shellcheck shell=bash disable=SC2154
+# shellcheck shell=bash disable=SC2046,SC2154
 
 # stands_on NAME ..: these crates and those that they stand on, one a line, lowest first
 stands_on() {
@@ -7,12 +7,42 @@ stands_on() {
         index(wanted, " " $1 " ") { print $1; sub(/#.*/, ""); gsub(/[ :]+/, " "); wanted = wanted $0 " " }' | tac
 }
 
-# is_since FILE NAME: the file is there, and since it was made no source has changed of the crate NAME or of one that it
-# stands on
-is_since() {
-    local crate parts=("$top/crates.txt")
-    for crate in $(stands_on "$2"); do
-        parts+=("$top/crates/$crate/"{src,specs,proofs})
-    done
-    [ -e "$1" ] && [ -z "$(find "${parts[@]}" -newer "$1" -print -quit 2>/dev/null)" ]
+# sources_of NAME: a checksum of crates.txt, and of src, specs and proofs of the crate NAME and of those it stands on
+sources_of() {
+    local crate parts=(crates.txt)
+    for crate in $(stands_on "$1"); do parts+=("crates/$crate/"{src,specs,proofs}); done
+    (cd "$top" && { find "${parts[@]}" -type f -print0 2>/dev/null || :; } | LC_ALL=C sort -z | xargs -0 cksum) | cksum
 }
+
+# program_of NAME: a checksum of the program that was built of the crate NAME, where it is one
+program_of() { { cat "$top/crates/$1/out/$1" 2>/dev/null || :; } | cksum; }
+
+# kit: the identity of the kit whose rt is on the PATH
+kit() { cat "$(dirname "$(readlink -f "$(type -P rt)")")/../KIT-ID"; }
+
+# is_proved NAME: ./prove has proved and built the crate NAME, of these sources, and by the kit on the PATH, if any
+is_proved() {
+    local sums="$top/crates/$1/out/prove.sum"
+    { sources_of "$1"; program_of "$1"; kit || sed -n 3p "$sums"; } 2>/dev/null | cmp -s - "$sums"
+}
+
+# begin: makes a folder, room, for rt too; it goes with the script, as does all that it started
+begin() {
+    room=""
+    trap 'trap "" INT TERM HUP; { end $(jobs -p) || :; wait; rm -rf "$room"; } 2>/dev/null' EXIT
+    trap 'exit 130' INT && trap 'exit 143' TERM && trap 'exit 129' HUP
+    room="$(mktemp -d)" && export TMPDIR="$room"
+}
+
+# end PID ..: ends these and all that they started; each is stopped first, so that it starts no more meanwhile
+end() {
+    local process
+    for process in "$@"; do
+        kill -STOP "$process" || continue
+        end $(cat "/proc/$process/task/"*/children)
+        kill -KILL "$process"
+    done
+}
+
+# run COMMAND ..: runs it, and heeds a signal meanwhile at once
+run() { "$@" <&0 & wait "$!"; }

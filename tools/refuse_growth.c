@@ -1,7 +1,8 @@
-// Preloaded into a program: refuses its N-th growth of memory, N from REFUSE_GROWTH, and where REFUSE_REST is set each
-// growth after it too; every other growth is granted. Where REFUSE_THREAD is set, the growths are those of one thread:
-// of the first, 0, or of the one that was made so many threads after it. The file that REFUSE_TOLD names gets a byte
-// for each growth that is refused.
+// Preloaded into a program: refuses its N-th growth of memory, N from REFUSE_GROWTH, and where
+// REFUSE_REST is set each growth after it too; every other growth is granted. Where REFUSE_THREAD is
+// set, the growths are those of one thread: of the first, 0, or of the one that was made so many
+// threads after it. The file that REFUSE_TOLD names gets a + from each process into which this was
+// loaded, and a . for each growth that is refused.
 #define _GNU_SOURCE
 #include <dlfcn.h>
 #include <errno.h>
@@ -29,22 +30,27 @@ struct begun {
     long number;
 };
 
+static void tell(const char *what) {
+    int file = open(getenv("REFUSE_TOLD"), O_WRONLY | O_APPEND);
+    if (write(file, what, 1) != 1)
+        abort();
+    close(file);
+}
+
 __attribute__((constructor)) static void start(void) {
     const char *of = getenv("REFUSE_THREAD");
     count = 0;
     first = atol(getenv("REFUSE_GROWTH"));
     last = getenv("REFUSE_REST") ? LONG_MAX : first;
     thread = of ? atol(of) : -1;
+    tell("+");
 }
 
 static int is_refused(void) {
     long number = thread < 0 || own == thread ? ++count : 0;
     if (number < first || number > last)
         return 0;
-    int file = open(getenv("REFUSE_TOLD"), O_WRONLY | O_APPEND);
-    if (write(file, ".", 1) != 1)
-        abort();
-    close(file);
+    tell(".");
     errno = ENOMEM;
     return 1;
 }
@@ -64,8 +70,10 @@ static void *begin(void *given) {
     return it.start(it.argument);
 }
 
-int pthread_create(pthread_t *to, const pthread_attr_t *how, void *(*start)(void *), void *argument) {
-    int (*make)(pthread_t *, const pthread_attr_t *, void *(*)(void *), void *) = dlsym(RTLD_NEXT, "pthread_create");
+int pthread_create(pthread_t *to, const pthread_attr_t *how, void *(*start)(void *),
+                   void *argument) {
+    int (*make)(pthread_t *, const pthread_attr_t *, void *(*)(void *), void *) =
+        dlsym(RTLD_NEXT, "pthread_create");
     struct begun *it = __libc_malloc(sizeof *it);
     *it = (struct begun){start, argument, ++made};
     return make(to, how, begin, it);

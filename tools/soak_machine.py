@@ -1,198 +1,229 @@
-"""What a script answers, by docs/SCRIPT.md and by nothing of the program: a heap that does commands one by one, and
-what is so of a run on threads whatever its schedule was (`follow`)."""
-import soak_reader
-from judging import claim, claim_same
-from soak_reader import Refused, need
+"""What a script answers, by docs/SCRIPT.md and by nothing of the program: a heap that does commands
+one by one."""
+from __future__ import annotations
 
-REFUSALS = """OutOfMemory BadSize NoArena NoSpace NoRecord NotOwned NotData NotEndpoint BadCut BadRange NoProcess Ended
-NoChannel Full PeerClosed Empty TooMany Twice Worn Unfinished NoPlace Protocol""".split()
-# The states of a process that has ended: its place has gone to a later one, or not. These verbs are of one that runs.
+from dataclasses import dataclass, field, replace
+from typing import Any, Iterator, Optional
+
+from soak_reader import Contract, Refused, need
+
+Options = dict[str, Any]
+Reply = Optional[list[Any]]
+REFUSALS = """OutOfMemory BadSize NoArena NoSpace NoRecord NotOwned NotData NotEndpoint BadCut
+BadRange NoProcess Ended NoChannel Full PeerClosed Empty TooMany Twice Worn Unfinished NoPlace
+Protocol""".split()
+# The states of a process that has ended: its place has gone to a later one, or not. These verbs are
+# of one that runs.
 GONE = "ended", "replaced"
 BY_RUNNING = b"open alloc split read write free give take await close".split()
 
 
-class Later(Exception):
-    """What the command needs isn't followed yet, a message of another process; or which blocks came back isn't said."""
+@dataclass
+class Arena:
+    """Its units are for each 16 bytes a `.` where they are free."""
+
+    size: int
+    units: bytearray
+    records: int = 0
+    taken: int = 0
+    back: int = 0
 
 
-class Thing:
-    """An arena, whose `units` are for each 16 bytes a `.` where they are free; a channel, which has for each side
-    whether it is open, the messages on their way to it, and how many were taken there; or a block, which as an
-    endpoint has a channel, its side and the state of its contract."""
+@dataclass(eq=False)
+class Channel:
+    """Of each side whether it is open, the messages on their way to it, and how many were taken."""
 
-    def __init__(self, **fields):
-        vars(self).update(fields)
+    rows: Contract
+    is_open: list[bool] = field(default_factory=lambda: [True, True])
+    waiting: list[list[Message]] = field(default_factory=lambda: [[], []])
+    taken: list[int] = field(default_factory=lambda: [0, 0])
 
 
-class Process(Thing):
-    def bind(self, name, block):
+@dataclass(eq=False)
+class Block:
+    """As an endpoint it has a channel, its side and the state of its contract."""
+
+    arena: Arena
+    start: int
+    data: bytearray
+    side: int
+    channel: Channel | None
+    state: int | None
+
+
+Message = tuple[int, list[Block]]
+
+
+class Process:
+    def __init__(self, name: bytes, number: int) -> None:
+        self.name, self.number, self.state = name, number, "running"
+        self.held: list[Block] = []
+        self.names: dict[bytes, Block] = {}
+
+    def bind(self, name: bytes, block: Block) -> None:
         self.held.append(block)
         self.names[name] = block
 
-    def unbind(self, gone):
+    def unbind(self, gone: list[Block]) -> None:
         self.held = [it for it in self.held if it not in gone]
         self.names = {name: it for name, it in self.names.items() if it not in gone}
 
-    def block(self, name, is_end=None):
-        """The block of the name, which has to be an endpoint, or data, or is any."""
+    def block(self, name: bytes) -> Block:
         need(name in self.names, "NotOwned")
-        need(is_end in (None, bool(self.names[name].channel)), "NotEndpoint" if is_end else "NotData")
         return self.names[name]
 
+    def data(self, name: bytes) -> Block:
+        need(not self.block(name).channel, "NotData")
+        return self.names[name]
 
-def size_of(blocks):
+    def end(self, name: bytes) -> tuple[Block, Channel]:
+        block = self.block(name)
+        if not block.channel:
+            raise Refused("NotEndpoint")
+        return block, block.channel
+
+
+def size_of(blocks: list[Block]) -> int:
     return sum(len(it.data) for it in blocks)
 
 
 class Heap:
-    """`said`: in a run on threads the words that a command was answered with; they decide what others have a part in.
-    Then `mortal` are the names of processes that ended at some time, and `victims` of those that were killed;
-    `reclaimed` counts the bytes that endings and closings gave back, all of them unless the run `is_partial`."""
+    def __init__(self, options: Options) -> None:
+        self.options, size = options, options["--bytes"]
+        units = b"." * (size // 16)
+        self.arenas = [Arena(size, bytearray(units)) for _ in range(options["--arenas"])]
+        self.channels: list[Channel] = []
+        self.contracts: dict[bytes, Contract] = {}
+        self.places: list[Process] = []
+        self.processes: dict[bytes, Process] = {}
 
-    def __init__(self, options):
-        self.options, self.said, self.reclaimed, self.is_partial, self.is_sure = options, None, 0, False, True
-        size = options["--bytes"]
-        self.arenas = [Thing(size=size, units=bytearray(b"." * (size // 16)), records=0, taken=0, back=0)
-                       for _ in range(options["--arenas"])]
-        self.channels, self.contracts, self.places, self.processes = [], {}, [], {}
-        self.mortal, self.victims, self.drained = set(), set(), []
-
-    def step(self, by, verb, values, said=None):
+    def step(self, by: bytes | None, verb: bytes, values: list[Any]) -> str:
         """The reply, without the line's number."""
-        self.said = said
         try:
-            by = self.running(by) if verb in BY_RUNNING else by
-            words = ["ok", *(getattr(self, f"do_{verb.decode()}")(by, *values) or [])]
+            who = self.running(by) if verb in BY_RUNNING else by
+            act = getattr(self, f"do_{verb.decode()}".replace("await", "take"))
+            words = ["ok", *(act(who, *values) or [])]
         except Refused as refused:
             words = ["no", REFUSALS.index(refused.args[0]) + 1, *refused.args]
         return " ".join(map(str, words))
 
-    def ask(self, is_so, *words):
-        """Where it isn't so that is the refusal; on threads, where that was said."""
-        need(words[0] not in self.said[2:3] if self.said else is_so, *words)
+    def ask(self, is_so: object, *words: object) -> None:
+        """What may be otherwise on threads; where it isn't so that is the refusal."""
+        need(is_so, *words)
 
-    def process(self, name):
-        need(name in self.processes, "NoProcess")
+    def process(self, name: bytes | None) -> Process:
+        if name not in self.processes:
+            raise Refused("NoProcess")
         return self.processes[name]
 
-    def running(self, name, *states):
-        """A process that runs, or is in one of these states. On threads one that has ended says so until it starts
-        again."""
+    def running(self, name: bytes | None, *states: str) -> Process:
+        """A process that runs, or is in one of these states."""
         process = self.process(name)
-        if self.said and "Ended" in self.said:
-            claim(name in self.mortal, f"{name} has ended, and nobody ended it")
-            process.state = "ending" if process.state == "running" else process.state
-        lives = process.state in ("running", *states)
-        self.ask(lives, "Ended")
-        claim(lives, f"{name} goes on after its end: {self.said}")
+        need(process.state in ("running", *states), "Ended")
         return process
 
-    def fill(self, number, start, length, byte):
-        """On threads it isn't known where a block lies."""
-        if not self.said:
-            self.arenas[number].units[start // 16 : (start + length) // 16] = byte * (length // 16)
+    def fill(self, arena: Arena, start: int, length: int, byte: bytes) -> None:
+        arena.units[start // 16 : (start + length) // 16] = byte * (length // 16)
 
-    def carve(self, number, lengths, channel=None):
-        """New blocks side by side; under a channel its endpoints, with their sides and the state of its contract."""
-        arena, length = self.arenas[number], sum(lengths)
+    def carve(self, arena: Arena, lengths: list[int], channel: Channel | None) -> list[Block]:
+        """New blocks side by side; under a channel its endpoints."""
+        length = sum(lengths)
         self.ask(arena.records + len(lengths) <= self.options["--records"], "NoRecord")
         start = 16 * arena.units.find(b"." * (length // 16))
         self.ask(start >= 0, "NoSpace")
         self.ask(arena.taken + length <= self.options["--wear"], "Worn")
-        self.fill(number, start, length, b"#")
+        self.fill(arena, start, length, b"#")
         arena.records += len(lengths)
         arena.taken += length
-        own = {"arena": number, "channel": channel, "state": next(iter(channel.rows), [None])[0] if channel else None}
-        return [Thing(start=start + it * at, data=bytearray(it), side=at, **own) for at, it in enumerate(lengths)]
+        state = next(iter(channel.rows), (None,))[0] if channel else None
+        return [Block(arena, start + it * side, bytearray(it), side, channel, state)
+                for side, it in enumerate(lengths)]
 
-    def give_back(self, block):
+    def give_back(self, block: Block) -> int:
         length = len(block.data)
         self.fill(block.arena, block.start, length, b".")
-        self.arenas[block.arena].back += length
-        self.arenas[block.arena].records -= 1
+        block.arena.back += length
+        block.arena.records -= 1
         return length
 
-    def do_process(self, _, name, is_new=True):
-        need(not is_new or name not in self.processes, "Twice")
+    def place(self, name: bytes) -> Process:
+        """A new process in the first place that is free, or a new one."""
         free = (at for at, it in enumerate(self.places) if it.state == "ended" and it.number < 4064)
         at = next(free, len(self.places))
-        self.ask(at < 32, "NoPlace")
-        number = int(self.said[1]) if self.said else self.places[at].number + 32 if at < len(self.places) else at
-        claim(number < 4096, f"no process: {self.said}")
-        self.processes[name] = Process(name=name, number=number, state="running", held=[], names={})
-        if not self.said:
-            for before in self.places[at : at + 1]:
-                before.state = "replaced"
-            self.places[at : at + 1] = [self.processes[name]]
-        return [number]
+        need(at < 32, "NoPlace")
+        number = at
+        for before in self.places[at : at + 1]:
+            before.state, number = "replaced", before.number + 32
+        self.places[at : at + 1] = [Process(name, number)]
+        return self.places[at]
 
-    def do_contract(self, _, name, *rows):
+    def do_process(self, _: None, name: bytes, is_new: bool = True) -> Reply:
+        need(not is_new or name not in self.processes, "Twice")
+        self.processes[name] = self.place(name)
+        return [self.processes[name].number]
+
+    def do_contract(self, _: None, name: bytes, *rows: tuple[int, int, int, int]) -> None:
         self.contracts[name] = {row[:3]: row[3] for row in rows}
 
-    def do_wire(self, _, p, e, q, f, number, contract=None):
-        p, q = self.running(p), self.running(q)
+    def do_wire(self, _: None, p: bytes, e: bytes, q: bytes, f: bytes, number: int,
+                contract: bytes = b"") -> None:
+        low, high = self.running(p), self.running(q)
         need(number < len(self.arenas), "NoArena")
         self.ask(len(self.channels) < 64, "NoChannel")
-        rows = self.contracts.get(contract, {})
-        channel = Thing(rows=rows, is_open=[True, True], waiting=([], []), taken=[0, 0])
-        low, high = self.carve(number, [32, 32], channel)
+        channel = Channel(self.contracts.get(contract, {}))
+        ends = self.carve(self.arenas[number], [32, 32], channel)
         self.channels.append(channel)
-        p.bind(e, low)
-        q.bind(f, high)
+        low.bind(e, ends[0])
+        high.bind(f, ends[1])
 
-    def do_open(self, process, e, f, *rest):
+    def do_open(self, process: Process, e: bytes, f: bytes, *rest: Any) -> None:
         self.do_wire(None, process.name, e, process.name, f, *rest)
 
-    def do_alloc(self, process, x, count, number):
+    def do_alloc(self, process: Process, x: bytes, count: int, number: int) -> Reply:
         need(number < len(self.arenas), "NoArena")
         need(0 < count <= self.arenas[number].size, "BadSize")
         self.ask(True, "OutOfMemory")
         length = -(-count // 16) * 16
-        process.bind(x, *self.carve(number, [length]))
+        process.bind(x, *self.carve(self.arenas[number], [length], None))
         return [length]
 
-    def do_split(self, process, x, at, t):
-        block = process.block(x, False)
+    def do_split(self, process: Process, x: bytes, at: int, t: bytes) -> Reply:
+        block = process.data(x)
         need(at % 16 == 0 and 0 < at < len(block.data), "BadCut")
         self.ask(True, "OutOfMemory")
-        arena = self.arenas[block.arena]
-        self.ask(arena.records < self.options["--records"], "NoRecord")
-        arena.records += 1
-        tail = Thing(**{**vars(block), "start": block.start + at, "data": block.data[at:]})
+        self.ask(block.arena.records < self.options["--records"], "NoRecord")
+        block.arena.records += 1
+        tail = replace(block, start=block.start + at, data=block.data[at:])
         del block.data[at:]
         process.bind(t, tail)
         return [at, len(tail.data)]
 
-    def do_read(self, process, x, at, count):
-        data = process.block(x, False).data
+    def do_read(self, process: Process, x: bytes, at: int, count: int) -> Reply:
+        data = process.data(x).data
         need(at + count <= len(data), "BadRange")
         return [data[at : at + count].hex()]
 
-    def do_write(self, process, x, at, text):
+    def do_write(self, process: Process, x: bytes, at: int, text: bytes) -> None:
         new = bytes.fromhex(text.decode())
         self.do_read(process, x, at, len(new))
         process.names[x].data[at : at + len(new)] = new
 
-    def do_free(self, process, x):
-        block = process.block(x, False)
+    def do_free(self, process: Process, x: bytes) -> Reply:
+        block = process.data(x)
         process.unbind([block])
         return [self.give_back(block)]
 
-    def do_give(self, process, e, tag, *names):
-        end = process.block(e, True)
-        channel, to, state = end.channel, 1 - end.side, end.channel.rows.get((end.state, tag, end.side))
+    def look(self, process: Process, blocks: list[Block]) -> None:
+        """Of a give, at what it gives."""
+
+    def do_give(self, process: Process, e: bytes, tag: int, *names: bytes) -> Reply:
+        end, channel = process.end(e)
+        to, state = 1 - end.side, channel.rows.get((end.state, tag, end.side))
         need(len(names) <= 8, "TooMany")
         blocks = [process.block(name) for name in names]
         need(len({*blocks, end}) > len(blocks), "Twice")
         need(not channel.rows or state is not None, "Protocol")
-        if self.said and "PeerClosed" in self.said:
-            # In the midst of it, perhaps: what was sent is reclaimed at the peer.
-            back = int(self.said[3])
-            if 0 < back < len(blocks):
-                self.is_sure = False
-                raise Later
-            process.unbind(blocks[back:])
-            raise Refused("PeerClosed", back)
+        self.look(process, blocks)
         self.ask(channel.is_open[to], "PeerClosed", len(blocks))
         self.ask(len(channel.waiting[to]) < self.options["--depth"], "Full", len(blocks))
         process.unbind(blocks)
@@ -200,34 +231,23 @@ class Heap:
         channel.waiting[to].append((tag, blocks))
         return [channel.taken[to] + len(channel.waiting[to])]
 
-    def do_take(self, process, e, *names):
-        end = process.block(e, True)
-        channel, side = end.channel, end.side
-        waiting = channel.waiting[side]
-        if self.said and "PeerClosed" in self.said:
-            self.drained.append(waiting)
-        self.ask(waiting or channel.is_open[1 - side], "PeerClosed")
+    def do_take(self, process: Process, e: bytes, *names: bytes) -> Reply:
+        end, channel = process.end(e)
+        waiting = channel.waiting[end.side]
+        self.ask(waiting or channel.is_open[1 - end.side], "PeerClosed")
         self.ask(waiting, "Empty")
-        if not waiting:
-            raise Later
-        channel.taken[side] += 1
+        channel.taken[end.side] += 1
         tag, blocks = waiting.pop(0)
-        end.state = channel.rows.get((end.state, tag, 1 - side))
+        end.state = channel.rows.get((end.state, tag, 1 - end.side))
         process.names.update(zip(names, blocks))
         process.held += blocks
-        return [channel.taken[side], tag, *(len(it.data) for it in blocks)]
+        return [channel.taken[end.side], tag, *(len(it.data) for it in blocks)]
 
-    do_await = do_take
-
-    def sweep(self, blocks, budget=4096, least=0):
-        """The bytes that so many of the blocks give back, with what is on its way to endpoints among them in turn; on
-        threads as many as it says."""
-        if self.said and "Unfinished" in self.said:
-            self.is_partial, left = True, int(self.said[3])
-            claim(1 <= left <= 2048, f"so many are left: {left}")
-            raise Refused("Unfinished", left)
-        count = int(self.said[1]) if self.said else 0
-        while blocks and budget and not self.said:
+    def sweep(self, blocks: list[Block], budget: int = 4096) -> Reply:
+        """The bytes that so many of the blocks give back, with what is on its way to endpoints
+        among them in turn."""
+        count = 0
+        while blocks and budget:
             block = blocks.pop(0)
             budget -= 1
             if block.channel:
@@ -235,65 +255,48 @@ class Heap:
                 while waiting := block.channel.waiting[block.side]:
                     blocks += waiting.pop(0)[1]
             count += self.give_back(block)
-        need(self.said or not blocks, "Unfinished", len(blocks))
-        claim(count >= least and count % 16 == 0, f"so many bytes come back: {count}")
-        self.reclaimed += count
+        need(not blocks, "Unfinished", len(blocks))
         return [count]
 
-    def do_close(self, process, e):
-        end = process.block(e, True)
+    def do_close(self, process: Process, e: bytes) -> Reply:
+        end, _ = process.end(e)
         process.unbind([end])
-        return self.sweep([end], least=32)
+        return self.sweep([end])
 
-    def end(self, process, budget, is_own):
-        """On threads it isn't known when another ends it."""
-        before, after = ("ending", "ended") if is_own or not self.said else [process.state] * 2
-        process.state = before
-        count = self.sweep(process.held, budget)
-        process.state = after
-        return count
+    def end(self, process: Process, budget: int) -> Reply:
+        process.state = "ending"
+        back = self.sweep(process.held, budget)
+        process.state = "ended"
+        return back
 
-    def do_exit(self, by, budget=4096):
-        return self.end(self.running(by, "ending"), budget, True)
+    def do_exit(self, by: bytes, budget: int = 4096) -> Reply:
+        return self.end(self.running(by, "ending"), budget)
 
-    def do_kill(self, by, other, budget=4096):
-        if self.said and "Ended" in self.said:
-            claim({by, other} & self.mortal, f"{by} or {other} has ended, and nobody ended it")
-            raise Refused("Ended")
+    def do_kill(self, by: bytes, other: bytes, budget: int = 4096) -> Reply:
         self.running(by)
         process = self.process(other)
-        need(self.said or process.state not in GONE, "Ended")
-        return self.end(process, budget, by == other)
+        need(process.state not in GONE, "Ended")
+        return self.end(process, budget)
 
-    def do_again(self, by):
-        process = self.process(by)
-        self.ask(process.state in GONE, "Twice")
-        claim(not self.said or by in self.mortal, f"{by} starts again, and nobody ended it")
+    def do_again(self, by: bytes) -> Reply:
+        self.ask(self.process(by).state in GONE, "Twice")
         return self.do_process(None, by, False)
 
-    def do_glance(self, by, other):
+    def do_glance(self, by: bytes, other: bytes) -> Reply:
         self.process(by)
         process = self.process(other)
         self.ask(process.state != "replaced", "Ended")
-        if not self.said or by == other and self.is_certain(process):
-            return [len(process.held), size_of(process.held)]
-        blocks, count = map(int, self.said[1:])
-        claim(16 * blocks <= count and count % 16 == 0, f"so many blocks and bytes: {self.said}")
-        return [blocks, count]
+        return [len(process.held), size_of(process.held)]
 
-    def is_certain(self, process):
-        """Whether a run on threads says what the process holds."""
-        return process.state == "running" and process.name not in self.victims
-
-    def ways(self):
+    def ways(self) -> dict[tuple[Channel, int], list[Block]]:
         """The blocks in flight in each direction."""
-        ways = ((channel, side, loads) for channel in self.channels for side, loads in enumerate(channel.waiting))
-        return {(channel, side): [it for _, blocks in loads for it in blocks] for channel, side, loads in ways}
+        return {(channel, side): [it for _, blocks in waiting for it in blocks]
+                for channel in self.channels for side, waiting in enumerate(channel.waiting)}
 
-    def ledger(self):
-        for at, it in enumerate(self.arenas):
-            holes = sum(map(bool, it.units.split(b"#")))
-            yield f"arena {at} {it.size} {it.taken - it.back} {holes} {it.taken} {it.back}"
+    def ledger(self) -> Iterator[str]:
+        for at, arena in enumerate(self.arenas):
+            holes, out = sum(map(bool, arena.units.split(b"#"))), arena.taken - arena.back
+            yield f"arena {at} {arena.size} {out} {holes} {arena.taken} {arena.back}"
         for it in self.places:
             yield f"process {it.name.decode()} {it.state} {len(it.held)} {size_of(it.held)}"
         yield f"owned {sum(size_of(it.held) for it in self.places)}"
@@ -302,98 +305,3 @@ class Heap:
         for way, blocks in enumerate(self.ways().values()):
             if blocks and "--flight" in self.options:
                 yield f"direction {way} {len(blocks)} {size_of(blocks)}"
-
-
-def follow(commands, options, lines, may_starve):
-    """Claims what is so of a run on threads: each process's commands in their order, a take behind its give. Numbers
-    of messages, lengths and bytes are certain, since who holds an endpoint is; what is left to the schedule is as was
-    said."""
-    heap, waiting = Heap(options), {}
-    claim(sum("OutOfMemory" in line for line in lines) <= may_starve, "OutOfMemory")
-    for (number, by, verb, values), line in zip(commands, lines):
-        at, *said = line.split(" ")
-        is_reply = at == str(number) and said[:1] in (["ok"], ["no"]) and all(map(str.isalnum, said))
-        claim(is_reply and not (verb == b"await" and "Empty" in said), f"no reply of line {number}: {line}")
-        waiting.setdefault(by, []).append((verb, values, said))
-        if verb in (b"exit", b"kill") and (said[0] == "ok" or "Unfinished" in said):
-            heap.mortal.add(by if verb == b"exit" else values[0])
-            heap.victims |= {values[0]} if verb == b"kill" else set()
-    for verb, values, said in waiting.pop(None, []):
-        claim(heap.step(None, verb, values) == " ".join(said), f"a head {verb} {values} was answered {said}")
-    while any([follow_one(heap, by, own) for by, own in waiting.items()]):
-        pass
-    if heap.is_sure:
-        claim(not any(waiting.values()), f"what was taken nobody gave: {[it[0] for it in waiting.values() if it]}")
-        claim(not any(heap.drained), "what was given to an end was not taken there, and its peer is closed")
-        judge_ledger(heap, [line.split(" ") for line in lines[len(commands) :]])
-
-
-def follow_one(heap, by, own):
-    """Follows a process until a message isn't given yet; how far it came on."""
-    count = len(own)
-    for verb, values, said in [*own]:
-        try:
-            wanted = heap.step(by, verb, values, said)
-        except Later:
-            break
-        claim(wanted == " ".join(said), f"wanted {wanted} of {by} {verb} {values}: {said}")
-        del own[0]
-    return count - len(own)
-
-
-def judge_ledger(heap, rows):
-    """Sums, and what is known of each process."""
-    arenas, out, back = rows[: len(heap.arenas)], 0, 0
-    for at, (row, arena) in enumerate(zip(arenas, heap.arenas)):
-        claim(row[:3] == ["arena", str(at), str(arena.size)] and len(row) == 7, f"no line of an arena: {row}")
-        here, holes, came, went = map(int, row[3:])
-        is_so = came == arena.taken and here == came - went and here <= arena.size and went >= arena.back
-        claim(is_so and (holes > 0) == (here < arena.size) and holes * 16 <= arena.size - here, f"an arena: {row}")
-        out, back = out + here, back + went
-    wanted = sum(it.back for it in heap.arenas) + heap.reclaimed
-    claim(back == wanted or heap.is_partial and back > wanted, f"{back} came back, by the replies {wanted}")
-    places = [row for row in rows[len(arenas) :] if row[0] == "process"]
-    owned = sum(judge_place(heap, at, *row[1:]) for at, row in enumerate(places))
-    sums, flight = rows[len(arenas) + len(places) :][:3], rows[len(arenas) + len(places) + 3 :]
-    claim(sums == [["owned", str(owned)], ["flight", str(out - owned)], ["out", str(out)]], f"{owned}, {out}: {sums}")
-    judge_flight(heap, out - owned, flight, all(row[2] == "ended" for row in places))
-
-
-def judge_place(heap, at, name, state, *held):
-    process, (blocks, count) = heap.processes.get(name.encode()), map(int, held)
-    is_so = process and count % 16 == 0 and count >= 16 * blocks and (count == 0) == (blocks == 0)
-    is_so = is_so and {"running": True, "ending": blocks > 0, "ended": blocks == 0}[state]
-    if is_so and heap.is_certain(process) and process.number % 32 == at:
-        is_so = (state, blocks, count) == ("running", len(process.held), size_of(process.held))
-    claim(is_so, f"{name} is {state} with {held}")
-    return count
-
-
-def judge_flight(heap, count, rows, is_over):
-    """What is in flight was given and not taken. Once all has ended, each end to which it goes is so in flight too:
-    only a circle holds it."""
-    ways = heap.ways()
-    while is_over:
-        there = {(it.channel, it.side) for blocks in ways.values() for it in blocks if it.channel}
-        kept = {way: blocks for way, blocks in ways.items() if way in there}
-        is_over, ways = len(kept) < len(ways), kept
-    numbers, most = [tuple(map(int, row[1:])) for row in rows], sum(map(size_of, ways.values()))
-    is_so = all(row[0] == "direction" for row in rows) and numbers == sorted(numbers) and len(rows) <= len(ways)
-    is_so = is_so and ("--flight" not in heap.options or sum(it[2] for it in numbers) == count) and count <= most
-    claim(is_so and (heap.mortal or heap.reclaimed or count == most), f"{count} of {most} in flight: {rows}")
-
-
-def judge(text, options, is_serial, answer):
-    """Where a growth was refused, that may be the answer."""
-    commands, fault = soak_reader.read(text)
-    if answer.is_refused and answer.status == 3:
-        claim_same(answer, (3, b"", b"xheap: out of memory\n"))
-    elif fault:
-        claim_same(answer, (1, b"", "xheap: line {}: {}\n".format(*fault).encode()))
-    elif is_serial or [it[2] for it in commands].count(b"process") == 1 and not answer.is_refused:
-        heap = Heap(options)
-        lines = [f"{number} {heap.step(by, verb, values)}" for number, by, verb, values in commands]
-        claim_same(answer, (0, "\n".join([*lines, *heap.ledger(), ""]).encode(), b""))
-    else:
-        claim(answer.status == 0 and not answer.err and answer.out.endswith(b"\n"), str(answer))
-        follow(commands, options, answer.out.decode("ascii", "replace")[:-1].split("\n"), answer.is_refused)

@@ -63,7 +63,7 @@ fn one_hole(size: u32) -> Holes
 impl Arena {
     /// An arena of `size` bytes for `records` records, all empty, that may ever hand out `wear` bytes.
     ///
-    /// The size is 16 to 1,048,576 and a multiple of 16, the records are 1 to 256, and the wear is below 2^63: else
+    /// The size is 16 to 2^27 and a multiple of 16, the records are 1 to 256, and the wear is below 2^63: else
     /// BadSize, before any memory is asked for. OutOfMemory only where a growth was refused. All room is taken here.
     pub fn new(alloc: Global, size: u32, records: u16, wear: u64) -> Result<Arena, Refused>
         ensures fresh { IfOk result (λ arena. arena ≡ record { cover = replicate size None; records = records; wear = 0; limit = wear }) }

@@ -58,7 +58,7 @@ impl Vault {
     /// A vault over an arena of `size` bytes for `records` records that may ever hand out `wear` bytes, with its lots,
     /// all empty, in the order of the records, and a tally for each of `workers` workers.
     ///
-    /// BadSize where the size is not a multiple of 16 from 16 to 1,048,576, the records are not 1 to 256, the wear is
+    /// BadSize where the size is not a multiple of 16 from 16 to 2^27, the records are not 1 to 256, the wear is
     /// 2^63 or more, or the workers are not 1 to 33; then OutOfMemory where a growth was refused.
     #[tactic(auto, using(xh_model::proofs::Lengths::lengths_new, crate::proofs::Weights::weigh_none, crate::proofs::Shown::settled))]
     pub fn new<B: Default + Fits + Drop>(

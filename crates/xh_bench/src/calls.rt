@@ -7,14 +7,16 @@ use crate::turns::{Host, Step, Times};
 use std::alloc::Global;
 use std::marker::Brand;
 use std::sync::Wait;
-use xh_core::{Config, Refused};
+use xh_core::{Block, Config, Refused};
 use xh_kernel::{Account, Kernel, Look, Names, Parts};
-use xh_model::limits::{MAX_ARENAS, MAX_BUDGET, MAX_DEPTH, MAX_RECORDS, MAX_WEAR, PLACES};
-use xh_place::OpenGate;
+use xh_model::limits::{
+    MAX_ARENAS, MAX_BUDGET, MAX_BYTES, MAX_DEPTH, MAX_RECORDS, MAX_WEAR, PLACES,
+};
+use xh_place::{Got, OpenGate};
 
 pub(crate) const CONFIG: Config = Config {
     arenas: MAX_ARENAS,
-    bytes: 65_536,
+    bytes: MAX_BYTES,
     records: MAX_RECORDS,
     depth: MAX_DEPTH,
     wear: MAX_WEAR,
@@ -38,6 +40,21 @@ pub(crate) enum Call {
     Give,
     /// The first gives a block and waits for it; the second waits for it and gives it back.
     PingPong,
+    /// The first makes a block of so many bytes, writes all of them and gives it, once there is room; the second waits for
+    /// it, looks at each of its cache lines and frees it.
+    Ship(u32),
+    /// One process does both.
+    Carry(u32),
+}
+
+/// The sum of the first bytes of all cache lines.
+pub(crate) fn glanced(bytes: &[u8]) -> u64 {
+    let mut sum = 0u64;
+    for line in bytes.chunks(64) {
+        let first = line.first().copied().unwrap_or(0);
+        sum = sum.wrapping_add(u64::from(first));
+    }
+    sum
 }
 
 impl Call {
@@ -48,6 +65,7 @@ impl Call {
             Call::GiveTake(count) => (count, 64),
             Call::Read(bytes) | Call::Write(bytes) => (1, bytes),
             Call::PingPong => (1, 64),
+            Call::Ship(bytes) | Call::Carry(bytes) => (0, bytes),
             _ => (0, 0),
         }
     }
@@ -70,6 +88,7 @@ struct Player<'a, N: Names, R> {
     ends: (u16, u16),
     blocks: Vec<u16>,
     bytes: Vec<u8>,
+    sum: u64,
     ghost own: { look.table ≡ N.parts.histories },
 }
 
@@ -138,6 +157,27 @@ impl<'a, N: Names, R: Wait> Player<'a, N, R> {
         taken.ok().map(drop)
     }
 
+    fn ship(&mut self, bytes: u32) -> Option<()> {
+        let block = self.alloc(self.process, bytes)?;
+        let (rt, heap, p, end, gate) = (self.rt, self.heap, self.process, self.ends.0, &OpenGate);
+        let written = heap.write(rt, p, block, 0, &self.bytes, self.account, gate);
+        written.ok()?;
+        let given = heap.give_wait(rt, p, end, 1, &[block], self.account, gate);
+        given.ok().map(drop)
+    }
+
+    fn receive(&mut self) -> Option<()> {
+        let (rt, heap, p, end, gate) = (self.rt, self.heap, self.process, self.ends.1, &OpenGate);
+        let taken = heap.take_wait(rt, p, end, self.account, gate).ok()?;
+        let Some(Got::Here(Block { rec, .. })) = taken.blocks.first().copied() else {
+            return None;
+        };
+        let mut look = |bytes: &[u8]| -> u64 { glanced(bytes) };
+        let seen = heap.with_bytes(rt, p, rec, &mut look, self.account, gate);
+        self.sum = self.sum.wrapping_add(seen.ok()?);
+        heap.free(rt, p, rec, self.account, gate).ok().map(drop)
+    }
+
     // Another process, which has so many blocks.
     fn victim(&mut self, blocks: u16) -> Option<u16> {
         let victim = self.heap.spawn(self.rt, self.account, &OpenGate).ok()?;
@@ -168,6 +208,12 @@ impl<'a, N: Names, R: Wait> Step for Player<'a, N, R> {
             Call::Give => self.take(true),
             Call::PingPong if self.is_first => self.give(false).and(self.take(true)),
             Call::PingPong => self.take(true).and(self.give(false)),
+            Call::Ship(bytes) if self.is_first => self.ship(bytes),
+            Call::Ship(_) => self.receive(),
+            Call::Carry(bytes) => {
+                self.ship(bytes)?;
+                self.receive()
+            }
         }
     }
 
@@ -210,6 +256,7 @@ impl<'a, R: Host> Trial<'a, R> {
                 ends: (0, 0),
                 blocks: Vec::new(alloc),
                 bytes: Vec::new(alloc),
+                sum: 0,
             };
             player.start()?;
             if players.len() % 2 == 1 {

@@ -1,8 +1,10 @@
 //! The table of measures.
 use crate::calls::Call;
-use crate::calls::Call::{AllocFree, Give, GiveTake, Glance, Kill, PingPong, Read, Write};
+use crate::calls::Call::{
+    AllocFree, Carry, Give, GiveTake, Glance, Kill, PingPong, Read, Ship, Write,
+};
 use crate::parts::Part::{
-    Copied, Exchange, Load, Lock, Pass, PushPop, PutTake, Script, ToAndFro, Zeroed,
+    Carried, Copied, Exchange, Load, Lock, Pass, PushPop, PutTake, Script, Sent, ToAndFro, Zeroed,
 };
 use crate::parts::Parts;
 use crate::turns::{Host, Step, Times, by_turns, slice};
@@ -39,6 +41,30 @@ const PUT_TAKE: Parts = &[(1, PutTake)];
 const SCRIPT: Parts = &[(1, Script(4096))];
 
 pub(crate) const MEASURES: &[Row] = &[
+    ("message_64", 1, Of(Carry(64)), 360, &[(1, Carried(64))]),
+    ("message_4k", 1, Of(Carry(4096)), 220, &[(1, Carried(4096))]),
+    (
+        "message_1m",
+        1,
+        Of(Carry(1 << 20)),
+        103,
+        &[(1, Carried(1 << 20))],
+    ),
+    ("message_64_across", 2, Of(Ship(64)), 135, &[(1, Sent(64))]),
+    (
+        "message_4k_across",
+        2,
+        Of(Ship(4096)),
+        125,
+        &[(1, Sent(4096))],
+    ),
+    (
+        "message_1m_across",
+        2,
+        Of(Ship(1 << 20)),
+        95,
+        &[(1, Sent(1 << 20))],
+    ),
     ("alloc_free_16", 1, Of(AllocFree(16, 0)), 175, ALLOC),
     ("alloc_free_64", 1, Of(AllocFree(64, 0)), 175, ALLOC),
     ("alloc_free_last", 1, Of(AllocFree(16, 255)), 175, LAST),

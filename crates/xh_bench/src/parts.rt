@@ -1,5 +1,5 @@
 //! What a call is made of, or what a user would take instead.
-use crate::calls::CONFIG;
+use crate::calls::{CONFIG, glanced};
 use crate::measures::Trial;
 use crate::turns::{Host, Step};
 use arrayvec::ArrayVec;
@@ -11,6 +11,7 @@ use std::sync::atomic::Ordering::SeqCst;
 use std::sync::{Mutex, Wait};
 use std::{io, mem};
 use xh_channel::{Channels, Endpoint};
+use xh_core::Config;
 use xh_script::Watched;
 use xh_session::run_serial;
 
@@ -33,6 +34,11 @@ pub(crate) enum Part {
     ToAndFro,
     /// A message is put on a channel of the heap and taken.
     PutTake,
+    /// The first fills a vector of so many bytes and sends it by a channel of `crossbeam_channel`; the second receives it,
+    /// looks at each of its cache lines and drops it.
+    Sent(usize),
+    /// One thread does both.
+    Carried(usize),
     /// A script of so many commands, or up to seven less, is run on the serial machine.
     Script(u32),
 }
@@ -62,12 +68,24 @@ pub(crate) struct Worker {
     count: Mutex<u64>,
     word: AtomicU64,
     page: Vec<u8>,
+    bytes: Vec<u8>,
+    sum: u64,
+    outward: Sender<Vec<u8>>,
+    inward: Receiver<Vec<u8>>,
     queue: ArrayQueue<Message, Global>,
     sender: Sender<Message>,
     receiver: Receiver<Message>,
     channels: Channels,
     ends: (Endpoint, Endpoint),
     script: String,
+}
+
+// How many bytes a message has.
+fn bytes_of(parts: Parts) -> usize {
+    match parts.first() {
+        Some((_, Part::Sent(bytes))) | Some((_, Part::Carried(bytes))) => *bytes,
+        _ => 0,
+    }
 }
 
 fn script_of(alloc: Global, parts: Parts) -> Option<String> {
@@ -90,6 +108,18 @@ impl Worker {
         }
     }
 
+    fn ship<R: Wait>(&self, rt: &R) -> Option<()> {
+        let mut bytes = Vec::with_capacity(self.alloc, self.bytes.len()).ok()?;
+        bytes.extend_from_slice(&self.bytes).ok()?;
+        self.outward.send(rt, bytes).ok()
+    }
+
+    fn receive<R: Wait>(&mut self, rt: &R) -> Option<()> {
+        let bytes = self.inward.recv(rt).ok()?;
+        self.sum = self.sum.wrapping_add(glanced(&bytes));
+        Some(())
+    }
+
     fn put_take<R: Wait>(&mut self, rt: &R) -> Option<()> {
         let (low, high) = (&mut self.ends.0, &mut self.ends.1);
         self.channels.put(rt, low, 1, ArrayVec::new()).ok()?;
@@ -100,7 +130,11 @@ impl Worker {
     fn run(&self) -> Option<()> {
         let mut reader = Watched::new(self.script.as_bytes());
         let mut sink = Watched::new(io::sink());
-        run_serial(self.alloc, &mut reader, &mut sink, CONFIG).ok()
+        let config = Config {
+            bytes: 65_536,
+            ..CONFIG
+        };
+        run_serial(self.alloc, &mut reader, &mut sink, config).ok()
     }
 
     fn do_once<R: Wait>(&mut self, rt: &R, part: Part) -> Option<()> {
@@ -118,6 +152,12 @@ impl Worker {
             Part::Pass => return self.pass(rt, first),
             Part::ToAndFro => return self.pass(rt, first).and(self.pass(rt, !first)),
             Part::PutTake => return self.put_take(rt),
+            Part::Sent(_) if first => return self.ship(rt),
+            Part::Sent(_) => return self.receive(rt),
+            Part::Carried(_) => {
+                self.ship(rt)?;
+                return self.receive(rt);
+            }
             Part::Script(_) => return self.run(),
             Part::Lock | Part::Exchange | Part::Load => return None,
         }
@@ -148,6 +188,7 @@ impl<'a, R: Host> Trial<'a, R> {
         for number in 0..self.threads {
             let is_first = number % 2 == 0;
             let (sender, receiver) = bounded(alloc, 16).ok()?;
+            let (outward, inward) = bounded(alloc, 16).ok()?;
             let channels = Channels::new(alloc, 16).ok()?;
             let mut worker = Worker {
                 alloc,
@@ -156,6 +197,10 @@ impl<'a, R: Host> Trial<'a, R> {
                 count: Mutex::new(0),
                 word: AtomicU64::new(0),
                 page: vec![in alloc; 0u8; 4096].ok()?,
+                bytes: vec![in alloc; 7u8; bytes_of(parts)].ok()?,
+                sum: 0,
+                outward,
+                inward,
                 queue: ArrayQueue::new(alloc, 16).ok()?,
                 sender,
                 receiver,
@@ -166,6 +211,7 @@ impl<'a, R: Host> Trial<'a, R> {
             if !is_first {
                 let first: &mut Worker = workers.last_mut()?;
                 mem::swap(&mut first.receiver, &mut worker.receiver);
+                mem::swap(&mut first.inward, &mut worker.inward);
             }
             workers.push(worker).ok()?;
         }

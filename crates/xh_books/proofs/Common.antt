@@ -28,7 +28,7 @@ pub use Rattle.xh_model.specs.{declared.limits.TheConstants.DIRECTIONS, declared
 pub use Rattle.xh_place.specs.{Places.total_of}
 pub use Rattle.xh_place.specs.{Seen.PlaceSeen, Tallies.ids_of, declared.body.Body.Body, Places.IsPlaceOf, Places.Item, Places.Lists, Places.PlaceOf, Places.item_of, Places.line, Places.line_in}
 pub use Rattle.xh_records.proofs.{Elements.elem_slice, Elements.in_range, Elements.is_there, Elements.slice_elem, Keeps.never, Keeps.one_holder, Keeps.same_place}
-pub use Rattle.xh_records.specs.{Deeds.IsLeft, Deeds.carried, Deeds.deeds_by, Deeds.events, History.StartsWith, Showing.IsLotAt, Showing.IsSmall, declared.shape.Shape.Shape, Seats.Ends}
+pub use Rattle.xh_records.specs.{Deeds.IsLeft, Deeds.Deed, Deeds.deeds_by, Deeds.events, History.StartsWith, Showing.IsLotAt, Showing.IsSmall, declared.shape.Shape.Shape, Seats.Ends}
 pub use Rattle.xh_records.specs.{Seats.Held, Seats.IsSeatOf, Seats.RecordsOf, Seats.lot_in}
 pub use mathlib.Core.Logic.{dite}
 unfoldable pub use Rattle.xh_books.specs.inner.Steps.{TellFlight}

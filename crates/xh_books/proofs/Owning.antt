@@ -4,7 +4,7 @@ use Rattle.xh_books.proofs.Common.{IsPlaceOf, IsSeatOf, IsSeatOfPlace, IsSomeAnd
 use Rattle.xh_books.proofs.Common.{StartsWith, TellFlight, ap, arena_of_number, arith, below_get, bytes_in_flight, bytes_owned, elem_slice, false, false_from_ne_true, flight_lines, get_or}
 use Rattle.xh_books.proofs.Common.{get_or_from_slice_get, in_range, index_back, index_of, is_listed, is_there, item_of, length, length-map, lens_of, lot_in, map, mod-lt, never, number_back}
 use Rattle.xh_books.proofs.Common.{number_of, one_holder, option_map, place_of, place_of_number, places_of, refl, same_Some, same_place, slice_elem, slice_get, slice_get-map, subst, sum, sym, there}
-use Rattle.xh_books.proofs.Common.{value_at, word_of, zip, ℕ, ◌%◌, ◌+◌, ◌<◌, ◌∙◌, ◌≡◌, ◌≤◌, IsLeft, carried, deeds_by, events}
+use Rattle.xh_books.proofs.Common.{value_at, word_of, zip, ℕ, ◌%◌, ◌+◌, ◌<◌, ◌∙◌, ◌≡◌, ◌≤◌, Deed, IsLeft, deeds_by}
 use Rattle.xh_books.proofs.{Audited.at_map, FlightLines.all_full, FlightLines.are_lines, FlightLines.flying_is, Flying.ListsAt, Flying.all_lists, Flying.listed_at}
 
 -- ---- the seat of a place, and the place of a seat
@@ -157,11 +157,11 @@ module _ (fits : Body → ℕ → Bool) (all : RecordsOf) (seats : List (Held Bo
   in_flight lines e = record {
     log = ends.log;
     theirs = ends.theirs;
-    parts = λ j d below. let p : PlaceOf = get_or ps j d in let s = seat_at seats places j p are (there ps j d below) in (
-      sym s.2.events.0 ∙ ends.parts j s.0 s.1 ∙ ap (λ (z : ℕ). events (deeds_by (place_of z) ends.log)) s.2.same.2,
-      sym s.2.events.1 ∙ ap (map item_of) (ends.moved j s.0 s.1) ∙ ap (λ (z : ℕ). map item_of (carried (deeds_by (place_of z) ends.log))) s.2.same.2,
+    seen = λ j d below. let p : PlaceSeen = get_or places j d in let s = seen_at seats places j p are (there places j d below) in (
+      subst (StartsWith ends.log) s.2.1 (ends.fronts j s.0 s.1),
+      subst (λ (q : ℕ). deeds_by (place_of q) p.front ≡ deeds_by (place_of q) ends.log) s.2.0.same.2
+          (subst (λ (f : List (Deed Body)). deeds_by (place_of s.0.process) f ≡ deeds_by (place_of s.0.process) ends.log) s.2.1 (ends.parts j s.0 s.1)),
     );
-    seen = λ j d below. let s = seen_at seats places j (get_or places j d) are (there places j d below) in subst (StartsWith ends.log) s.2.1 (ends.fronts j s.0 s.1);
     owners = ends.owners;
     count = long;
     leads = ends.leads;

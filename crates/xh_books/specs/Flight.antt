@@ -10,11 +10,11 @@ use Rattle.xh_model.specs.declared.limits.TheConstants.{DIRECTIONS}
 use Rattle.xh_model.specs.Keyed.{Among, value_at}
 use Rattle.xh_model.specs.Words.{IsHeldBy, Ownership, number_of, place_of, word_of}
 use Rattle.xh_place.specs.declared.body.Body.{Body}
-use Rattle.xh_place.specs.Places.{Item, PlaceOf, item_of}
+use Rattle.xh_place.specs.Places.{Item, PlaceOf}
 use Rattle.xh_place.specs.Seen.{PlaceSeen}
 use Rattle.xh_records.specs.declared.shape.Shape.{Shape}
 use Rattle.xh_arena.specs.Views.{LotOf}
-use Rattle.xh_records.specs.Deeds.{Arrives, Deed, IsLeft, carried, deeds_by, events}
+use Rattle.xh_records.specs.Deeds.{Arrives, Deed, IsLeft, deeds_by, events}
 use Rattle.xh_records.specs.History.{LeadsTo, StartsWith, process_of}
 use Rattle.xh_books.specs.Ledgers.{is_listed}
 
@@ -41,14 +41,13 @@ Stands places r n None = (n ≡ 0) × (is_listed r places ≡ false)
 Stands places r n (Some (Process p)) = (0 < n) × Any (λ q. (q.process ≡ p) × IsSomeAnd (value_at r q.blocks) (λ x. x.len ≡ n)) places
 Stands places r n (Some (Direction d)) = (0 < n) × (is_listed r places ≡ false)
 
--- These lines are what is in flight, of records that have these lengths. There is one log of all deeds on records, each by a process of these places; each place's events, and what left and came by
--- them, are its part of it, and each place has seen a beginning of it. It leads from where all records are free to the owners by which each record stands where it does; the lines are these owners'.
+-- These lines are what is in flight, of records that have these lengths. There is one log of all deeds on records, each by a process of these places; each place has seen a beginning of it,
+-- in which all deeds of its own processes stand. It leads from where all records are free to the owners by which each record stands where it does; the lines are these owners'.
 -- What arrives is what was given: whatever was accepted, or is in flight, is as the last pass of its record left it. It is quiet: whatever a process or a direction has has bytes.
 pub record IsInFlight (s : Shape) (places : List PlaceSeen) (lengths : List ℕ) (lines : List FlightLine) : Type 0 where
   pub log : List (Deed Body)
   pub theirs : (e : Event) → Among (events log) e → place_of (process_of e) < s.places
-  pub parts : All (λ p. let own = deeds_by (place_of p.process) log in (p.events ≡ events own) × (p.moved ≡ map item_of (carried own))) (places_of places)
-  pub seen : All (λ p. StartsWith log p.front) places
+  pub seen : All (λ p. StartsWith log p.front × (deeds_by (place_of p.place.process) p.front ≡ deeds_by (place_of p.place.process) log)) places
   pub owners : Ownership
   pub count : length owners ≡ length lengths
   pub leads : LeadsTo s.records (replicate (length owners) None) (events log) owners

@@ -1,7 +1,7 @@
 -- A refusal for want of space is that of the arena's vault.
 use Rattle.xh_calls.proofs.Common.{Block, END_BYTES, Err, FrontOf, IfErr, IsRefusedBy, Leaves, MatchOption, None, Ok, Option, PartsOf, Refused, Result, Some}
-use Rattle.xh_calls.proofs.Common.{Allocates, Bool, FindsFull, IsLack, PlaceSeen, SpaceOf, Status, alloc_tests, cond, false, start, subst, true, ◌++◌}
-use Rattle.xh_calls.proofs.Common.{VaultOf, first_refusal, inl, inr, ℕ, ⊎_elim, ◌*◌, ◌<◌, ◌≡◌}
+use Rattle.xh_calls.proofs.Common.{Allocates, Bool, FindsFull, IsLack, PlaceSeen, SpaceOf, Status, Stays, alloc_tests, cond, false, start, subst, true, ◌++◌}
+use Rattle.xh_calls.proofs.Common.{VaultOf, first_refusal, inl, inr, ℕ, ⊎_elim, ◌*◌, ◌<◌, ◌≡◌, ◌⊎◌}
 use Rattle.std.proofs.lemmas.Result.{MatchResult-weaker}
 use Rattle.xh_arena.specs.declared.refused.Refused.{Refused as Reason}
 use Rattle.xh_arena.specs.declared.refused.Refused.TheVariants as arena
@@ -24,9 +24,17 @@ module _ {V : Type 0} (old new : V) (front : V → FrontOf VaultOf) (parts : Par
   lacks refused.Worn h = ((h.0, h.1.0, h.2, h.3), h)
   lacks e h = absurd h
 
+-- no channel was had
+pub none_had : (parts : PartsOf) (same full : Type 0) (a : ℕ) (e : Refused) → (e ≡ refused.NoChannel) ⊎ ((e ≡ refused.OutOfMemory) × (parts.comes_back ≡ true)) → same
+    → IsNoChannel parts same full a e
+none_had parts same full a e h is = ⊎_elim
+    (λ (s : e ≡ refused.NoChannel). rw s is)
+    (λ (s : (e ≡ refused.OutOfMemory) × (parts.comes_back ≡ true)). rw s.0 (s.1, is)) h
+
 -- a lack of space is none of a channel
 pub has_channel : (parts : PartsOf) (same full : Type 0) (a : ℕ) (e : Refused) → IsNoChannel parts ⊥ full a e → IsNoChannel parts same full a e
 has_channel parts same full a refused.NoChannel h = absurd h
+has_channel parts same full a refused.OutOfMemory h = absurd h.1
 has_channel parts same full a e h = h
 
 -- ---- alloc
@@ -52,7 +60,7 @@ allocated {status} {status'} {space} {space'} n a old new result same arenas siz
     Lack s = IsLack (FindsFull 0 old new a) (s.refuses a (rounded n))
 
     Refuses : Refused → Type 0
-    Refuses e = (result ≡ Err e) × (new.place ≡ old.place)
+    Refuses e = (result ≡ Err e) × Stays old new
 
     go : (o : Option Refused) → MatchOption o (IfErr result (Lack space)) Refuses → MatchOption o (IfErr result (Lack space')) Refuses
     go None l = MatchResult-weaker result l (λ b h. h) (lack_as (FindsFull 0 old new a) (space.refuses a (rounded n)) (space'.refuses a (rounded n)) (more a (rounded n)))

@@ -7,7 +7,7 @@ pub use Rattle.std.proofs.{lemmas.List.length-replicate, lemmas.List.map_push, l
 pub use Rattle.std.specs.{Prelude.option_map, Vec.Iter.into_iter_items, Vec.Iter.into_iter_len}
 pub use Rattle.xh_arena.specs.{Views.AreLots, Views.LotOf, Views.TallyOf, Views.VaultOf}
 pub use Rattle.xh_calls.specs.{Parts.IsNew, Parts.IsOpen, Parts.IsVaultOf, Parts.PartsOf, Parts.vault_names, Places.status_at, Several.AnswersAt, Several.FindNone, Several.HaveNone}
-pub use Rattle.xh_calls.specs.{Several.TakesFirst, Several.closed, Several.each_end, Several.several_tests, Tallies.fresh_tally, Vaults.EndsIn, Vaults.Enters, Vaults.IsKeptAt}
+pub use Rattle.xh_calls.specs.{Several.TakesFirst, Several.closed, Several.each_end, Several.several_tests, Tallies.fresh_tally, Vaults.DoesTo, Vaults.EndsIn, Vaults.Enters, Vaults.IsKeptAt}
 pub use Rattle.xh_calls.specs.{Vaults.IsPenOf, Vaults.IsRefusedBy, Vaults.Leaves, Wires.ClosesAgain, Wires.HasLow, Wires.ReceivesOr, Wires.toward_high, inner.Looking.AreEndsOf}
 pub use Rattle.xh_calls.specs.{inner.Looking.AreReady, inner.Looking.first_of, inner.Making.AreBundles, inner.Making.AreFreshFrom, inner.Making.AreFreshTallies, inner.Making.AreMakings}
 pub use Rattle.xh_calls.specs.{inner.Making.IsBundle}
@@ -19,9 +19,9 @@ pub use Rattle.xh_core.specs.{declared.refused.Refused.TheVariants.NotEndpoint, 
 pub use Rattle.xh_core.specs.{declared.status.Status.Status}
 pub use Rattle.xh_history.specs.{Histories.FrontOf, Histories.HasSeen, Histories.History, Histories.PenOf, Histories.at, Histories.fresh_pen}
 pub use Rattle.xh_model.specs.{declared.limits.TheConstants.END_BYTES, declared.limits.TheConstants.MAX_RECORDS}
-pub use Rattle.xh_place.proofs.{Counted.none_back}
+pub use Rattle.xh_place.proofs.{Counted.none_back, Events.stays_itself, Seeing.did_starts}
 pub use Rattle.xh_place.specs.{Bodies.Content, Bodies.IsEndAt, Bodies.bytes, Bodies.endpoint, Bodies.fits_in, Bodies.kind_of, Calls.Allocates, Calls.Closes, Calls.IsLack, Calls.IsUntouched}
 pub use Rattle.xh_place.specs.{Calls.SpaceOf, Calls.Splits, Calls.Stops, Ending.HasGivenBack, Ending.IsClosed, Ending.last, Ends.Accepts, Ends.EndDoes, Ends.RefusedOr, Messages.Gives}
 pub use Rattle.xh_place.specs.{Messages.IsUntaken, Messages.TakesAt, Messages.is_listed, Places.alone, Places.AreBlocks, Places.Fits, Places.IsPlaceOf, Places.Item, Places.PlaceOf}
-pub use Rattle.xh_place.specs.{Places.found, Places.header_of, Places.with_blocks, Seen.FindsFull, Seen.IsSamePlace, Seen.IsSeen, Seen.PlaceSeen, Seen.Stays, Tallies.gave, Tallies.ids_of}
-pub use Rattle.xh_place.specs.{declared.body.Body.Body}
+pub use Rattle.xh_place.specs.{Places.found, Places.header_of, Places.with_blocks, Seen.Becomes, Seen.FindsFull, Seen.IsSamePlace, Seen.IsSeen, Seen.PlaceSeen, Seen.Stays}
+pub use Rattle.xh_place.specs.{Tallies.gave, Tallies.ids_of, declared.body.Body.Body}

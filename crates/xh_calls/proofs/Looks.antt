@@ -30,7 +30,7 @@ end_passes (Some b) h = ap (λ (x : Bool). cond (not x) (Some NotEndpoint) None)
 module _ (p e : ℕ) (s t : PlaceSeen) (why : Refused) (runs : first_refusal (start (status_at p s.place)) ≡ None) (end : has_end (found s.place e) ≡ true) (takes : TakesAt
     (status_at p s.place) e s t (Err why)) where
   untaken : IsUntaken e s.place t.place why
-  untaken = rw (first_later (start (status_at p s.place)) (end_tests (found s.place e)) runs ∙ end_passes (found s.place e) end) at takes
+  untaken = (rw (first_later (start (status_at p s.place)) (end_tests (found s.place e)) runs ∙ end_passes (found s.place e) end) at takes).0
 
   pub ready_after : (es : List ℕ) → AreEndsOf s.place es → AreReady p t.place es
   ready_after es h = (ap (λ (x : PlaceOf). first_refusal (start (status_at p x))) untaken.1.3 ∙ runs, all_stay e es s.place t.place (EndTakes (Err untaken.0)) untaken.1 h)

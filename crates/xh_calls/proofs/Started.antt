@@ -1,12 +1,14 @@
--- A call whose first tests refused: it did nothing.
-use Rattle.xh_calls.proofs.Common.{Err, List, Ok, OnErr, PlaceOf, RefusedOr, Refused, Result, Some, Tested, Tests, [], first_append, first_refusal, refl, ℕ, ◌++◌, ◌≡◌}
+-- A call whose first tests refused: it did nothing. And a start, which does nothing to records.
+use Rattle.xh_calls.proofs.Common.{Becomes, Err, List, Ok, OnErr, PlaceSeen, RefusedOr, Refused, Result, Some, Tested, Tests, [], ap, first_append, first_refusal, stays_itself, ℕ, ◌++◌, ◌≡◌}
 use Rattle.xh_place.proofs.Events.{lets_none}
-use Rattle.xh_place.specs.Places.{LetsGo}
+use Rattle.xh_place.proofs.Seeing.{did_none}
+use Rattle.xh_place.specs.Places.{started}
+use Rattle.xh_place.specs.Seen.{LetsGo}
 
 -- it claimed nothing
-pub unclaimed : {A : Type 0} (result : Result A Refused) (also : List ℕ → Type 0) (arena : ℕ) (p : PlaceOf) → also [] → OnErr result (LetsGo also arena p p)
+pub unclaimed : {A : Type 0} (result : Result A Refused) (also : List ℕ → Type 0) (arena : ℕ) (p : PlaceSeen) → also [] → OnErr result (LetsGo also arena p p)
 unclaimed (Ok a) also arena p h = tt
-unclaimed (Err e) also arena p h = lets_none also arena p p h refl
+unclaimed (Err e) also arena p h = lets_none also arena p p h (stays_itself p)
 
 -- and answers the first of them that does, whatever more are behind
 module _ {A : Type 0} (first more : Tests) (result : Result A Refused) (e : Refused) (refuses : first_refusal first ≡ Some e) (is : result ≡ Err e) where
@@ -15,3 +17,7 @@ module _ {A : Type 0} (first more : Tests) (result : Result A Refused) (e : Refu
 
   pub refused_tested : (P : A → Type 0) → Tested (first ++ more) result P
   refused_tested P = rw is (first_append first more e refuses)
+
+-- the place's next process runs
+pub starts : (old new : PlaceSeen) → new ≡ record old { place = started old.place } → Becomes (started old.place) [] old new
+starts old new e = (ap (λ (p : PlaceSeen). p.place) e, did_none old.place.process old.front new.front (ap (λ (p : PlaceSeen). p.front) e))

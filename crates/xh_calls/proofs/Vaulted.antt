@@ -1,5 +1,5 @@
 -- The vault of an arena's lock stays one of that arena under each call, and its history ends in it.
-use Rattle.xh_calls.proofs.Common.{EndsIn, Enters, Err, FrontOf, HasSeen, History, IfErr, IfOk, IsKeptAt, IsPenOf, IsRefusedBy, IsVaultOf, LotOf, MatchOption, Ok, Option, PartsOf, PenOf, Result}
+use Rattle.xh_calls.proofs.Common.{DoesTo, EndsIn, Enters, Err, FrontOf, HasSeen, History, IfErr, IfOk, IsKeptAt, IsPenOf, IsRefusedBy, IsVaultOf, Leaves, LotOf, MatchOption, Ok, Option, PartsOf, PenOf, Result}
 use Rattle.xh_calls.proofs.Common.{Some, TallyOf, VaultOf, [], ap, at, length, refl, slice_set, subst, sym, ℕ, ◌++◌, ◌∙◌, ◌∷◌, ◌≡◌, ◌≤◌}
 use Rattle.xh_arena.specs.declared.refused.Refused.{Refused}
 use Rattle.xh_arena.specs.Refusals.{RefusesCarve}
@@ -28,6 +28,9 @@ module _ (p : PartsOf) (a : ℕ) where
     entry =
         let here : HasSeen front.number (at front.fronts a) pen.history = rw own.1 at seen in
         record { others = here.0; not_its_own = here.2; found = subst (EndsIn v) here.1 was.1; seen = (let number = own.1 in let history = here.1 in cc) }
+
+    pub does_to : (arena : ℕ) (does : VaultOf → VaultOf → Type 0) → arena ≡ a → does v w → DoesTo p arena front front' does
+    does_to arena does here done = (v, w, subst (λ (k : ℕ). Leaves p front front' k v w) (sym here) (was.0, entry), done)
 
     -- where it refused to carve
     pub asked : (arena n : ℕ) (X Y : Type 0) (result : Result ℕ Refused) → arena ≡ a → IsLawfulArena w.arena → IfErr result (λ e. RefusesCarve n v.arena e × (w ≡ v) × X × Y)

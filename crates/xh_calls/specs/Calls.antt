@@ -1,5 +1,5 @@
 -- What a start and a look do to a place, and what the calls of a process find of space. What the other calls of a process do, the relations of xh_place say.
-use Rattle.std.specs.Prelude.{◌≡◌, ℕ, true, false, length, Option, Result, MatchOption}
+use Rattle.std.specs.Prelude.{◌≡◌, ℕ, [], true, false, length, Option, Result, MatchOption}
 use Rattle.xh_arena.specs.Refusals.{RefusesCarve}
 use Rattle.xh_arena.specs.Views.{VaultOf}
 use Rattle.xh_core.specs.Calls.{start}
@@ -9,18 +9,19 @@ use Rattle.xh_core.specs.declared.refused.Refused.{Refused}
 use Rattle.xh_model.specs.Arena.{IsLawfulArena}
 use Rattle.xh_model.specs.Words.{generation_of}
 use Rattle.xh_place.specs.Calls.{SpaceOf}
-use Rattle.xh_place.specs.Places.{PlaceOf, started}
+use Rattle.xh_place.specs.Places.{started}
+use Rattle.xh_place.specs.Seen.{Becomes, PlaceSeen, Stays}
 use Rattle.xh_calls.specs.Parts.{PartsOf, IsVaultOf}
 use Rattle.xh_calls.specs.Places.{status_at}
 
--- the place's next process runs now; or none can start there
-abbrev pub Spawns : PlaceOf → PlaceOf → Option ℕ → Type 0
-Spawns old new result = MatchOption result ((can_start old.state (generation_of old.process) ≡ false) × (new ≡ old))
-    (λ p. (can_start old.state (generation_of old.process) ≡ true) × (new ≡ started old) × (p ≡ new.process))
+-- the next process runs now at the place, which is used so often; or none can start there
+abbrev pub Spawns : ℕ → PlaceSeen → PlaceSeen → Option ℕ → Type 0
+Spawns generations old new result = MatchOption result ((can_start generations old.place.state (generation_of old.place.process) ≡ false) × Stays old new)
+    (λ p. (can_start generations old.place.state (generation_of old.place.process) ≡ true) × Becomes (started old.place) [] old new × (p ≡ new.place.process))
 
 -- whether the process runs there
-abbrev pub Looks : ℕ → PlaceOf → PlaceOf → Result (Unit {0}) Refused → Type 0
-Looks p old new result = (new ≡ old) × Tested (start (status_at p old)) result (λ _. Unit {0})
+abbrev pub Looks : ℕ → PlaceSeen → PlaceSeen → Result (Unit {0}) Refused → Type 0
+Looks p old new result = Stays old new × Tested (start (status_at p old.place)) result (λ _. Unit {0})
 
 -- the arenas of these parts. That some lawful vault of the arena refuses is all that an entry of a place's history says; that it is the one which the call found under its lock, the histories of
 -- the arenas say

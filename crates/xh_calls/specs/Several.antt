@@ -7,7 +7,7 @@ use Rattle.xh_core.specs.declared.refused.Refused.{Refused}
 use Rattle.xh_core.specs.declared.refused.Refused.TheVariants.{Empty, PeerClosed, TooMany, Twice}
 use Rattle.xh_place.specs.Ends.{RefusedOr}
 use Rattle.xh_place.specs.Places.{PlaceOf, found}
-use Rattle.xh_place.specs.Seen.{PlaceSeen}
+use Rattle.xh_place.specs.Seen.{PlaceSeen, Stays}
 use Rattle.xh_calls.specs.declared.several.Answered.{Answered}
 use Rattle.xh_calls.specs.declared.several.TheConstants.{MAX_ENDS}
 use Rattle.xh_calls.specs.Places.{status_at}
@@ -58,4 +58,4 @@ TakesFirst p ends old new result = MatchResult result (AnswersAt p ends old new)
 
 -- the first test that refuses is the answer, and then nothing changed; else the first message is taken
 abbrev pub TakesAny : ℕ → List ℕ → PlaceSeen → PlaceSeen → Result Answered Refused → Type 0
-TakesAny p ends old new result = RefusedOr (several_tests p old.place ends) result (new.place ≡ old.place) (TakesFirst p ends old new result)
+TakesAny p ends old new result = RefusedOr (several_tests p old.place ends) result (Stays old new) (TakesFirst p ends old new result)

@@ -44,6 +44,10 @@ pub record Enters (a : ℕ) (v w : VaultOf) (old new : FrontOf VaultOf) : Type 0
 abbrev pub Leaves : PartsOf → FrontOf VaultOf → FrontOf VaultOf → ℕ → VaultOf → VaultOf → Type 0
 Leaves parts old new a v w = IsVaultOf parts a v × Enters a v w old new
 
+-- the call was one on the arena of these parts, and did this to its vault
+abbrev pub DoesTo : PartsOf → ℕ → FrontOf VaultOf → FrontOf VaultOf → (VaultOf → VaultOf → Type 0) → Type 0
+DoesTo parts a old new does = (v : VaultOf) × (w : VaultOf) × Leaves parts old new a v w × does v w
+
 -- the vault of the arena, as the call found it, refused to carve n bytes for this reason, and stayed what it was; the call stands in the arena's history
 abbrev pub IsRefusedBy : PartsOf → ℕ → ℕ → FrontOf VaultOf → FrontOf VaultOf → Reason → Type 0
 IsRefusedBy parts a n old new e = (v : VaultOf) × Leaves parts old new a v v × IsLawfulArena v.arena × RefusesCarve n v.arena e

@@ -3,16 +3,18 @@ use Rattle.std.specs.Prelude.{◌≡◌, ◌≢◌, ◌⊎◌, ℕ, ◌+◌, ◌
 use Rattle.xh_core.specs.Calls.{start}
 use Rattle.xh_core.specs.declared.block.Block.{Block}
 use Rattle.xh_core.specs.declared.refused.Refused.{Refused}
+use Rattle.xh_core.specs.declared.refused.Refused.TheVariants.{Ended}
 use Rattle.xh_core.specs.declared.status.Status.TheVariants.{Vacant}
 use Rattle.xh_core.specs.Refusing.{first_refusal}
 use Rattle.xh_model.specs.declared.limits.TheConstants.{END_BYTES}
 use Rattle.xh_model.specs.declared.row.Row.{Row}
-use Rattle.xh_model.specs.Keyed.{value_at}
+use Rattle.xh_model.specs.Keyed.{value_at, without}
 use Rattle.xh_place.specs.Bodies.{IsEndAt}
 use Rattle.xh_place.specs.Ending.{IsClosed}
 use Rattle.xh_place.specs.Ends.{is_here, IsTooLate}
-use Rattle.xh_place.specs.Places.{Item, PlaceOf, with_less, with_more}
-use Rattle.xh_place.specs.Seen.{Becomes, IsElsewhere, IsSeen, PlaceSeen, SawWord}
+use Rattle.xh_place.specs.Events.{passed_on}
+use Rattle.xh_place.specs.Places.{IsWhole, Item, PlaceOf, alone, with_blocks}
+use Rattle.xh_place.specs.Seen.{Becomes, Gains, IsElsewhere, IsSeen, PlaceSeen, SawWord, brings}
 use Rattle.xh_calls.specs.declared.wired.Wired.{Wired}
 use Rattle.xh_calls.specs.Channels.{OpensChannel}
 use Rattle.xh_calls.specs.Parts.{PartsOf}
@@ -33,24 +35,26 @@ toward_high channel = 2 * channel + 1
 abbrev pub OpensToward : PartsOf → ℕ → ℕ → Option (List Row) → PlaceSeen → PlaceSeen → Result Wired Refused → Type 0
 OpensToward parts p arena contract old new result = MatchResult result
     (λ w. (mid : PlaceSeen) × OpensChannel parts p arena contract old mid (Ok (w.low, w.high)) × HasLow w.channel w.low.rec mid.place
-    × Becomes (with_less (toward_high w.channel) w.high.rec mid.place) mid new)
+    × Becomes (with_blocks mid.place (without w.high.rec mid.place.blocks))
+    (passed_on mid.place.process (toward_high w.channel) (alone w.high.rec (value_at w.high.rec mid.place.blocks))) mid new)
     (λ refused. OpensChannel parts p arena contract old new (Err refused))
 
 -- ---- side 1, on its way to q on the direction d
 
--- it came to the end of q's list
-abbrev pub Receives : ℕ → ℕ → ℕ → PlaceSeen → PlaceSeen → Type 0
-Receives q d r old new = (is_here old.place q ≡ true) × ((x : Item) × (new.place ≡ with_more d ((r, x) ∷ []) old.place))
+-- it came to the end of q's list as it was passed, and is the block that is answered
+abbrev pub Receives : ℕ → ℕ → ℕ → PlaceSeen → PlaceSeen → Block → Type 0
+Receives q d r old new b = (is_here old.place q ≡ true) × (b.rec ≡ r)
+    × ((x : Item) × (x.len ≡ b.len) × Gains d ((r, x) ∷ []) old new × IsWhole x × IsSeen old new r (brings d x))
 
 -- nobody has q's place; or another word was seen than "in flight on the direction"; or q doesn't run there, and it was swept: no fewer bytes came back than it has
 abbrev pub TurnsAway : ℕ → ℕ → ℕ → PlaceSeen → PlaceSeen → ℕ → Type 0
 TurnsAway q d r old new bytes =
     (IsUntouched old new bytes × ((old.place.state ≡ Vacant) ⊎ IsElsewhere (SawWord old new) d r))
-    ⊎ ((is_here old.place q ≡ false) × (old.place.state ≢ Vacant) × IsTooLate (IsSeen old new) d r old.place new.place bytes)
+    ⊎ ((is_here old.place q ≡ false) × (old.place.state ≢ Vacant) × IsTooLate d r old new bytes)
 
--- it was received, or turned away
+-- it was received; or turned away, and then Ended is the answer
 abbrev pub ReceivesOr : ℕ → ℕ → ℕ → ℕ → PlaceSeen → PlaceSeen → Result Block Refused → Type 0
-ReceivesOr q d r bytes old new result = MatchResult result (λ _. (bytes ≡ 0) × Receives q d r old new) (λ _. TurnsAway q d r old new bytes)
+ReceivesOr q d r bytes old new result = MatchResult result (λ b. (bytes ≡ 0) × Receives q d r old new b) (λ why. (why ≡ Ended) × TurnsAway q d r old new bytes)
 
 -- ---- side 0, of the record r of p, once side 1 was turned away
 

@@ -87,6 +87,7 @@ impl<N: Names> Heap<N> {
     }
 
     /// As `Kernel::read`, by whoever has the place's lock.
+    #[tactic(auto, using(xh_place::proofs::Events::stays_itself))]
     pub fn read(
         &self,
         place: &mut Place,
@@ -104,6 +105,7 @@ impl<N: Names> Heap<N> {
     }
 
     /// As `Kernel::write`, by whoever has the place's lock.
+    #[tactic(auto, using(xh_place::proofs::Seeing::did_none))]
     pub fn write(
         &self,
         place: &mut Place,
@@ -120,6 +122,7 @@ impl<N: Names> Heap<N> {
     }
 
     /// As `Kernel::with_bytes`, by whoever has the place's lock.
+    #[tactic(auto, using(xh_place::proofs::Events::stays_itself))]
     pub fn with_bytes<A, F: FnMut(&[u8]) -> A>(
         &self,
         place: &mut Place,
@@ -136,6 +139,7 @@ impl<N: Names> Heap<N> {
     }
 
     /// As `Kernel::with_bytes_mut`, by whoever has the place's lock.
+    #[tactic(auto, using(xh_place::proofs::Seeing::did_none))]
     pub fn with_bytes_mut<A, F: FnMut(&mut [u8]) -> A>(
         &self,
         place: &mut Place,

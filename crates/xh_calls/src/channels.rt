@@ -1,5 +1,5 @@
 //! Channels are opened, for one process or toward another.
-ghost use Rattle.std.specs.Prelude.{◌≡◌, ℕ, ◌+◌, ◌*◌, ◌<◌, ◌++◌, Err, IfErr, IfOk, MatchResult, None, Ok, false, length, true};
+ghost use Rattle.std.specs.Prelude.{◌≡◌, ◌⊎◌, ℕ, ◌+◌, ◌*◌, ◌<◌, ◌++◌, Err, IfErr, IfOk, MatchResult, None, Ok, false, length, true};
 ghost use Rattle.xh_channel.specs.Pairs.{IsPair};
 ghost use Rattle.xh_channel.specs.Endpoint.{EndpointOf};
 ghost use Rattle.xh_core.specs.declared.status.Status.TheVariants as status;
@@ -15,6 +15,7 @@ ghost use Rattle.xh_place.specs.Tallies.{took};
 ghost use Rattle.xh_records.specs.Seats.{IsRecord};
 ghost use Rattle.xh_calls.specs.Channels.{GoesBy, IsNoChannel, OpensChannel};
 ghost use Rattle.xh_calls.specs.Places.{IsServed, IsTillOf, status_at};
+ghost use Rattle.xh_calls.specs.Tallies.{StayUnmoved};
 ghost use Rattle.xh_calls.specs.Vaults.{AsksVault};
 ghost use Rattle.xh_calls.specs.Wires.{ClosesAgain, HasLow, OpensToward, ReceivesOr, toward_high};
 
@@ -28,14 +29,14 @@ use xh_channel::Endpoint;
 use xh_core::{Block, Contract, Refused};
 use xh_place::{Desk, Gate, Place};
 
-// Both ends of a new channel, with a contract or without.
+// Both ends of a new channel, with a contract or without. NoChannel; OutOfMemory, where channels come back.
 fn open_channel<N: Names, R: Wait>(
     rt: &R,
     heap: &Heap<N>,
     contract: Option<Contract>,
 ) -> Result<(Endpoint, Endpoint), Refused>
     ensures ok { IfOk result (λ ends. IsPair ends.0 ends.1 × (ends.0.depth ≡ N.parts.depth) × GoesBy contract ends.0) }
-    ensures err { IfErr result (λ e. e ≡ Refused.NoChannel) }
+    ensures err { IfErr result (λ e. (e ≡ Refused.NoChannel) ⊎ ((e ≡ Refused.OutOfMemory) × (N.parts.comes_back ≡ true))) }
 {
     let ends = match contract {
         Some(contract) => heap.channels.open_with(rt, contract)?,
@@ -71,8 +72,8 @@ impl<N: Names> Heap<N> {
         requires fresh { IsPair low high }
         requires passed { first_refusal (start place.old.place.state ++ arena_tests arena (length place.old.place.shape.names)) ≡ None }
         ensures same { IsSamePlace place.old place.new × IsTillOf N.parts till.new }
-        ensures opened { MatchResult result (λ ends. Opens arena low high place.old.place place.new.place till.old.tallies.items till.new.tallies.items (Ok ends))
-            (λ why. Opens arena low high place.old.place place.new.place till.old.tallies.items till.new.tallies.items (Err (record { why = why; low = low; high = high }))) }
+        ensures opened { MatchResult result (λ ends. Opens arena low high place.old place.new till.old.tallies.items till.new.tallies.items (Ok ends))
+            (λ why. Opens arena low high place.old place.new till.old.tallies.items till.new.tallies.items (Err (record { why = why; low = low; high = high }))) }
         ensures why { IfErr result (λ e. IsNoChannel N.parts ⊥ (FindsFull 1 place.old place.new arena) arena e × AsksVault N.parts arena (2 * END_BYTES) till.old.seen till.new.seen e) }
     {
         let tallies = till.tallies.as_mut_slice();
@@ -96,7 +97,8 @@ impl<N: Names> Heap<N> {
         }
     }
 
-    /// As `Kernel::open`, by whoever has the place's lock; the channel goes by the contract, or by none.
+    /// As `Kernel::open`, by whoever has the place's lock; the channel goes by the contract, or by none. OutOfMemory in
+    /// NoChannel's place, where channels come back and memory for one was refused.
     pub fn open<R: Wait, G: Gate>(
         &self,
         rt: &R,
@@ -142,8 +144,14 @@ impl<N: Names> Heap<N> {
             unreachable!()
         };
         let channel = spot.channel;
+        let hold = self.channels.hold(channel);
         place.pass_end(&self.records, high.rec, 2 * channel + 1);
-        Ok(Wired { low, high, channel })
+        Ok(Wired {
+            low,
+            high,
+            channel,
+            hold,
+        })
     }
 
     /// Side 1 of the channel, on its way, comes to the process's list; or it is swept where the process has
@@ -162,6 +170,7 @@ impl<N: Names> Heap<N> {
         requires there { IsRecord N.parts.records.shape r × (channel < CHANNELS) }
         ensures same { IsSamePlace place.old place.new × IsTillOf N.parts till.new }
         ensures received { (bytes : ℕ) × ReceivesOr q (toward_high channel) r bytes place.old place.new result × HasGivenBack bytes till.old.tallies.items till.new.tallies.items }
+        ensures untouched { StayUnmoved till.old.tallies.items till.new.tallies.items }
     {
         let tallies = till.tallies.as_mut_slice();
         let toward = 2 * channel + 1;
@@ -192,28 +201,30 @@ impl<N: Names> Heap<N> {
         }
     }
 
-    /// Closes side 0 of a channel, where the process runs and still has it.
+    /// Closes side 0 of a wired channel, where the process runs and still has it. Other threads may have called for the process
+    /// meanwhile: what its record has now is the same endpoint if it has the number, which is held.
     pub fn close_again<R: Wait, G: Gate>(
         &self,
         rt: &R,
         place: &mut Place,
         p: u16,
-        r: u16,
-        channel: u8,
+        wired: &Wired,
         till: &mut Till,
         gate: &G,
     )
         requires { IsServed N.parts place.old.place till.old }
         ensures same { IsSamePlace place.old place.new × IsTillOf N.parts till.new }
-        ensures closed { (from : PlaceSeen) × Stays place.old from × StartsWith place.new.front from.front × (bytes : ℕ) × ClosesAgain p channel r from place.new bytes
-            × HasGivenBack bytes till.old.tallies.items till.new.tallies.items }
+        ensures closed { (from : PlaceSeen) × Stays place.old from × StartsWith place.new.front from.front × (bytes : ℕ)
+            × ClosesAgain p wired.now.channel wired.now.low.rec from place.new bytes × HasGivenBack bytes till.old.tallies.items till.new.tallies.items }
+        ensures untouched { StayUnmoved till.old.tallies.items till.new.tallies.items }
     {
         if let Err(_refused) = check_start(place, p) {
             return;
         }
         // Each of its blocks is whole.
         let _blocks = place.blocks();
-        if self.has_low(place, r, channel) {
+        let r = wired.low.rec;
+        if self.has_low(place, r, wired.channel) {
             let _closed = self.close(rt, place, p, r, till, gate);
         }
     }

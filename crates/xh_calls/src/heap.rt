@@ -1,6 +1,6 @@
 //! What the calls of all places share.
-ghost use Rattle.std.specs.Prelude.{◌≡◌};
-ghost use Rattle.xh_model.specs.declared.limits.TheConstants.{PLACES};
+ghost use Rattle.std.specs.Prelude.{◌≡◌, ◌≤◌, is_some};
+ghost use Rattle.xh_model.specs.declared.limits.TheConstants.{GENERATIONS, PLACES};
 
 use crate::arenas::Arenas;
 use crate::names::Names;
@@ -17,15 +17,18 @@ pub struct Till {
     pub seen: Front<Vault>,
 }
 
-/// The records, the channels and the locks of the arenas. A call reaches them with the lock of its place
+/// The records, the channels and the locks of the arenas, and how often a place is used. A call reaches them with the lock of its place
 /// in hand.
 #[derive(Drop)]
 pub struct Heap<N: Names> {
     pub records: Records<Body>,
     pub channels: Channels,
     pub arenas: Arenas<N>,
+    pub generations: u16,
     ghost named: { (records ≡ N.parts.records) × (channels.depth ≡ N.parts.depth) },
+    ghost coming_back: { is_some channels.come_back ≡ N.parts.comes_back },
     ghost places: { records.shape.places ≡ PLACES },
+    ghost often: { (generations ≡ N.parts.generations) × (generations ≤ GENERATIONS) },
 }
 
 impl<N: Names> Heap<N> {

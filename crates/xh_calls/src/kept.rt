@@ -1,11 +1,12 @@
 //! What lies behind an arena's lock.
-ghost use Rattle.std.specs.Prelude.{◌≡◌, ◌⊎◌, ◌+◌, ◌-◌, ◌%◌, ◌<◌, ◌≤◌, length, slice_get, Some, take, drop, All, IfErr, OnErr, OnOk};
+ghost use Rattle.std.specs.Prelude.{◌≡◌, ◌⊎◌, ◌+◌, ◌-◌, ◌%◌, ◌<◌, ◌≤◌, length, slice_get, Some, take, drop, All, IfErr, IfOk, OnErr, OnOk};
 ghost use Rattle.std.specs.Vec.{vec_capacity};
 ghost use Rattle.std.specs.Vec.Iter.{into_iter_items};
 ghost use Rattle.xh_model.specs.Arena.{IsGoodCut};
 ghost use Rattle.xh_model.specs.declared.limits.TheConstants.{MAX_ARENAS, UNIT};
 ghost use Rattle.xh_calls.specs.Parts.{IsOpen, vault_names};
-ghost use Rattle.xh_calls.specs.Vaults.{IsRefusedBy};
+ghost use Rattle.xh_arena.specs.Sharing.{IsVaultCarved, IsVaultCut, IsVaultGivenBack};
+ghost use Rattle.xh_calls.specs.Vaults.{DoesTo, IsRefusedBy};
 ghost use Rattle.xh_calls.specs.inner.Making.{AreFreshFrom};
 
 use crate::names::Names;
@@ -90,6 +91,7 @@ impl<N: Names, const A: u8> Kept<N, A> {
         ensures refused { OnErr result ((lot.new ≡ lot.old) × (tally.new ≡ tally.old)) }
         ensures reason { IfErr result (λ e. (e ≡ Refused.NoSpace) ⊎ (e ≡ Refused.Worn)) }
         ensures front { front.new.table ≡ front.old.table }
+        ensures entered { IfOk result (λ at. DoesTo N.parts arena front.old front.new (λ v w. IsVaultCarved n at v w lot.old lot.new tally.old tally.new)) }
         ensures why { IfErr result (IsRefusedBy N.parts arena n front.old front.new) }
     {
         let Some(vault) = &mut self.vault else {
@@ -116,6 +118,7 @@ impl<N: Names, const A: u8> Kept<N, A> {
         requires empty { tail.old.len ≡ 0 }
         requires good { IsGoodCut k head.old.len }
         ensures front { front.new.table ≡ front.old.table }
+        ensures entered { DoesTo N.parts arena front.old front.new (λ v w. IsVaultCut k v w head.old head.new tail.old tail.new) }
         ensures head { head.new ≡ record head.old { len = k } }
         ensures tail { tail.new ≡ record tail.old { len = head.old.len - k } }
     {
@@ -140,6 +143,7 @@ impl<N: Names, const A: u8> Kept<N, A> {
         requires ids { (slice_get N.parts.records.shape.names arena ≡ Some lot.old.id) × (tally.old.id ≡ lot.old.id) }
         requires some { 0 < lot.old.len }
         ensures front { front.new.table ≡ front.old.table }
+        ensures entered { DoesTo N.parts arena front.old front.new (λ v w. IsVaultGivenBack v w lot.old lot.new tally.old tally.new) }
         ensures lot { lot.new ≡ record lot.old { len = 0 } }
         ensures tally { tally.new ≡ record tally.old { back = tally.old.back + lot.old.len } }
     {

@@ -6,6 +6,7 @@ ghost use Rattle.xh_place.specs.Places.{IsPlaceOf};
 ghost use Rattle.xh_place.specs.Seen.{IsSamePlace};
 ghost use Rattle.xh_place.specs.Messages.{Gives, TakesAt};
 ghost use Rattle.xh_calls.specs.Places.{IsServed, IsTillOf, status_at};
+ghost use Rattle.xh_calls.specs.Tallies.{StayUndone};
 
 use crate::arenas::Lent;
 use crate::heap::{Heap, Till};
@@ -66,6 +67,7 @@ impl<N: Names> Heap<N> {
         requires { IsServed N.parts place.old.place till.old }
         ensures same { IsSamePlace place.old place.new × IsTillOf N.parts till.new }
         ensures closed { (bytes : ℕ) × Closes (status_at p place.old.place) e bytes place.old place.new result × HasGivenBack bytes till.old.tallies.items till.new.tallies.items }
+        ensures untouched { StayUndone result till.old.tallies.items till.new.tallies.items }
     {
         check_number(place, p)?;
         let tallies = till.tallies.as_mut_slice();
@@ -96,6 +98,7 @@ impl<N: Names> Heap<N> {
         requires { IsServed N.parts place.old.place till.old }
         ensures same { IsSamePlace place.old place.new × IsTillOf N.parts till.new }
         ensures stopped { (bytes : ℕ) × Stops (status_at p place.old.place) budget bytes place.old place.new result × HasGivenBack bytes till.old.tallies.items till.new.tallies.items }
+        ensures untouched { StayUndone result till.old.tallies.items till.new.tallies.items }
     {
         check_number(place, p)?;
         let tallies = till.tallies.as_mut_slice();

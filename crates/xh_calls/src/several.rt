@@ -46,7 +46,7 @@ fn first_of(why: Refused, later: Result<Answered, Refused>) -> Result<Answered, 
 }
 
 // Each is an endpoint of the process.
-#[tactic(auto, using(crate::proofs::Same::stays_again, crate::proofs::Same::stays_itself))]
+#[tactic(auto, using(xh_place::proofs::Events::stays_itself))]
 fn test_each(records: &Records<Body>, place: &mut Place, ends: &[u16]) -> Result<(), Refused>
     requires { IsPlaceOf records.now place.old.place }
     ensures same { Stays place.old place.new }
@@ -65,7 +65,7 @@ fn test_each(records: &Records<Body>, place: &mut Place, ends: &[u16]) -> Result
 }
 
 // The tests of a take at several endpoints.
-#[tactic(auto, using(crate::proofs::Same::stays_itself, xh_core::proofs::Firsts::first_append, xh_core::proofs::Firsts::first_later))]
+#[tactic(auto, using(xh_place::proofs::Events::stays_itself, xh_core::proofs::Firsts::first_append, xh_core::proofs::Firsts::first_later))]
 fn test_several(
     records: &Records<Body>,
     place: &mut Place,
@@ -89,7 +89,7 @@ fn test_several(
 
 impl<N: Names> Heap<N> {
     // Takes at each of the endpoints, until one has a message.
-    #[tactic(auto, using(crate::proofs::Same::same_itself, crate::proofs::Same::same_again, crate::proofs::Looks::first_takes))]
+    #[tactic(auto, using(crate::proofs::Same::same_itself, xh_place::proofs::Events::same_then))]
     fn take_first<R: Wait, G: Gate>(
         &self,
         rt: &R,

@@ -12,7 +12,7 @@ ghost use Rattle.xh_calls.specs.Places.{status_at};
 use crate::heap::Heap;
 use crate::names::Names;
 use xh_core::{Refused, Status};
-use xh_model::limits::{GENERATIONS, PLACES, PROCESSES};
+use xh_model::limits::{PLACES, PROCESSES};
 use xh_place::Place;
 
 // The process is the place's latest, whose state the place's calls test. NoProcess, and Ended of one before it.
@@ -39,14 +39,15 @@ pub fn check_start(place: &Place, p: u16) -> Result<(), Refused>
 }
 
 impl<N: Names> Heap<N> {
-    /// The next process of the place runs now, where there is one: its number. None where one runs, or its
-    /// latest was the 128th.
+    /// The next process of the place runs now, where there is one: its number. None where one runs, or it
+    /// was used as often as a place is.
+    #[tactic(auto, using(crate::proofs::Started::starts, xh_place::proofs::Events::stays_itself))]
     pub fn spawn(&self, place: &mut Place) -> Option<u16>
         requires { IsPlaceOf N.parts.records place.old.place }
         ensures same { IsPlaceOf N.parts.records place.new.place × StartsWith place.new.front place.old.front × (place_of place.new.place.process ≡ place_of place.old.place.process) }
-        ensures spawns { Spawns place.old.place place.new.place result }
+        ensures spawns { Spawns N.parts.generations place.old place.new result }
     {
-        let again = place.process() / u16::from(PLACES) + 1 < GENERATIONS;
+        let again = place.process() / u16::from(PLACES) + 1 < self.generations;
         match place.state() {
             Status::Vacant => (),
             Status::Ended if again => (),

@@ -1,7 +1,7 @@
 -- What an end keeps and shows.
 use Rattle.xh_channel.proofs.Common.{AgreesWith, Bool, EndpointOf, EndpointTakes, Err, LineView, SeatDoes}
-use Rattle.xh_channel.proofs.Common.{List, None, Ok, OnErr, OnlySaw, QueueView, Result, Some, ap, arith, cond, endpoint_of, false, inl, is_some, length, length_push, on_line, refl, subst, suc, sym, take}
-use Rattle.xh_channel.proofs.Common.{take-length, true, true≢false, ℕ, ◌∙◌, ◌≡◌, ◌≤◌}
+use Rattle.xh_channel.proofs.Common.{List, None, Ok, OnErr, OnlySaw, QueueView, Result, Some, ap, arith, cond, endpoint_of, false, inl, is_some, length, length_push, on_line, refl, subst}
+use Rattle.xh_channel.proofs.Common.{suc, sym, take, take-length, true, true≢false, ℕ, ◌∙◌, ◌≡◌, ◌≤◌}
 use Rattle.xh_model.specs.declared.row.Row.{Row}
 use Rattle.xh_channel.specs.declared.spot.Spot.{Spot}
 use Rattle.xh_channel.specs.inner.ClosedWords.{ClosedView}

@@ -166,12 +166,12 @@ module _ (table : TableId) (v : Part) (peer : Account) (line line' : Lined) (fou
         let so : SeatDoes (line_view table v) after (λ e e'. EndpointPuts e e' tag blocks (Ok n)) =
         λ f at. (is_next, unshut.0, (ap (on_line f) same, numbered, next_at f at (Some own'.state) r.4)) in
         (s.0, λ f at. (subst (λ x. EndpointPuts (on_line f (line_view table v)) (on_line f x) tag blocks (Ok n)) (sym (seen_is own' s.1)) (so f at), tt))
-    put_done (Err (Protocol back)) p same = ((kept same).0, λ e at. ((p.put.0, next_at e at None p.put.1), only_saw same e))
-    put_done (Err (PeerClosed back)) p same = ((kept same).0, λ e at. ((p.put.0, subst IsSome (sym (next_at e at _ refl)) p.put.1, saw_shut p.put.2), only_saw same e))
-    put_done (Err (Full back)) p same =
-        let unshut = saw_open p.put.2 in
-        let far = ⊎_elim (λ e. inl (full e)) (λ e. inr (ap (λ (c : Counts). c.put) (sym was.0.counts) ∙ e)) p.put.3 in
-        ((kept same).0, λ e at. ((p.put.0, subst IsSome (sym (next_at e at _ refl)) p.put.1, unshut.0, unshut.1, far), only_saw same e))
+    put_done (Err Protocol) p same = ((kept same).0, λ e at. (next_at e at None p.put, only_saw same e))
+    put_done (Err PeerClosed) p same = ((kept same).0, λ e at. ((subst IsSome (sym (next_at e at _ refl)) p.put.0, saw_shut p.put.1), only_saw same e))
+    put_done (Err Full) p same =
+        let unshut = saw_open p.put.1 in
+        let far = ⊎_elim (λ e. inl (full e)) (λ e. inr (ap (λ (c : Counts). c.put) (sym was.0.counts) ∙ e)) p.put.2 in
+        ((kept same).0, λ e at. ((subst IsSome (sym (next_at e at _ refl)) p.put.0, unshut.0, unshut.1, far), only_saw same e))
 
   emptied : waiting (end_of line k) ≡ [] → v.told.put ≤ length own.got
   emptied e = let sent = ap length was.0.waits.0 in let none = ap length e in let told = found.told.0 in omega (arith, length-append own.got (waiting (end_of line k)))

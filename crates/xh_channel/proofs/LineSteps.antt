@@ -332,5 +332,9 @@ begins =
     let t : Truth = record { low_seat = 0; high_seat = 0; holder = 0; low = no_account; high = no_account } in (
       t,
       inl (replicate 15 0, None, refl, refl, refl, (refl, refl)),
-      one_view (IsTrueOf t) both_sides ((λ _. record { seat = refl; own = refl; holds = refl; knows = λ p. absurd (true≢false (sym p)); both = λ _. (refl, refl) }), nothing_told no_account, nothing_told no_account),
+      one_view (IsTrueOf t) both_sides (
+        (λ _. record { seat = refl; own = refl; holds = refl; knows = λ p. absurd (true≢false (sym p)); both = λ _. (refl, refl) }),
+        nothing_told no_account,
+        nothing_told no_account,
+      ),
     )

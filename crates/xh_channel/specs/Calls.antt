@@ -1,5 +1,5 @@
 -- What the calls on an endpoint do.
-use Rattle.std.specs.Prelude.{◌≡◌, ◌⊎◌, ℕ, suc, ◌+◌, ◌-◌, ◌≤◌, true, false, List, [], ◌∷◌, ◌++◌, length, Option, Some, None, IsSome, is_some, Result, MatchResult}
+use Rattle.std.specs.Prelude.{◌≡◌, ◌⊎◌, ℕ, suc, ◌+◌, ◌-◌, ◌≤◌, Bool, true, false, List, [], ◌∷◌, ◌++◌, length, Option, Some, None, IsSome, is_some, Result, MatchResult}
 use Rattle.arrayvec.specs.ArrayVec.{ArrayVec}
 use Rattle.xh_model.specs.declared.limits.TheConstants.{MAX_MESSAGES}
 use Rattle.xh_model.specs.declared.row.Row.{Row}
@@ -21,6 +21,10 @@ next_state (Some rows) state tag side = allowed rows state tag side
 abbrev pub OnlySaw : EndpointOf → EndpointOf → Type 0
 OnlySaw old new = (new ≡ record old { peer_shut = new.peer_shut }) × (old.peer_shut ≡ true → new.peer_shut ≡ true)
 
+-- why no channel was opened: none was free, or where numbers come back memory was refused
+abbrev pub Unopened : Bool → Refused → Type 0
+Unopened comes_back r = (r ≡ refused.NoChannel) ⊎ ((r ≡ refused.OutOfMemory) × (comes_back ≡ true))
+
 -- ---- put
 
 -- it put as many messages as the depth beyond those that it was told were taken
@@ -32,17 +36,17 @@ abbrev pub GoesBack : EndpointOf → EndpointOf → Message → Type 0
 GoesBack old new m = (new ≡ record old { sent = old.sent ++ m ∷ []; pushed = old.pushed ++ m ∷ []; state = new.state }) × Numbered new.sent
     × (next_state old.contract old.state m.tag old.spot.side ≡ Some new.state)
 
--- why nothing was sent, and the blocks come back. Protocol: the contract doesn't allow the message, and else it does. PeerClosed: the peer was seen shut.
+-- why nothing was sent. Protocol: the contract doesn't allow the message, and else it does. PeerClosed: the peer was seen shut.
 -- Full: it was seen open, and the depth is reached as far as was told, or the direction has carried its last message
-abbrev pub Unput : EndpointOf → EndpointOf → ℕ → ArrayVec ℕ → Unsent → Type 0
-Unput old new tag blocks (Protocol back) = (back ≡ blocks) × (next_state old.contract old.state tag old.spot.side ≡ None)
-Unput old new tag blocks (PeerClosed back) = (back ≡ blocks) × IsSome (next_state old.contract old.state tag old.spot.side) × (new.peer_shut ≡ true)
-Unput old new tag blocks (Full back) = (back ≡ blocks) × IsSome (next_state old.contract old.state tag old.spot.side) × (old.peer_shut ≡ false) × (new.peer_shut ≡ false)
+abbrev pub Unput : EndpointOf → EndpointOf → ℕ → Unsent → Type 0
+Unput old new tag Protocol = next_state old.contract old.state tag old.spot.side ≡ None
+Unput old new tag PeerClosed = IsSome (next_state old.contract old.state tag old.spot.side) × (new.peer_shut ≡ true)
+Unput old new tag Full = IsSome (next_state old.contract old.state tag old.spot.side) × (old.peer_shut ≡ false) × (new.peer_shut ≡ false)
     × (IsFullAsTold old ⊎ (length old.sent ≡ MAX_MESSAGES))
 
 -- a put: the peer was seen open, and a message with the next number went to the back; or why not
 abbrev pub EndpointPuts : EndpointOf → EndpointOf → ℕ → ArrayVec ℕ → Result ℕ Unsent → Type 0
-EndpointPuts old new tag blocks result = MatchResult result (λ n. (n ≡ suc (length old.sent)) × (old.peer_shut ≡ false) × GoesBack old new (message n tag blocks)) (Unput old new tag blocks)
+EndpointPuts old new tag blocks result = MatchResult result (λ n. (n ≡ suc (length old.sent)) × (old.peer_shut ≡ false) × GoesBack old new (message n tag blocks)) (Unput old new tag)
 
 -- a put that is refused leaves nothing behind, or one message that only the shut peer can find
 abbrev pub Unpushed : EndpointOf → EndpointOf → Message → Type 0

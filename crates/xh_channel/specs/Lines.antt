@@ -38,12 +38,12 @@ tags end = map tag (waiting end)
 abbrev pub Follows : LineEnd → LineEnd → Type 0
 Follows own peer = (own.counts.put ≡ peer.counts.taken + length (waiting peer)) × NumberedFrom peer.counts.taken (waiting peer)
 
--- why a put by `own` toward `peer` was refused, and the blocks come back: the state doesn't allow the message, the peer is shut,
+-- why a put by `own` toward `peer` was refused: the state doesn't allow the message, the peer is shut,
 -- or as many wait as the depth or the direction has carried its last message
-abbrev pub UnputBetween : List Row → ℕ → ℕ → LineEnd → LineEnd → ℕ → ArrayVec ℕ → Unsent → Type 0
-UnputBetween rows depth side own peer t blocks (Protocol back) = (back ≡ blocks) × (allowed rows own.state t side ≡ None)
-UnputBetween rows depth side own peer t blocks (PeerClosed back) = (back ≡ blocks) × IsSome (allowed rows own.state t side) × (peer.counts.shut ≡ true)
-UnputBetween rows depth side own peer t blocks (Full back) = (back ≡ blocks) × IsSome (allowed rows own.state t side) × (peer.counts.shut ≡ false)
+abbrev pub UnputBetween : List Row → ℕ → ℕ → LineEnd → LineEnd → ℕ → Unsent → Type 0
+UnputBetween rows depth side own peer t Protocol = allowed rows own.state t side ≡ None
+UnputBetween rows depth side own peer t PeerClosed = IsSome (allowed rows own.state t side) × (peer.counts.shut ≡ true)
+UnputBetween rows depth side own peer t Full = IsSome (allowed rows own.state t side) × (peer.counts.shut ≡ false)
     × ((length (waiting peer) ≡ depth) ⊎ (own.counts.put ≡ MAX_MESSAGES))
 
 -- a put by `own` toward `peer`, which isn't shut: the message is at the back, and the state of `own` moves by the contract; or why not
@@ -51,7 +51,7 @@ abbrev pub PutsBetween : List Row → ℕ → ℕ → LineEnd → LineEnd → Li
 PutsBetween rows depth side own own' peer peer' t blocks result = MatchResult result
     (λ n. (n ≡ suc own.counts.put) × (own'.counts ≡ one_put own.counts) × (peer.counts.shut ≡ false) × (waiting peer' ≡ waiting peer ++ message n t blocks ∷ [])
     × (allowed rows own.state t side ≡ Some own'.state))
-    (UnputBetween rows depth side own peer t blocks)
+    (UnputBetween rows depth side own peer t)
 
 -- why a take by `own` was refused: none waits, and `peer` is shut or not
 abbrev pub UntakenBetween : LineEnd → LineEnd → Refused → Type 0

@@ -3,8 +3,6 @@ use Rattle.xh_core.specs.declared.refused.Refused.{Refused as Named}
 use Rattle.xh_core.specs.declared.refused.Refused.TheVariants as named
 use Rattle.xh_channel.specs.declared.refused.Refused.{Refused}
 use Rattle.xh_channel.specs.declared.refused.Refused.TheVariants as refused
-use Rattle.xh_channel.specs.declared.unsent.Unsent.{Unsent}
-use Rattle.xh_channel.specs.declared.unsent.Unsent.TheVariants as unsent
 
 abbrev pub same_refusal : Refused → Named
 same_refusal refused.OutOfMemory = named.OutOfMemory
@@ -12,8 +10,3 @@ same_refusal refused.BadSize = named.BadSize
 same_refusal refused.NoChannel = named.NoChannel
 same_refusal (refused.PeerClosed back) = named.PeerClosed back
 same_refusal refused.Empty = named.Empty
-
-abbrev pub same_unsent : Unsent → Named
-same_unsent (unsent.Protocol back) = named.Protocol back
-same_unsent (unsent.PeerClosed back) = named.PeerClosed back
-same_unsent (unsent.Full back) = named.Full back

@@ -49,15 +49,6 @@ impl Model for ChannelEnd {
     ghost invariant = { λ e. IsEnd e.spot e.has_contract e.sender e.receiver e.word e.put e.line };
 }
 
-fn copy_of(blocks: &ArrayVec<u16, MAX_BLOCKS>) -> ArrayVec<u16, MAX_BLOCKS>
-    ensures { result ≡ blocks.now }
-{
-    let Ok(copy) = blocks.clone() else {
-        unreachable!()
-    };
-    copy
-}
-
 /// Both ends of a channel without a contract go by the contract from now on, from its first state.
 pub fn begin<R: Wait>(
     rt: &R,
@@ -181,35 +172,6 @@ impl ChannelEnd {
         }
     }
 
-    /// Looks at the peer's word, and pushes.
-    pub fn push<R: Wait>(
-        &mut self,
-        rt: &R,
-        tag: u16,
-        blocks: ArrayVec<u16, MAX_BLOCKS>,
-    ) -> Result<u64, Unsent>
-        requires { is_some self.old.contract ≡ false }
-        ensures put { EndpointPuts self.old self.new tag blocks result }
-        ensures last { IfOk result (λ no. no ≤ MAX_MESSAGES) }
-        ensures refused { OnErr result (OnlySaw self.old self.new) }
-    {
-        if self.word.peer_is_shut() {
-            return Err(Unsent::PeerClosed { back: blocks });
-        }
-        if self.put == MAX_MESSAGES {
-            return Err(Unsent::Full { back: blocks });
-        }
-        let no = self.put + 1;
-        let message = Message { no, tag, blocks };
-        if let Err(message) = self.sender.push(rt, message) {
-            return Err(Unsent::Full {
-                back: message.blocks,
-            });
-        }
-        self.put = no;
-        Ok(no)
-    }
-
     /// Looks again, after a push: where the peer is shut by now, the message doesn't count as sent.
     pub fn stays_sent(&mut self) -> bool
         requires { (is_some self.old.contract ≡ false) × (0 < length self.old.sent) × (self.old.peer_shut ≡ false) }
@@ -234,12 +196,37 @@ impl ChannelEnd {
         ensures last { IfOk result (λ no. no ≤ MAX_MESSAGES) }
         ensures kept { OnErr result (Unpushed self.old self.new (message (suc (length self.old.sent)) tag blocks)) }
     {
-        let back = copy_of(&blocks);
-        let no = self.push(rt, tag, blocks)?;
+        if self.word.peer_is_shut() {
+            return Err(Unsent::PeerClosed);
+        }
+        if self.put == MAX_MESSAGES {
+            return Err(Unsent::Full);
+        }
+        let no = self.put + 1;
+        let pushed = self.sender.push(rt, Message { no, tag, blocks });
+        if pushed.is_err() {
+            return Err(Unsent::Full);
+        }
+        self.put = no;
         if !self.stays_sent() {
-            return Err(Unsent::PeerClosed { back });
+            return Err(Unsent::PeerClosed);
         }
         Ok(no)
+    }
+
+    // Pops. Where nothing comes it answers by what a look before the pop saw of the peer, and looks no more.
+    fn pop_after_look<R: Wait>(&mut self, rt: &R, closed: bool) -> Result<Message, Refused>
+        requires { (is_some self.old.contract ≡ false) × (closed ≡ self.old.peer_shut) }
+        ensures taken { EndpointTakes self.old self.new result }
+        ensures seen { (self.new.peer_shut ≡ self.old.peer_shut) × OnErr result (self.new ≡ self.old) }
+    {
+        match self.receiver.pop(rt) {
+            Some(message) => Ok(message),
+            None if closed => Err(Refused::PeerClosed {
+                back: ArrayVec::new(),
+            }),
+            None => Err(Refused::Empty),
+        }
     }
 
     /// Looks at the peer's word, and then pops.
@@ -249,13 +236,7 @@ impl ChannelEnd {
         ensures kept { OnErr result (OnlySaw self.old self.new) }
     {
         let closed = self.word.peer_is_shut();
-        match self.receiver.pop(rt) {
-            Some(message) => Ok(message),
-            None if closed => Err(Refused::PeerClosed {
-                back: ArrayVec::new(),
-            }),
-            None => Err(Refused::Empty),
-        }
+        self.pop_after_look(rt, closed)
     }
 
     // A put on the line.

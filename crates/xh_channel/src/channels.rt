@@ -1,19 +1,20 @@
 //! All channels of a heap.
-ghost use Rattle.std.specs.Prelude.{◌≡◌, ℕ, ◌+◌, ◌*◌, ◌<◌, ◌≤◌, ◌⊎◌, suc, true, false, is_some, length, IfOk, IfErr, OnErr, None, Some};
+ghost use Rattle.std.specs.Prelude.{◌≡◌, ℕ, ◌+◌, ◌*◌, ◌<◌, ◌≤◌, ◌⊎◌, suc, true, false, is_some, length, IfOk, IfErr, IfSome, OnErr, None, Some};
 ghost use Rattle.xh_model.specs.Rows.{row_at};
 ghost use Rattle.xh_model.specs.declared.limits.TheConstants.{CHANNELS, MAX_DEPTH, MAX_MESSAGES, PLACES};
-ghost use Rattle.xh_channel.specs.Calls.{EndpointPuts, EndpointShuts, EndpointTakes, OnlySaw, Unpushed};
+ghost use Rattle.xh_channel.specs.Calls.{EndpointPuts, EndpointShuts, EndpointTakes, OnlySaw, Unopened, Unpushed};
 ghost use Rattle.xh_channel.specs.inner.FreeNumbers.{StandAtTheirNumbers, at_place, has_depth};
 ghost use Rattle.xh_channel.specs.Numbers.{message};
 ghost use Rattle.xh_channel.specs.Pairs.{IsPair};
 ghost use Rattle.xh_channel.specs.Queues.{IsNewDirection};
-ghost use Rattle.xh_channel.specs.declared.refused.Refused.TheVariants.{OutOfMemory, BadSize, NoChannel};
+ghost use Rattle.xh_channel.specs.declared.refused.Refused.TheVariants.{OutOfMemory, BadSize};
 
 use crate::channel_end::{self, ChannelEnd};
 use crate::closed_word::ClosedWords;
 use crate::endpoint::Endpoint;
 use crate::free_numbers::{FreeNumbers, Home};
 use crate::free_pair::FreePair;
+use crate::hold::Hold;
 use crate::line_seat::LineSeat;
 use crate::message::Message;
 use crate::queue_end::{QueueEnd, direction};
@@ -36,6 +37,8 @@ pub struct Channels {
     home: Home,
     signals: Vec<OwnSignal>,
     bells: OwnBells,
+    // whether numbers come back, and by what memory
+    come_back: Option<Global>,
     ghost deep: { (1 ≤ depth) × (depth ≤ MAX_DEPTH) },
     ghost each: { length signals.items ≡ CHANNELS },
 }
@@ -122,6 +125,7 @@ impl Channels {
     /// direction, 1 to 16, and else BadSize. OutOfMemory where a growth is refused.
     pub fn new(alloc: Global, depth: u8) -> Result<Channels, Refused>
         ensures ok { IfOk result (λ c. (c.depth ≡ depth) × (1 ≤ depth) × (depth ≤ MAX_DEPTH)) }
+        ensures once { IfOk result (λ c. c.come_back ≡ None) }
         ensures err { IfErr result (λ r. ((r ≡ BadSize) × ((depth ≡ 0) ⊎ (MAX_DEPTH < depth))) ⊎ ((r ≡ OutOfMemory) × (1 ≤ depth) × (depth ≤ MAX_DEPTH))) }
     {
         if depth == 0 || depth > MAX_DEPTH {
@@ -136,24 +140,73 @@ impl Channels {
             home: home(alloc, pairs)?,
             signals,
             bells,
+            come_back: None,
         })
     }
 
-    /// Both ends of the lowest channel that is free, side 0 first, with nothing put, nothing taken and
-    /// neither shut. NoChannel where none is free.
+    /// From now on the number of a channel comes back once neither of its ends exists any more: see `open`.
+    pub fn coming_back(mut self, alloc: Global) -> Channels
+        ensures { result ≡ record self { come_back = Some alloc } }
+    {
+        self.come_back = Some(alloc);
+        self
+    }
+
+    // The lowest number of which no end exists any more, nor a free pair or a hold: its signal has no other owner.
+    fn lowest_gone(&self) -> Option<u8>
+        ensures { IfSome result (λ channel. channel < CHANNELS) }
+    {
+        for channel in 0..CHANNELS {
+            if Arc::strong_count(&self.signals[channel as usize]) == 1 {
+                return Some(channel);
+            }
+        }
+        None
+    }
+
+    // New ends of the lowest number that has none, by whoever has the lock of the free numbers: nobody else makes ends of it meanwhile.
+    fn renewed(&self, alloc: Global) -> Result<FreePair, Refused>
+        ensures ok { IfOk result (λ p. p.low.depth ≡ self.now.depth) }
+        ensures err { IfErr result (Unopened true) }
+    {
+        let Some(channel) = self.lowest_gone() else {
+            return Err(Refused::NoChannel);
+        };
+        let signal = &self.signals[channel as usize];
+        signal.forget();
+        let mut words = ClosedWords::from_channel(alloc, channel)?;
+        Ok(pair(alloc, self.depth as usize, &mut words, channel, signal)?)
+    }
+
+    // The pair of the lowest number that is free, or that came back.
+    fn open_pair<R: Wait>(&self, rt: &R) -> Result<FreePair, Refused>
+        ensures ok { IfOk result (λ p. p.low.depth ≡ self.now.depth) }
+        ensures err { IfErr result (Unopened (is_some self.now.come_back)) }
+    {
+        let mut free = self.home.lock(rt);
+        if let Some(pair) = free.open(self.depth as usize) {
+            return Ok(pair);
+        }
+        match self.come_back {
+            Some(alloc) => self.renewed(alloc),
+            None => Err(Refused::NoChannel),
+        }
+    }
+
+    /// Both ends of the lowest channel that is free, side 0 first, with nothing put, nothing taken and neither shut. Where none
+    /// is free NoChannel; or where numbers come back, new ends of the lowest channel of which no end exists any more, with room of
+    /// their own: NoChannel where there is none, OutOfMemory where memory for them was refused. An end that is kept keeps its
+    /// number, wherever it is: on its way, also to itself.
     pub fn open<R: Wait>(&self, rt: &R) -> Result<(Endpoint, Endpoint), Refused>
         ensures ok { IfOk result (λ ends. IsPair ends.0 ends.1 × (ends.0.depth ≡ self.now.depth) × (ends.0.contract ≡ None)) }
-        ensures err { IfErr result (λ r. r ≡ NoChannel) }
+        ensures err { IfErr result (Unopened (is_some self.now.come_back)) }
     {
         let own: Result<_, _> = Arc::try_clone(&self.home);
         let peers: Result<_, _> = Arc::try_clone(&self.home);
         let (Ok(own), Ok(peers)) = (own, peers) else {
             return Err(Refused::NoChannel);
         };
-        let found = self.home.lock(rt).open(self.depth as usize);
-        let Some(FreePair { low, high }) = found else {
-            return Err(Refused::NoChannel);
-        };
+        let FreePair { low, high } = self.open_pair(rt)?;
         let low = Endpoint {
             inner: low,
             home: own,
@@ -173,7 +226,7 @@ impl Channels {
     ) -> Result<(Endpoint, Endpoint), Refused>
         ensures ok { IfOk result (λ ends. IsPair ends.0 ends.1 × (ends.0.depth ≡ self.now.depth)) }
         ensures contract { IfOk result (λ ends. (ends.0.contract ≡ Some contract) × (ends.0.state ≡ (row_at contract 0).state)) }
-        ensures err { IfErr result (λ r. r ≡ NoChannel) }
+        ensures err { IfErr result (Unopened (is_some self.now.come_back)) }
     {
         let (low, high) = self.open(rt)?;
         let (first, second) = channel_end::begin(rt, low.inner, high.inner, contract, self.depth);
@@ -199,11 +252,22 @@ impl Channels {
         home.lock(rt).cancel(FreePair { low, high });
     }
 
+    /// Keeps a channel's number from coming back. None where the count of handles has run out, which no run meets.
+    pub fn hold(&self, channel: u8) -> Option<Hold>
+        requires { channel < CHANNELS }
+    {
+        let signal: Result<_, _> = Arc::try_clone(&self.signals[channel as usize]);
+        let Ok(signal) = signal else {
+            return None;
+        };
+        Some(Hold { signal })
+    }
+
     /// Puts a message, and answers its number, which is the count of this end's puts: it is at the back of what was sent.
     /// On a channel with a contract the message moves this end's state, and Protocol comes first, exactly where the contract
     /// doesn't allow the message in that state. Then PeerClosed where the peer was seen shut, then Full where as many messages as
     /// the depth were found to wait or the direction has carried 2^62 - 1 of them: this end has put the depth more than it was
-    /// told were taken. Each hands the blocks back. After PeerClosed on a channel without a contract the shut end may still take
+    /// told were taken. After PeerClosed on a channel without a contract the shut end may still take
     /// a message with the numbers of these blocks, where it was shut between the push and the second look: who has a block is
     /// what its owner word says.
     pub fn put<R: Wait>(
@@ -223,8 +287,8 @@ impl Channels {
     }
 
     /// Takes the message at the front, which comes next after those that were taken; on a channel with a contract it moves this
-    /// end's state. With none, PeerClosed where the peer was seen shut, and else Empty: this end has taken all that it was told
-    /// were put. An end that was shut still takes what is left.
+    /// end's state. With none, PeerClosed where the peer was seen shut before it looked for one, and else Empty: this end has taken all
+    /// that it was told were put. An end that was shut still takes what is left.
     pub fn take<R: Wait>(&self, rt: &R, end: &mut Endpoint) -> Result<Message, Refused>
         ensures taken { EndpointTakes end.old end.new result }
         ensures kept { OnErr result (OnlySaw end.old end.new) }
@@ -250,7 +314,7 @@ impl Channels {
         self.signals[spot.channel as usize].rouse();
     }
 
-    /// How many puts that succeeded, shuts and calls of `rouse` there were at this channel. At 2^64 - 1 it stays.
+    /// How many puts that succeeded, shuts and calls of `rouse` there were at the channels of this number. At 2^64 - 1 it stays.
     /// To wait for a message, first read the turn, then take, and where nothing waits call `wait` with
     /// the turn that was read: a put between the take and the `wait` isn't slept through.
     pub fn turn<R: Wait>(&self, _rt: &R, spot: Spot) -> u64 {

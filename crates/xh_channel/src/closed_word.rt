@@ -1,6 +1,6 @@
 // An end's closed word.
-ghost use Rattle.std.specs.Prelude.{◌≡◌, ◌+◌, ◌<◌, ◌||◌, true, false, IfOk};
-ghost use Rattle.xh_model.specs.declared.limits.TheConstants.{DIRECTIONS};
+ghost use Rattle.std.specs.Prelude.{◌≡◌, ◌+◌, ◌*◌, ◌<◌, ◌||◌, true, false, IfOk};
+ghost use Rattle.xh_model.specs.declared.limits.TheConstants.{CHANNELS, DIRECTIONS};
 ghost use Rattle.xh_channel.specs.inner.ClosedWords.{own_shut, peer, peer_seen_shut};
 
 use crate::closed_rule::{
@@ -83,6 +83,18 @@ impl ClosedWords {
             rest,
             next: 0,
         })
+    }
+
+    /// Those of a channel and of all above it.
+    pub fn from_channel(alloc: Global, channel: u8) -> Result<ClosedWords, AllocError>
+        requires { channel < CHANNELS }
+        ensures { IfOk result (λ s. s.next ≡ 2 * channel) }
+    {
+        let mut words = ClosedWords::new(alloc)?;
+        for _ in 0..channel {
+            words.both()?;
+        }
+        Ok(words)
     }
 
     #[tactic(auto, using(crate::proofs::ClosedSteps::splits))]

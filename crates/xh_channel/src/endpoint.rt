@@ -1,13 +1,11 @@
 //! One end of a channel.
-ghost use Rattle.std.specs.Prelude.{◌≡◌, ◌==◌, is_some, length};
-ghost use Rattle.xh_model.specs.declared.limits.TheConstants.{MAX_MESSAGES};
+ghost use Rattle.std.specs.Prelude.{◌≡◌, is_some};
 ghost use Rattle.xh_channel.specs.Agreement.{AgreesWith, ArePeers, told_all};
 
 use crate::channel_end::{self, ChannelEnd};
 use crate::free_numbers::Home;
 use crate::spot::Spot;
 use std::marker::Model;
-use xh_model::limits::MAX_MESSAGES;
 
 /// One end of a channel. It goes from owner to owner, and whoever has it may put, take and shut.
 #[derive(Drop)]
@@ -58,13 +56,5 @@ impl Endpoint {
         ensures { result ≡ is_some self.now.contract }
     {
         self.inner.has_contract
-    }
-
-    /// Whether it has sent its last message: its direction has carried all of its 2^62 - 1 messages, and a put answers Full for ever,
-    /// where nothing else refuses it first.
-    pub fn is_spent(&self) -> bool
-        ensures { result ≡ (length self.now.sent == MAX_MESSAGES) }
-    {
-        self.inner.put == MAX_MESSAGES
     }
 }

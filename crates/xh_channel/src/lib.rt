@@ -9,6 +9,7 @@ mod counts;
 mod endpoint;
 mod free_numbers;
 mod free_pair;
+mod hold;
 mod line;
 mod line_end;
 mod line_rule;
@@ -24,6 +25,7 @@ mod waiting;
 
 pub use channels::Channels;
 pub use endpoint::{Endpoint, compare};
+pub use hold::Hold;
 pub use line::Line;
 pub use message::Message;
 pub use refused::Refused;

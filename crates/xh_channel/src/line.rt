@@ -54,13 +54,13 @@ fn put_between(
     ensures refused { OnErr result ((peer.new ≡ peer.old) × (own.new ≡ own.old)) }
 {
     let Some(next) = contract.allows(own.state, tag, side) else {
-        return Err(Unsent::Protocol { back: blocks });
+        return Err(Unsent::Protocol);
     };
     if peer.counts.shut {
-        return Err(Unsent::PeerClosed { back: blocks });
+        return Err(Unsent::PeerClosed);
     }
     if peer.waiting.len() == depth || own.counts.put == MAX_MESSAGES {
-        return Err(Unsent::Full { back: blocks });
+        return Err(Unsent::Full);
     }
     let no = own.counts.put + 1;
     peer.waiting.push(Message { no, tag, blocks });
@@ -118,8 +118,7 @@ impl Line {
 
     /// The number of the message, from 1, which went to the back. Protocol where the state of this
     /// end does not allow it, then PeerClosed where the peer is shut, then Full where as many wait
-    /// as the depth or the direction has carried its last message. Each hands the blocks back and
-    /// changes nothing.
+    /// as the depth or the direction has carried its last message. Each changes nothing.
     pub fn put(
         &mut self,
         side: u8,

@@ -237,6 +237,14 @@ impl Signal {
         }
     }
 
+    /// Nobody listens or waits for room any more: for a number without ends.
+    pub fn forget(&self) {
+        for side in 0..2 {
+            self.listeners[side].store(NOBODY, SeqCst);
+            self.senders[side].store(NOBODY, SeqCst);
+        }
+    }
+
     /// The turn rises by one, and all look again that wait at it, listen, or wait for room.
     pub fn rouse(&self) {
         self.raise();

@@ -1,7 +1,7 @@
 //! The options, and what words say of them.
 ghost use Rattle.std.specs.Prelude.{◌≡◌, IfErr, IfOk};
 ghost use Rattle.xh_command_line.specs.Unasked.{IsUnasked};
-ghost use Rattle.xh_model.specs.Config.{IsConfig};
+ghost use Rattle.xh_script.specs.Config.{IsScriptConfig};
 
 use crate::status::{DONE, WORDS, out_of_memory, told};
 use clap::builder::ValueParser;
@@ -10,7 +10,8 @@ use clap::{Arg, ArgAction, ArgMatches, Command, Error};
 use std::alloc::{AllocError, Global};
 use std::io::Write;
 use xh_core::Config;
-use xh_model::limits::{MAX_ARENAS, MAX_BYTES, MAX_DEPTH, MAX_RECORDS, MAX_WEAR, UNIT};
+use xh_model::limits::{MAX_ARENAS, MAX_DEPTH, MAX_RECORDS, MAX_WEAR, UNIT};
+use xh_script::limits::{MAX_ARENA_BYTES, is_in_script_limits};
 use xh_script::{Watched, write_bytes};
 
 const VERSION: &str = "1.0";
@@ -61,7 +62,7 @@ fn bytes<'a>(alloc: Global) -> Arg<'a> {
         "bytes",
         "BYTES",
         u64::from(UNIT),
-        u64::from(MAX_BYTES),
+        u64::from(MAX_ARENA_BYTES),
         "65536",
     )
     .help("Size of each arena in bytes, a multiple of 16 from 16 to 1048576")
@@ -88,6 +89,7 @@ fn wear<'a>(alloc: Global) -> Arg<'a> {
 /// The command line of a program.
 fn command<'a>(alloc: Global, program: Program<'a>) -> Result<Command<'a>, AllocError> {
     Command::new(alloc, program.name)
+        .bin_name(program.name)?
         .version(VERSION)
         .about(program.about)
         .long_about(program.detail)
@@ -188,12 +190,12 @@ pub fn read_options<W: Write, E: Write>(
     out: &mut Watched<W>,
     err: &mut E,
 ) -> Result<Options, u8>
-    ensures asked { IfOk result (λ options. IsConfig options.config × (out.new ≡ out.old)) }
+    ensures asked { IfOk result (λ options. IsScriptConfig options.config × (out.new ≡ out.old)) }
     ensures unasked { IfErr result (λ status. IsUnasked out.old out.new status) }
 {
     match options_of(alloc, program, words) {
         Err(error) => Err(explain(alloc, program, &error, out, err)),
-        Ok(options) if !options.config.is_in_limits() => {
+        Ok(options) if !is_in_script_limits(&options.config) => {
             Err(told(program.name, "--bytes must be a multiple of 16", WORDS, err))
         }
         Ok(options) => Ok(options),

@@ -95,10 +95,10 @@ no_bytes o n e i = subst (λ (x : Option Holder). IsOwner x n) e i
 pub in_range : (s : Store) (r : ℕ) → IsLawful s → is_known s r ≡ true → r < length s.owners
 in_range s r w k = let l = known_there s r k in let e = w.long in omega arith
 
-claim_is : (s : Store) (p r : ℕ) → p < 4096 → is_known s r ≡ true → owner s r ≡ None → after (Claim p r) s ≡ with_owner r (Some (Process p)) s
-claim_is s p r l k f = done (Claim p r) s (rw (lt-ltb p 4096 l, k, f) refl)
+claim_is : (s : Store) (p r : ℕ) → p < 65504 → is_known s r ≡ true → owner s r ≡ None → after (Claim p r) s ≡ with_owner r (Some (Process p)) s
+claim_is s p r l k f = done (Claim p r) s (rw (lt-ltb p 65504 l, k, f) refl)
 
-pub claimed : (s : Store) (p r : ℕ) → IsLawful s → p < 4096 → is_known s r ≡ true → owner s r ≡ None → Claimed p r s (after (Claim p r) s)
+pub claimed : (s : Store) (p r : ℕ) → IsLawful s → p < 65504 → is_known s r ≡ true → owner s r ≡ None → Claimed p r s (after (Claim p r) s)
 claimed s p r w l k f =
     let is : after (Claim p r) s ≡ with_owner r (Some (Process p)) s = claim_is s p r l k f in
     let there : r < length s.owners = in_range s r w k in
@@ -116,7 +116,7 @@ claimed s p r w l k f =
     }
 
 -- a claim that is taken back leaves all as it was
-pub unclaimed : (s : Store) (p r : ℕ) → IsLawful s → p < 4096 → is_known s r ≡ true → owner s r ≡ None → after (Vacate p r) (after (Claim p r) s) ≡ s
+pub unclaimed : (s : Store) (p r : ℕ) → IsLawful s → p < 65504 → is_known s r ≡ true → owner s r ≡ None → after (Vacate p r) (after (Claim p r) s) ≡ s
 unclaimed s p r w l k f =
     let c : Claimed p r s (after (Claim p r) s) = claimed s p r w l k f in
     let can_vacate : can (Vacate p r) (after (Claim p r) s) ≡ true = rw (c.holds, c.empty) refl in

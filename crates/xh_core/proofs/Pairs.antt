@@ -31,7 +31,7 @@ pub record TwoClaimed (p r t : ℕ) (s n : Store) : Type 0 where
 pub once_is : (p : ℕ) (s : Store) (a r : ℕ) → free_record s a ≡ Some r → claimed_once p s a ≡ after (Claim p r) s
 once_is p s a r e = ap (λ (o : Option ℕ). after (Claim p (unwrap_or o 2048)) s) e
 
-pub two_claimed : (s : Store) (p a r t : ℕ) → IsLawful s → p < 4096 → free_record s a ≡ Some r → free_record (after (Claim p r) s) a ≡ Some t →
+pub two_claimed : (s : Store) (p a r t : ℕ) → IsLawful s → p < 65504 → free_record s a ≡ Some r → free_record (after (Claim p r) s) a ≡ Some t →
     TwoClaimed p r t s (after (Claim p t) (after (Claim p r) s))
 two_claimed s p a r t w l low high =
     let fr : IsFree s a r = free_is s a r w low in
@@ -64,13 +64,13 @@ two_claimed s p a r t w l low high =
       back = ap (after (Vacate p r)) (unclaimed mid p t w1 l ft.known ft.free) ∙ unclaimed s p r w l fr.known fr.free;
     }
 
-pub claimed_two : (p a r t : ℕ) (s n : Store) → IsLawful s → p < 4096 → ClaimedTwo p a r t s n → TwoClaimed p r t s n
+pub claimed_two : (p a r t : ℕ) (s n : Store) → IsLawful s → p < 65504 → ClaimedTwo p a r t s n → TwoClaimed p r t s n
 claimed_two p a r t s n w l c =
     let high : free_record (after (Claim p r) s) a ≡ Some t = subst (λ (x : Store). free_record x a ≡ Some t) (once_is p s a r c.low) c.high in
     subst (λ (x : Store). TwoClaimed p r t s x) (sym c.is) (two_claimed s p a r t w l c.low high)
 
 -- the tests of the two records pass, and what is left is whether there is room
-pub pair_room : (p a r t : ℕ) (s n : Store) (o : Option Refused) → IsLawful s → p < 4096 → ClaimedTwo p a r t s n → first_refusal (space_tests n (r / 256) 64) ≡ o →
+pub pair_room : (p a r t : ℕ) (s n : Store) (o : Option Refused) → IsLawful s → p < 65504 → ClaimedTwo p a r t s n → first_refusal (space_tests n (r / 256) 64) ≡ o →
     first_refusal (pair_tests p s a) ≡ o
 pair_room p a r t s n o w l c f =
     let two : TwoClaimed p r t s n = claimed_two p a r t s n w l c in
@@ -93,7 +93,7 @@ pub record CutInTwo (p r t : ℕ) (n k u : Store) (ok : Bool) : Type 0 where
   pub tail : ok ≡ true → len u t + 32 ≡ len k r
   pub kept : (q : ℕ) → q ≢ r → q ≢ t → len u q ≡ len k q
 
-pub paired : (p a r t : ℕ) (s n k u : Store) (ok : Bool) → IsLawful s → p < 4096 → ClaimedTwo p a r t s n → CutInTwo p r t n k u ok → IsLawful u → Paired p a r t s u
+pub paired : (p a r t : ℕ) (s n k u : Store) (ok : Bool) → IsLawful s → p < 65504 → ClaimedTwo p a r t s n → CutInTwo p r t n k u ok → IsLawful u → Paired p a r t s u
 paired p a r t s n k u ok w l c d lawful =
     let two : TwoClaimed p r t s n = claimed_two p a r t s n w l c in
     let same : k.owners ≡ n.owners = ap (λ (x : Store). x.owners) d.carved ∙ carve-owners n p r 64 in
@@ -114,13 +114,13 @@ paired p a r t s n k u ok w l c d lawful =
 
 -- ---- an end changes hands
 
-handed_is : (p q t d : ℕ) (s : Store) → q < 4096 → d < 128 → holds s (Process p) t ≡ true → 0 < len s t → t < length s.owners → handed p q t d s ≡ with_owner t (Some (Process q)) s
+handed_is : (p q t d : ℕ) (s : Store) → q < 65504 → d < 128 → holds s (Process p) t ≡ true → 0 < len s t → t < length s.owners → handed p q t d s ≡ with_owner t (Some (Process q)) s
 handed_is p q t d s ql dl h some there =
     let passed : after (Pass p t d) s ≡ with_owner t (Some (Direction d)) s = done (Pass p t d) s (rw (lt-ltb d 128 dl, h, lt-ltb 0 (len s t) some) refl) in
     let mid : Store = with_owner t (Some (Direction d)) s in
     let own : owner mid t ≡ Some (Direction d) = get_or-set_same s.owners t (Some (Direction d)) None there in
     let held : holds mid (Direction d) t ≡ true = rw own (eq-eqb d d refl) in
-    let accepted : after (Accept q t d) mid ≡ with_owner t (Some (Process q)) mid = done (Accept q t d) mid (rw (lt-ltb q 4096 ql, held) refl) in
+    let accepted : after (Accept q t d) mid ≡ with_owner t (Some (Process q)) mid = done (Accept q t d) mid (rw (lt-ltb q 65504 ql, held) refl) in
     let twice : slice_set (slice_set s.owners t (Some (Direction d))) t (Some (Process q)) ≡ slice_set s.owners t (Some (Process q)) = set-set s.owners t (Some (Direction d)) (Some (Process q)) in
     ap (after (Accept q t d)) passed ∙ (accepted ∙ ap (λ (os : List (Option Holder)). record s { owners = os }) twice)
 
@@ -139,7 +139,7 @@ pub record Shared (p q r t : ℕ) (s n : Store) : Type 0 where
   pub many : length n.owners ≡ length s.owners
 
 -- an end that its owner keeps, or hands over, is the new owner's
-moved_is : (p q t d : ℕ) (s : Store) → q < 4096 → d < 128 → owner s t ≡ Some (Process p) → 0 < len s t → t < length s.owners → moved p q t d s ≡ with_owner t (Some (Process q)) s
+moved_is : (p q t d : ℕ) (s : Store) → q < 65504 → d < 128 → owner s t ≡ Some (Process p) → 0 < len s t → t < length s.owners → moved p q t d s ≡ with_owner t (Some (Process q)) s
 moved_is p q t d s ql dl own some there = elim (cases_eq p q) [
   | inl e ↦ rw (eq-eqb p q e) (let same : slice_set s.owners t (Some (Process q)) ≡ s.owners = rw (
     ← e,
@@ -148,10 +148,10 @@ moved_is p q t d s ql dl own some there = elim (cases_eq p q) [
   | inr n ↦ rw (ne_eqb p q n) (handed_is p q t d s ql dl (own_holder s p t own) some there)
 ]
 
-pub paired_two : (p a r t : ℕ) (s n : Store) → IsLawful s → p < 4096 → Paired p a r t s n → TwoClaimed p r t s (after (Claim p t) (after (Claim p r) s))
+pub paired_two : (p a r t : ℕ) (s n : Store) → IsLawful s → p < 65504 → Paired p a r t s n → TwoClaimed p r t s (after (Claim p t) (after (Claim p r) s))
 paired_two p a r t s n w l g = two_claimed s p a r t w l g.low (subst (λ (x : Store). free_record x a ≡ Some t) (once_is p s a r g.low) g.high)
 
-pub shared : (p q a r t d : ℕ) (s n : Store) → IsLawful s → p < 4096 → q < 4096 → d < 128 → Paired p a r t s n → IsLawful (moved p q t d n) → Shared p q r t s (moved p q t d n)
+pub shared : (p q a r t d : ℕ) (s n : Store) → IsLawful s → p < 65504 → q < 65504 → d < 128 → Paired p a r t s n → IsLawful (moved p q t d n) → Shared p q r t s (moved p q t d n)
 shared p q a r t d s n w pl ql dl g lawful =
     let two : Store = after (Claim p t) (after (Claim p r) s) in
     let c : TwoClaimed p r t s two = paired_two p a r t s n w pl g in

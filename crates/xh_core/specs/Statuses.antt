@@ -1,6 +1,6 @@
 -- How far a process has come.
 use Rattle.std.specs.Prelude.{ℕ, ◌+◌, ◌==◌, ◌&&◌, ◌||◌, Bool, true, false, cond, nat_le, nat_lt}
-use Rattle.xh_model.specs.declared.limits.TheConstants.{GENERATIONS, PROCESSES}
+use Rattle.xh_model.specs.declared.limits.TheConstants.{PROCESSES}
 use Rattle.xh_model.specs.Words.{generation_of}
 use Rattle.xh_core.specs.declared.status.Status.{Status}
 use Rattle.xh_core.specs.declared.status.Status.TheVariants.{Vacant, Running, Ending, Ended}
@@ -33,6 +33,6 @@ status_of p generation latest =
     cond (nat_le PROCESSES p || nat_lt generation (generation_of p)) Vacant
     (cond (generation == generation_of p) latest Ended)
 
--- whether a process can start at a place: none ever did, or the latest one has ended and was not the last
-abbrev pub can_start : Status → ℕ → Bool
-can_start status generation = is_vacant status || (is_ended status && nat_lt (generation + 1) GENERATIONS)
+-- whether a process can start at a place that is used so often: none ever did, or the latest one has ended and was not the last
+abbrev pub can_start : ℕ → Status → ℕ → Bool
+can_start generations status generation = is_vacant status || (is_ended status && nat_lt (generation + 1) generations)

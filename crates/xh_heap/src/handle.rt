@@ -47,7 +47,7 @@ impl<'a, 'k, N: Names, R: Wait> Handle<'a, 'k, N, R> {
         kernel: &'a Kernel<N>,
         spares: &'a Spares<'k, N>,
     ) -> Result<Handle<'a, 'k, N, R>, Refused>
-        ensures { IfOk result (λ p. (before : AccountOf) × SpawnsAt N.leads before p.account.now (Ok p.number)) }
+        ensures { IfOk result (λ p. (before : AccountOf) × SpawnsAt N.parts N.leads before p.account.now (Ok p.number)) }
     {
         let Some(account) = spares.lock(rt).pop() else {
             return Err(Refused::NoPlace);

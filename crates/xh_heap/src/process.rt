@@ -1,21 +1,16 @@
 //! A process of the heap, by its handle.
-ghost use Rattle.std.specs.Prelude.{◌≡◌, ◌≢◌, ◌<◌, ℕ, [], Err, IfErr, IfOk, None, Ok, OnErr, Some, length};
-ghost use Rattle.xh_calls.specs.declared.call.Call.TheVariants as call;
+ghost use Rattle.std.specs.Prelude.{◌≡◌, ◌≢◌, ◌<◌, [], Err, IfErr, IfOk, None, Ok, OnErr, Some, length};
 ghost use Rattle.xh_calls.specs.Leading.{Leading};
-ghost use Rattle.xh_calls.specs.Places.{status_at};
-ghost use Rattle.xh_place.specs.Messages.{Gives, TakesAt};
 ghost use Rattle.xh_calls.specs.Parts.{PartsOf};
-ghost use Rattle.xh_calls.specs.Several.{TakesAny};
 ghost use Rattle.xh_core.specs.declared.refused.Refused.TheVariants as refused;
 ghost use Rattle.xh_heap.specs.Handles.{Acts, HandleOf};
 ghost use Rattle.xh_kernel.specs.Accounts.{AccountOf};
+ghost use Rattle.xh_kernel.specs.Did.{DidAlloc, DidClose, DidFree, DidGive, DidRead, DidSplit, DidTake, DidTakeAny, DidWrite};
 ghost use Rattle.xh_kernel.specs.Endings.{Exits, Kills};
-ghost use Rattle.xh_kernel.specs.Histories.{DidCall};
 ghost use Rattle.xh_kernel.specs.Lends.{LendsAll, LendsAllMut};
-ghost use Rattle.xh_kernel.specs.Waits.{AtLast, IsLastGive, SpawnsAt, no_room};
+ghost use Rattle.xh_kernel.specs.Waits.{AtLast, SpawnsAt, no_room};
 ghost use Rattle.xh_kernel.specs.Wires.{OpensBoth, Wires};
 ghost use Rattle.xh_model.specs.declared.limits.TheConstants.{MAX_BUDGET};
-ghost use Rattle.xh_model.specs.Words.{place_of};
 
 use std::sync::Wait;
 use std::time::{Clock, Instant};
@@ -43,18 +38,18 @@ pub trait Process: Drop {
     /// The runtime, for a loop without an end (`for _ in own.rt().forever()`) and for the time (`Instant::now`).
     fn rt(&self) -> Self::Runtime;
 
-    /// Its number, 0 to 4,095: its place, and 32 for each process that had the place before.
+    /// Its number, 0 to 65,503: its place, and 32 for each process that had the place before.
     fn number(&self) -> u16
         ensures { result ≡ (handle self.now).number };
 
     /// A new process, by a handle of its own. NoPlace where 33 handles are there, or each of the 32 places has a process that runs
-    /// or is ending, or had its 128.
+    /// or is ending, or had its 2,047.
     fn spawn(&self) -> Result<Self, Refused>
-        ensures { IfOk result (λ p. (before : AccountOf) × SpawnsAt leads before (handle p).account (Ok (handle p).number)) };
+        ensures { IfOk result (λ p. (before : AccountOf) × SpawnsAt parts leads before (handle p).account (Ok (handle p).number)) };
 
     /// A block of `n` bytes of arena 0, as `alloc_in`.
     fn alloc(&mut self, n: u32) -> Result<Block, Refused>
-        ensures { Acts (λ p. DidCall parts leads p (call.Alloc p n 0 result)) (handle self.old) (handle self.new) }
+        ensures { Acts (λ p. DidAlloc parts leads p n 0 result) (handle self.old) (handle self.new) }
     {
         self.alloc_in(0, n)
     }
@@ -64,27 +59,27 @@ pub trait Process: Drop {
     /// NoArena; BadSize where `n` is 0 or more than an arena has; NoRecord where each record of the arena is taken; OutOfMemory
     /// where a growth was refused; NoSpace where no hole holds so many; Worn where the arena handed out what it ever may.
     fn alloc_in(&mut self, arena: u32, n: u32) -> Result<Block, Refused>
-        ensures { Acts (λ p. DidCall parts leads p (call.Alloc p n arena result)) (handle self.old) (handle self.new) };
+        ensures { Acts (λ p. DidAlloc parts leads p n arena result) (handle self.old) (handle self.new) };
 
     /// Cuts a block after its first `k` bytes: the head, which keeps its record, and the tail.
     ///
     /// NotOwned; NotData of an endpoint; BadCut where `k` is 0, no multiple of 16, or not less than the block has; NoRecord;
     /// OutOfMemory.
     fn split(&mut self, block: u16, k: u32) -> Result<(Block, Block), Refused>
-        ensures { Acts (λ p. DidCall parts leads p (call.Split p block k result)) (handle self.old) (handle self.new) };
+        ensures { Acts (λ p. DidSplit leads p block k result) (handle self.old) (handle self.new) };
 
     /// The bytes of a block from `at` on, as many as `out` has.
     ///
     /// NotOwned; NotData; BadRange where they reach past its end. `out` stays as it was then.
     fn read(&mut self, block: u16, at: u32, out: &mut [u8]) -> Result<(), Refused>
-        ensures call { Acts (λ p. DidCall parts leads p (call.Read p block at out.new result)) (handle self.old) (handle self.new) }
+        ensures call { Acts (λ p. DidRead leads p block at out.new result) (handle self.old) (handle self.new) }
         ensures refused { OnErr result (out.new ≡ out.old) };
 
     /// These bytes stand in a block from `at` on, in place of as many.
     ///
     /// NotOwned; NotData; BadRange where they reach past its end.
     fn write(&mut self, block: u16, at: u32, bytes: &[u8]) -> Result<(), Refused>
-        ensures { Acts (λ p. DidCall parts leads p (call.Write p block at bytes.now result)) (handle self.old) (handle self.new) };
+        ensures { Acts (λ p. DidWrite leads p block at bytes.now result) (handle self.old) (handle self.new) };
 
     /// One call of `f` at a block's bytes, all of them, where they lie: what `f` answers. It is called under the lock of the
     /// process's place, so it must not call the heap.
@@ -92,7 +87,7 @@ pub trait Process: Drop {
     /// NotOwned; NotData. `f` isn't called then.
     fn with_bytes<A, F: FnMut(&[u8]) -> A>(&mut self, block: u16, f: F) -> Result<A, Refused>
         requires { F.IsAlwaysCallable f }
-        ensures { Acts (λ p old new. (after : F) × LendsAll parts leads F.FnMut p block f after old new result) (handle self.old) (handle self.new) };
+        ensures { Acts (λ p old new. (after : F) × LendsAll leads F.FnMut p block f after old new result) (handle self.old) (handle self.new) };
 
     /// As `with_bytes`; `f` may change the bytes.
     fn with_bytes_mut<A, F: FnMut(&mut [u8]) -> A>(
@@ -101,11 +96,11 @@ pub trait Process: Drop {
         f: F,
     ) -> Result<A, Refused>
         requires { F.IsAlwaysCallable f }
-        ensures { Acts (λ p old new. (after : F) × LendsAllMut parts leads F.FnMut p block f after old new result) (handle self.old) (handle self.new) };
+        ensures { Acts (λ p old new. (after : F) × LendsAllMut leads F.FnMut p block f after old new result) (handle self.old) (handle self.new) };
 
     /// A block's bytes go back, and its record is free. It answers how many bytes. NotOwned; NotData.
     fn free(&mut self, block: u16) -> Result<u32, Refused>
-        ensures { Acts (λ p. DidCall parts leads p (call.Free p block result)) (handle self.old) (handle self.new) };
+        ensures { Acts (λ p. DidFree leads p block result) (handle self.old) (handle self.new) };
 
     /// Both ends of a new channel: side 0 and side 1, each a block of 32 bytes of arena 0.
     ///
@@ -148,14 +143,13 @@ pub trait Process: Drop {
     /// Protocol where the contract doesn't allow the message, PeerClosed, and Full where as many wait as may: these three name the
     /// blocks that came back.
     fn give(&mut self, end: u16, tag: u16, blocks: &[u16]) -> Result<u64, Refused>
-        ensures { Acts (λ p. DidCall parts leads p (call.Give p end tag blocks.now result)) (handle self.old) (handle self.new) };
+        ensures { Acts (λ p. DidGive leads p end tag blocks.now result) (handle self.old) (handle self.new) };
 
     /// As `give`; where as many messages wait as may, it waits until the peer takes, without a lock, and gives again. It is refused
-    /// Full only with fewer blocks than were given, or where the direction has carried its last message, 2^62 - 1.
+    /// Full only with fewer blocks than were given. In a direction that has carried its last message, 2^62 - 1, it waits on.
     fn give_wait(&mut self, end: u16, tag: u16, blocks: &[u16]) -> Result<u64, Refused>
-        ensures call { Acts (λ p. AtLast leads (place_of p) (call.Give p end tag blocks.now) (λ answer from to. Gives (status_at p from.place) end tag blocks.now from to answer) (no_room blocks.now) result)
-            (handle self.old) (handle self.new) }
-        ensures waits { result ≡ no_room blocks.now → Acts (λ p _ new. IsLastGive leads p end tag blocks.now result new) (handle self.old) (handle self.new) };
+        ensures call { Acts (λ p. AtLast (DidGive leads p end tag blocks.now) (no_room blocks.now) result) (handle self.old) (handle self.new) }
+        ensures waits { result ≢ no_room blocks.now };
 
     /// As `give_wait`; once the time is past, or the clock can't be read, it is refused Full.
     fn give_wait_until(
@@ -165,44 +159,41 @@ pub trait Process: Drop {
         blocks: &[u16],
         deadline: Instant,
     ) -> Result<u64, Refused>
-        ensures { Acts (λ p. AtLast leads (place_of p) (call.Give p end tag blocks.now) (λ answer from to. Gives (status_at p from.place) end tag blocks.now from to answer) (no_room blocks.now) result)
-            (handle self.old) (handle self.new) };
+        ensures { Acts (λ p. AtLast (DidGive leads p end tag blocks.now) (no_room blocks.now) result) (handle self.old) (handle self.new) };
 
     /// Takes the message that waits longest at an endpoint. Its blocks are this process's.
     ///
     /// NotOwned; NotEndpoint; where no message waits, PeerClosed where the peer is closed, and else Empty.
     fn take(&mut self, end: u16) -> Result<Taken, Refused>
-        ensures { Acts (λ p. DidCall parts leads p (call.Take p end result)) (handle self.old) (handle self.new) };
+        ensures { Acts (λ p. DidTake leads p end result) (handle self.old) (handle self.new) };
 
     /// As `take`; where no message waits and the peer is open, it waits, without a lock.
     fn take_wait(&mut self, end: u16) -> Result<Taken, Refused>
-        ensures call { Acts (λ p. AtLast leads (place_of p) (call.Take p end) (λ answer from to. TakesAt (status_at p from.place) end from to answer) (Err refused.Empty) result) (handle self.old) (handle self.new) }
+        ensures call { Acts (λ p. AtLast (DidTake leads p end) (Err refused.Empty) result) (handle self.old) (handle self.new) }
         ensures waits { IfErr result (λ why. why ≢ refused.Empty) };
 
     /// As `take_wait`; once the time is past, or the clock can't be read, it is refused Empty.
     fn take_wait_until(&mut self, end: u16, deadline: Instant) -> Result<Taken, Refused>
-        ensures { Acts (λ p. AtLast leads (place_of p) (call.Take p end) (λ answer from to. TakesAt (status_at p from.place) end from to answer) (Err refused.Empty) result) (handle self.old) (handle self.new) };
+        ensures { Acts (λ p. AtLast (DidTake leads p end) (Err refused.Empty) result) (handle self.old) (handle self.new) };
 
     /// Looks at up to 64 endpoints in their order, and takes at the first that has a message: its index, and what `take` answers
     /// there. Where none has one, PeerClosed at the first whose peer is closed.
     ///
     /// TooMany; NotOwned and NotEndpoint of the first that is; Twice; Empty where no message waits and no peer is closed.
     fn take_any(&mut self, ends: &[u16]) -> Result<Answered, Refused>
-        ensures call { Acts (λ p. DidCall parts leads p (call.TakeAny p ends.now result)) (handle self.old) (handle self.new) }
+        ensures call { Acts (λ p. DidTakeAny leads p ends.now result) (handle self.old) (handle self.new) }
         ensures at { IfOk result (λ a. a.at < length ends.now) };
 
     /// As `take_any`; where no message waits and no peer is closed, it waits, without a lock. It is refused Empty of no endpoints
     /// alone.
     fn take_any_wait(&mut self, ends: &[u16]) -> Result<Answered, Refused>
-        ensures call { Acts (λ p. AtLast leads (place_of p) (call.TakeAny p ends.now) (λ answer from to. TakesAny p ends.now from to answer) (Err refused.Empty) result)
-            (handle self.old) (handle self.new) }
+        ensures call { Acts (λ p. AtLast (DidTakeAny leads p ends.now) (Err refused.Empty) result) (handle self.old) (handle self.new) }
         ensures waits { IfErr result (λ why. why ≡ refused.Empty → ends.now ≡ []) }
         ensures at { IfOk result (λ a. a.at < length ends.now) };
 
     /// As `take_any_wait`; once the time is past, or the clock can't be read, it is refused Empty.
     fn take_any_wait_until(&mut self, ends: &[u16], deadline: Instant) -> Result<Answered, Refused>
-        ensures call { Acts (λ p. AtLast leads (place_of p) (call.TakeAny p ends.now) (λ answer from to. TakesAny p ends.now from to answer) (Err refused.Empty) result)
-            (handle self.old) (handle self.new) }
+        ensures call { Acts (λ p. AtLast (DidTakeAny leads p ends.now) (Err refused.Empty) result) (handle self.old) (handle self.new) }
         ensures at { IfOk result (λ a. a.at < length ends.now) };
 
     /// Closes an endpoint: it goes, and what was on its way to it. The peer may still take what was given by it. It answers the
@@ -210,7 +201,7 @@ pub trait Process: Drop {
     ///
     /// NotOwned; NotEndpoint; Unfinished where blocks that came with it are left: so many.
     fn close(&mut self, end: u16) -> Result<u64, Refused>
-        ensures { Acts (λ p old new. (bytes : ℕ) × DidCall parts leads p (call.Close p end bytes result) old new) (handle self.old) (handle self.new) };
+        ensures { Acts (λ p. DidClose leads p end result) (handle self.old) (handle self.new) };
 
     /// The process ends: its blocks are reclaimed, and what was on its way to its endpoints. What it gave stays on its way. It
     /// answers the bytes reclaimed.

@@ -8,7 +8,7 @@ ghost use Rattle.xh_calls.specs.Parts.{AreMadeBy, PartsOf};
 ghost use Rattle.xh_core.specs.Flight.{AreFlightLines};
 ghost use Rattle.xh_history.specs.Histories.{LookOf};
 ghost use Rattle.xh_kernel.specs.Accounts.{AccountOf};
-ghost use Rattle.xh_model.specs.declared.limits.TheConstants.{MAX_WORKERS};
+ghost use Rattle.xh_model.specs.declared.limits.TheConstants.{GENERATIONS, MAX_WORKERS};
 
 use crate::closed::Closed;
 use crate::handle::{Handle, Spares};
@@ -23,7 +23,7 @@ use xh_core::{Config, Refused};
 use xh_kernel::{Account, Kernel, Names, Parts};
 use xh_model::limits::{MAX_RECORDS, MAX_WEAR, MAX_WORKERS, PLACES};
 
-/// One arena of so many bytes, a multiple of 16 up to 1,048,576, for 256 blocks; 4 messages wait in a direction, and the arena
+/// One arena of so many bytes, a multiple of 16 up to 2^27, for 256 blocks; 4 messages wait in a direction, and the arena
 /// hands out bytes without end.
 pub fn one_arena(bytes: u32) -> Config {
     Config {
@@ -50,8 +50,7 @@ fn hire<'a, 'k, N: Names, R: Wait>(
     Ok(all)
 }
 
-// Starts a thread for each process. Where one can't be started the processes that are left end, and with them
-// the waits for them.
+// Starts a thread for each process, and lets them work if all were started.
 fn start_all<
     's,
     'k: 's,
@@ -61,48 +60,77 @@ fn start_all<
     J: Job + Sync,
 >(
     scope: &Scope<'s, E>,
-    alloc: Global,
+    rt: &'s R,
+    started: &'s Mutex<bool>,
     job: &'s J,
     plan: &'s J::Plan,
     all: Vec<Handle<'s, 'k, N, R>>,
-) -> Result<Vec<JoinHandle<J::Answer>>, AllocError> {
-    let mut handles = Vec::with_capacity(alloc, all.len())?;
+    threads: &mut Vec<JoinHandle<Option<J::Answer>>>,
+) -> Result<(), AllocError> {
+    let mut all_started = started.lock(rt);
     for (index, own) in all.into_iter().enumerate() {
-        handles.push(scope.spawn(move || {
+        threads.push(scope.spawn(move || {
             let mut own = own;
-            job.work(plan, index, &mut own)
+            if *started.lock(rt) {
+                Some(job.work(plan, index, &mut own))
+            } else {
+                None
+            }
         })?)?;
     }
-    Ok(handles)
+    *all_started = true;
+    Ok(())
 }
 
-// What the workers answered.
+// What the workers answered, where all of them worked. There is room for it.
 fn join_all<R: Threads, A: Drop>(
     rt: &R,
     mut answers: Vec<A>,
-    handles: Vec<JoinHandle<A>>,
+    threads: Vec<JoinHandle<Option<A>>>,
 ) -> Result<Vec<A>, AllocError> {
-    for handle in handles {
-        answers.push(handle.join(rt))?;
+    let mut refused = Ok(());
+    for thread in threads {
+        match thread.join(rt) {
+            Some(answer) => answers.push(answer)?,
+            None => refused = Err(AllocError),
+        }
     }
+    refused?;
     Ok(answers)
 }
 
-// The work of all processes.
-fn work_all<'s, 'k: 's, N: Names + Send + Sync, R: Threads + Wait + Clock + Sync, J: Job + Sync>(
+// The work of all processes, each in a thread of the scope. None works where one can't be started.
+fn work_in<'s, 'k: 's, E, N: Names + Send + Sync, R: Threads + Wait + Clock + Sync, J: Job + Sync>(
+    scope: &Scope<'s, E>,
     rt: &'s R,
     alloc: Global,
+    started: &'s Mutex<bool>,
     job: &'s J,
     plan: &'s J::Plan,
     all: Vec<Handle<'s, 'k, N, R>>,
 ) -> Result<Vec<J::Answer>, AllocError> {
     let answers = Vec::with_capacity(alloc, all.len())?;
+    let mut threads = Vec::with_capacity(alloc, all.len())?;
+    let begun = start_all(scope, rt, started, job, plan, all, &mut threads);
+    let answers = join_all(rt, answers, threads);
+    begun?;
+    answers
+}
+
+// The work of all processes, in a scope of its own.
+fn work_all<'s, 'k: 's, N: Names + Send + Sync, R: Threads + Wait + Clock + Sync, J: Job + Sync>(
+    rt: &'s R,
+    alloc: Global,
+    started: &'s Mutex<bool>,
+    job: &'s J,
+    plan: &'s J::Plan,
+    all: Vec<Handle<'s, 'k, N, R>>,
+) -> Result<Vec<J::Answer>, AllocError> {
     thread::scope(
         thread::scope_env(),
         rt,
         |scope| -> Result<Vec<J::Answer>, AllocError> {
-            let handles = start_all(scope, alloc, job, plan, all)?;
-            join_all(rt, answers, handles)
+            work_in(scope, rt, alloc, started, job, plan, all)
         },
     )
 }
@@ -121,7 +149,8 @@ fn work_on<N: Names + Send + Sync, R: Threads + Wait + Clock + Sync, J: Job + Sy
         all: hire(rt, alloc, kernel, &spares, count)?,
     };
     let plan = job.plan(&mut team)?;
-    let answers = work_all(rt, alloc, job, &plan, team.all)?;
+    let started = Mutex::new(false);
+    let answers = work_all(rt, alloc, &started, job, &plan, team.all)?;
     Ok((plan, answers))
 }
 
@@ -153,7 +182,7 @@ fn run_named<N: Names + Send + Sync, R: Threads + Wait + Clock + Sync, J: Job + 
 /// Runs a job by so many processes, 1 to 32, on a heap of its own, and closes the books.
 ///
 /// BadSize where the configuration or the count is outside its limits, then what the plan was refused; OutOfMemory where a
-/// growth was refused or a thread could not be made.
+/// growth was refused, or a thread could not be made: no worker begins then.
 pub fn run<R: Threads + Wait + Clock + Sync, J: Job + Sync>(
     rt: &R,
     alloc: Global,
@@ -164,11 +193,12 @@ pub fn run<R: Threads + Wait + Clock + Sync, J: Job + Sync>(
     ensures balanced { IfOk result (λ c. IsBalanced c.books.ledger) }
     ensures lines { IfOk result (λ c. AreFlightLines c.books.ledger.flight c.books.flight.items) }
     ensures closed { IfOk result (λ c. (parts : PartsOf) × (accounts : List AccountOf) × (looks : List (LookOf Entry))
-        × AreMadeBy config MAX_WORKERS parts × AreClosed parts accounts looks c.books.ledger c.books.flight.items) }
+        × AreMadeBy config MAX_WORKERS GENERATIONS parts × AreClosed parts accounts looks c.books.ledger c.books.flight.items) }
 {
     if count == 0 || count > PLACES {
         return Err(Refused::BadSize);
     }
     let parts = Parts::new(alloc, config, MAX_WORKERS)?;
-    run_named::<Brand, R, J>(rt, alloc, parts, count, job)
+    let renewed = parts.with_all_numbers().with_channels_that_come_back(alloc);
+    run_named::<Brand, R, J>(rt, alloc, renewed, count, job)
 }

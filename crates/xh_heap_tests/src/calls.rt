@@ -85,7 +85,7 @@ fn rooms<P: Process>(one: &mut P, other: &mut P) -> Result<[u64; 8], Refused> {
 }
 
 /// By its contract side 0 gives messages of the tag 5.
-const FIVES: &[Row] = &[Row {
+pub const FIVES: &[Row] = &[Row {
     state: 0,
     tag: 5,
     side: 0,

@@ -1,7 +1,7 @@
 //! Whole runs: their limits, refused plans, handles that are dropped, and refused growths.
-use crate::calls::{code, tag_at, tag_of};
+use crate::calls::{FIVES, code, tag_at, tag_of};
 use std::process::Abort;
-use xh_heap::{Closed, Job, Process, Refused, Team, one_arena, run};
+use xh_heap::{Closed, Contract, Job, Process, Refused, Team, one_arena, run};
 
 /// The first of two waits for messages of the second, which gives two, and ends; the others do nothing.
 struct Waits;
@@ -44,6 +44,82 @@ fn a_dropped_handle_ends_its_process(rt: HostRuntime) {
     assert_eq!(rt; told(closed.answers.first()), [1, 2, 1015]);
     let text = format!(in rt.alloc(); "{closed}").expect(&rt, "room");
     assert_eq!(rt; text.as_str(), LEDGER);
+}
+
+/// The second gives the first a message under a contract, when it is planned; then each takes bytes by its number.
+struct Planned;
+
+impl Job for Planned {
+    type Plan = [u64; 4];
+
+    type Answer = (usize, u64);
+
+    fn plan<P: Process>(&self, team: &mut Team<P>) -> Result<[u64; 4], Refused> {
+        let (out, into) = team.wire_with(1, 0, Contract::new(FIVES)?)?;
+        Ok([
+            code(team.at(1)?.give(out.rec, 4, &[])),
+            code(team.at(1)?.give(out.rec, 5, &[])),
+            tag_of(team.at(0)?.take(into.rec)),
+            code(team.at(0)?.give(into.rec, 5, &[])),
+        ])
+    }
+
+    fn work<P: Process>(&self, _plan: &[u64; 4], index: usize, own: &mut P) -> (usize, u64) {
+        let size = u32::from(own.number()).wrapping_mul(16).wrapping_add(16);
+        (index, code(own.alloc(size).map(|b| u64::from(b.len))))
+    }
+}
+
+/// A plan finds each process by its index, and its contract holds. Each work is done once, by the process of its index: beside
+/// the channel's 64 bytes they take 16, 32 and 48.
+#[test]
+fn each_does_its_work_once(rt: HostRuntime) {
+    const ARENA: &str = "arena 0 1024 0 1 160 160\n";
+    let closed = run(&rt, rt.alloc(), one_arena(1024), 3, &Planned).expect(&rt, "room");
+    assert_eq!(rt; closed.plan, [1022, 1, 5, 1022]);
+    assert_eq!(rt;
+        closed.answers.as_slice(),
+        [(0, 16), (1, 32), (2, 48)].as_slice()
+    );
+    let text = format!(in rt.alloc(); "{closed}").expect(&rt, "room");
+    assert!(rt; text.as_str().starts_with(ARENA));
+}
+
+/// The first two wait for each other until the third kills the first.
+struct Locked;
+
+impl Job for Locked {
+    type Plan = [u16; 3];
+
+    type Answer = u64;
+
+    fn plan<P: Process>(&self, team: &mut Team<P>) -> Result<[u16; 3], Refused> {
+        let (one, other) = team.wire(0, 1)?;
+        Ok([one.rec, other.rec, team.at(0)?.number()])
+    }
+
+    fn work<P: Process>(&self, plan: &[u16; 3], index: usize, own: &mut P) -> u64 {
+        let [one, other, first] = *plan;
+        match index {
+            0 => tag_of(own.take_wait(one)),
+            1 => tag_of(own.take_wait(other)),
+            _ => code(own.kill(first)),
+        }
+    }
+}
+
+/// A run of which a thread is refused begins no work, and says so. The gate refuses each in turn.
+#[test]
+fn threads_of_a_run(rt: HostRuntime) {
+    match run(&rt, rt.alloc(), one_arena(1024), 3, &Locked) {
+        Ok(closed) => {
+            assert_eq!(rt; closed.answers.as_slice(), [1012, 1015, 32].as_slice());
+        }
+        Err(refused) => {
+            assert_eq!(rt; refused.name(), "OutOfMemory");
+            let _ = println!(rt; "{refused}");
+        }
+    }
 }
 
 /// What a run is refused, by the bytes of its arena and the count of its processes. With one process the plan finds no

@@ -2,7 +2,6 @@
 //! and the other counts its words.
 #![tactic(auto)]
 
-use std::io;
 use xh_heap::{Job, Process, Refused, Team, block_of, one_arena, run};
 
 struct Count;
@@ -31,9 +30,8 @@ impl Job for Count {
     }
 }
 
-fn main(rt: HostRuntime) -> io::Result<()> {
-    match run(&rt, rt.alloc(), one_arena(65_536), 2, &Count) {
-        Ok(closed) => println!(rt; "words {:?}\n{closed}", closed.answers),
-        Err(refused) => println!(rt; "{refused}"),
-    }
+fn main(rt: HostRuntime) -> anyhow::Result<()> {
+    let closed = run(&rt, rt.alloc(), one_arena(65_536), 2, &Count)?;
+    println!(rt; "words {:?}\n{closed}", closed.answers)?;
+    Ok(())
 }

@@ -95,7 +95,7 @@ module _ {E : Type 0} (shows : ℕ → ℕ → E → Type 0) where
 
   -- A step after which a seat has seen the history of a place to its end, to which more came, or nothing. Nothing came where another seat writes the place, and no call of a worker whom another serves.
   extends : {S : Type 0} (s : State S (View E)) (told : IsKept shows s) (id word : ℕ) (me : Me S (View E)) (p m : ℕ) (mine new more : History E) → get_elem? s.views id ≡ some me.0
-      → word ≡ stride * p → p < PLACES → p < length me.0.fronts → new ≡ told.0 p ++ more → Shown shows p new m → ((q : ℕ) → Writes me.0 q → mine ≡ but told.0 p new q)
+      → word ≡ stride * suc p → p < PLACES → p < length me.0.fronts → new ≡ told.0 p ++ more → Shown shows p new m → ((q : ℕ) → Writes me.0 q → mine ≡ but told.0 p new q)
       → ((j : ℕ) (u : View E) → j ≢ id → Fits told.0 told.1 told.2 j u → (Writes u p → more ≡ []) × ((k : ℕ) → Serves u k → calls_of k more ≡ []))
       → IsKept shows (stepped s word m id me.1 (record me.0 { history = mine; fronts = slice_set me.0.fronts p new }) keeps)
   extends s told id word me p m mine new more here aligned inside long longer shown whole apart =
@@ -122,13 +122,13 @@ module _ {E : Type 0} (shows : ℕ → ℕ → E → Type 0) where
             (subst (HasSeen k (at u.fronts p)) (sym longer) (sees_more k (at u.fronts p) (h p) more (g.seen k sv p) (t.1 k sv))) (λ q _. g.seen k sv q);
         server = g.server;
       } in
-      let last = at_each (λ q x. q < PLACES → Shown shows q x (get_or (set s.words word m) (stride * q) 0)) h p new
+      let last = at_each (λ q x. q < PLACES → Shown shows q x (get_or (set s.words word m) (stride * suc q) 0)) h p new
       (λ _. subst (λ (i : ℕ). Shown shows p new (get_or (set s.words word m) i 0)) aligned (subst (Shown shows p new) (sym (get_or-set_same s.words word m 0 (omega (arith, told.3.0, aligned, inside)))) shown))
-      (λ q ne below. subst (Shown shows q (h q)) (sym (get_or-set_other s.words word (stride * q) m 0 (λ e. ne (omega (arith, e, aligned))))) (told.3.1 q below)) in
+      (λ q ne below. subst (Shown shows q (h q)) (sym (get_or-set_other s.words word (stride * suc q) m 0 (λ e. ne (omega (arith, e, aligned))))) (told.3.1 q below)) in
       (h', told.1, told.2, (length-set s.words word m ∙ told.3.0, last), set_each (Fits h' told.1 told.2) s.views id w own other)
 
   -- a step by which the worker's calls come to the history of the place, whose word is kept or becomes another, and shows the last of them
-  pub adds : {S : Type 0} (slots id word : ℕ) (f : ℕ → ℕ) (me : Me S (View E)) (es : List E) → word ≡ stride * me.0.place → me.0.places_end ≡ suc me.0.place → me.0.workers_end ≡ suc me.0.worker
+  pub adds : {S : Type 0} (slots id word : ℕ) (f : ℕ → ℕ) (me : Me S (View E)) (es : List E) → word ≡ stride * suc me.0.place → me.0.places_end ≡ suc me.0.place → me.0.workers_end ≡ suc me.0.worker
       → me.0.place < PLACES → length me.0.fronts ≡ PLACES
       → ((n : ℕ) → Shown shows me.0.place me.0.history n → Shown shows me.0.place (me.0.history ++ signed me.0.worker es) (f n))
       → Allows (IsKept shows) slots id me word f (λ n w. (w ≡ (with_calls es me.0, me.1)) × HasSeen me.0.worker (at me.0.fronts me.0.place) me.0.history)
@@ -156,7 +156,7 @@ module _ {E : Type 0} (shows : ℕ → ℕ → E → Type 0) where
       )
 
   -- a look at a place's word
-  pub looks : {S : Type 0} (slots id word : ℕ) (me : Me S (View E)) → word ≡ stride * place_of word → place_of word < PLACES → length me.0.fronts ≡ PLACES
+  pub looks : {S : Type 0} (slots id word : ℕ) (me : Me S (View E)) → word ≡ stride * suc (place_of word) → place_of word < PLACES → length me.0.fronts ≡ PLACES
       → Allows (IsKept shows) slots id me word (λ n. n) (Looked shows (step slots word 0 0 none) me)
   looks slots id word me aligned inside long s told len here fits =
       let v : View E = me.0 in
@@ -278,7 +278,7 @@ module _ {E : Type 0} (shows : ℕ → ℕ → E → Type 0) where
     λ p. [],
     λ p. 0,
     λ k. 0,
-    (refl, λ p below. get_or-replicate all_words (stride * p) 0 0 (omega (arith, below))),
+    (refl, λ p below. get_or-replicate all_words (stride * suc p) 0 0 (omega (arith, below))),
     push_each (Fits (λ p. []) (λ p. 0) (λ k. 0)) [] first_view (λ j u e. absurd (some-ne-none u (sym e))) record {
       whole = λ p st. refl;
       writer = λ p st. refl;

@@ -1,5 +1,5 @@
 //! The table of histories.
-ghost use Rattle.std.specs.Prelude.{◌≡◌, ◌<◌, ◌∷◌, [], ◌++◌, ◌+◌, ◌*◌, All, ℕ, IfOk, vec_len, slice_index_or, slice_set, unwrap_or};
+ghost use Rattle.std.specs.Prelude.{◌≡◌, ◌<◌, ◌∷◌, [], ◌++◌, ◌+◌, ◌*◌, All, ℕ, suc, IfOk, vec_len, slice_index_or, slice_set, unwrap_or};
 ghost use Rattle.xh_history.specs.Histories.{FrontOf, HasSeen, PenOf, Sees, Shown, StartsWith, at, fresh_front, fresh_look, fresh_pen};
 ghost use Rattle.xh_history.specs.inner.Views.{place_of, signed, stride, view_from};
 ghost use Rattle.xh_model.specs.declared.limits.TheConstants.{PLACES};
@@ -19,13 +19,13 @@ use xh_model::limits::PLACES;
 /// that store the words of their places don't wait for each other.
 const STRIDE: usize = 8;
 
-// The word of a place.
+// The word of a place. Word 0 is nobody's: each step that parts or joins seats reads it.
 fn word_at(place: u8) -> usize
     requires { place < PLACES }
-    ensures word { result ≡ stride * place }
+    ensures word { result ≡ stride * suc place }
     ensures place { place_of result ≡ place }
 {
-    usize::from(place) * STRIDE
+    (usize::from(place) + 1) * STRIDE
 }
 
 /// The one history of each place, and the word that shows its last call. Its calls are of a type of which no value
@@ -59,7 +59,7 @@ impl<E, S: Shows<E>> Histories<E, S> {
         ensures fronts { IfOk result (λ r. (vec_len r.2 ≡ workers) × ((k : ℕ) (d : FrontOf E) → k < workers → slice_index_or r.2.items k d ≡ fresh_front r.0 k)) }
         ensures looks { IfOk result (λ r. (vec_len r.3 ≡ looks) × All (λ l. l ≡ fresh_look r.0) r.3.items) }
     {
-        let (table, mut first) = Table::of_words(alloc, &[0; PLACES as usize * STRIDE], &())?;
+        let (table, mut first) = Table::of_words(alloc, &[0; (PLACES as usize + 1) * STRIDE], &())?;
         let mut lookers = Vec::with_capacity(alloc, usize::from(looks))?;
         for _ in 0..looks {
             let seat = table.shared.split_seat::<Onlooker>(&mut first);

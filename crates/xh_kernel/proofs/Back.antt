@@ -7,13 +7,13 @@ use Rattle.xh_place.proofs.Counted.{tallied}
 use Rattle.xh_place.specs.Tallies.{gave, ids_of}
 
 -- what a call did with the bytes that came back, it did with those that the account has more than before
-pub came_back : {account inside : AccountOf} {lent given new : List TallyOf} {P : ℕ → Type 0} (before : ℕ) → before ≡ back_of account.tallies → inside ≡ account → lent ≡ inside.tallies
-    → new ≡ given → (bytes : ℕ) × P bytes × HasGivenBack bytes lent given → P (back_of new - before) × HasGivenBack (back_of new - before) account.tallies new
-came_back {account} {inside} {lent} {given} {new} {P} before was view start end d =
-    let first : lent ≡ account.tallies = start ∙ ap (λ (a : AccountOf). a.tallies) view in
-    let sum : back_of new ≡ back_of account.tallies + d.0 = ap back_of end ∙ d.2.0 ∙ ap (λ (ts : List TallyOf). back_of ts + d.0) first in
-    let more : d.0 ≡ back_of new - before = omega (arith, sum, was) in
-    (subst P more d.1, (omega (arith, sum, was), ap but_back end ∙ d.2.1 ∙ ap but_back first))
+pub came_back : {account inside : AccountOf} {before lent given new : List TallyOf} {P : ℕ → Type 0} → before ≡ lent → inside ≡ account → lent ≡ inside.tallies
+    → new ≡ given → (bytes : ℕ) × P bytes × HasGivenBack bytes lent given → P (back_of new - back_of before) × HasGivenBack (back_of new - back_of before) account.tallies new
+came_back {account} {inside} {before} {lent} {given} {new} {P} was view start end d =
+    let first : lent ≡ account.tallies = start ∙ ap (λ (a : AccountOf). a.tallies) view in let sum : back_of new ≡ back_of lent + d.0 = ap back_of end ∙ d.2.0 in
+    let same : back_of before ≡ back_of lent = ap back_of was in let begun : back_of lent ≡ back_of account.tallies = ap back_of first in
+    let more : d.0 ≡ back_of new - back_of before = omega (arith, sum, same) in
+    (subst P more d.1, (omega (arith, sum, same, begun), ap but_back end ∙ d.2.1 ∙ ap but_back first))
 
 -- the bytes of a block came back, whose record is of an arena of these names
 pub given : {account inside : AccountOf} {lent out new : List TallyOf} (result : Result ℕ Refused) (arena : ℕ) (names : List TableId) → inside ≡ account → lent ≡ inside.tallies → new ≡ out

@@ -6,7 +6,6 @@ pub use Rattle.std.proofs.lemmas.List.Elements.{All-cons, All-tail}
 pub use Rattle.std.specs.Vec.Iter.{into_iter_items, into_iter_len}
 pub use Rattle.xh_arena.specs.Views.{TallyOf, VaultOf}
 pub use Rattle.xh_calls.proofs.Lists.{each_push, first_of, rest_of, there}
-pub use Rattle.xh_calls.proofs.Same.{stays_again, stays_itself}
 pub use Rattle.xh_calls.specs.Parts.{IsOpen, PartsOf}
 pub use Rattle.xh_calls.specs.inner.Making.{IsBundle}
 pub use Rattle.xh_core.specs.declared.glance.Glance.{Glance}
@@ -14,10 +13,11 @@ pub use Rattle.xh_core.specs.declared.refused.Refused.TheVariants.{Empty}
 pub use Rattle.xh_history.specs.Histories.{FrontOf, HasSeen, History, LookOf, PenOf, StartsWith, at, fresh_front, fresh_pen}
 pub use Rattle.xh_calls.specs.Leading.{Leading}
 pub use Rattle.xh_calls.specs.Places.{status_at}
-pub use Rattle.xh_calls.specs.Several.{TakesAny}
-pub use Rattle.xh_place.proofs.Seeing.{starts_same}
+pub use Rattle.xh_place.proofs.Events.{stays_again, stays_itself}
+pub use Rattle.xh_place.proofs.Seeing.{did_starts}
 pub use Rattle.xh_kernel.specs.Accounts.{AccountOf, AreFresh, IsUnmoved, seen_of}
 pub use Rattle.xh_kernel.specs.Calls.{Calls, Noted, Steps}
+pub use Rattle.xh_kernel.specs.Did.{DidGive, DidTake, DidTakeAny}
 pub use Rattle.xh_kernel.specs.Finished.{AreInOrder, AreSeen, LookHasSeen, histories_of, tallies_of}
 pub use Rattle.xh_kernel.specs.Histories.{Does, Goes, IsHistoryOf, IsLaw, IsUnowned, Leads}
 pub use Rattle.xh_kernel.specs.Kept.{AreKept, IsKeptPlace}
@@ -25,11 +25,10 @@ pub use Rattle.xh_kernel.specs.Places.{IsFound, last_glance, places_of}
 pub use Rattle.xh_kernel.specs.Waits.{Repeats, no_room}
 pub use Rattle.xh_calls.specs.declared.call.Call.{Call}
 pub use Rattle.xh_calls.specs.declared.call.Entry.{Entry}
-pub use Rattle.xh_calls.specs.declared.call.Call.TheVariants.{Close, CloseAgain, Give, Receive, Stop, Take, TakeAny}
+pub use Rattle.xh_calls.specs.declared.call.Call.TheVariants.{Close, CloseAgain, Receive, Stop, Take, TakeAny}
 pub use Rattle.xh_kernel.specs.inner.Making.{IsFirstSeat}
 pub use Rattle.xh_model.specs.declared.limits.TheConstants.{END_BYTES, PLACES}
 pub use Rattle.xh_place.specs.Ending.{HasGivenBack, back_of, but_back}
-pub use Rattle.xh_place.specs.Messages.{Gives, IsSpent, TakesAt}
 pub use Rattle.xh_place.specs.Places.{IsPlaceOf, glance_of, total_of}
 pub use Rattle.xh_place.specs.Seen.{IsSamePlace, PlaceSeen, Stays}
 pub use Rattle.std.proofs.Math.Logic.{∥∥₁_elim, ∥∥₁_map}

@@ -1,7 +1,7 @@
 -- A block's bytes in the hands of a function: the entries that tell of it.
-use Rattle.xh_kernel.proofs.Common.{AccountOf, Bool, Call, Does, Err, IsSamePlace, IsUnmoved, Leading, LendsAll, LendsAllMut, List, None, Noted, Ok, Option, PartsOf, PlaceSeen, Refused, Result, Some}
+use Rattle.xh_kernel.proofs.Common.{AccountOf, Bool, Call, Calls, Does, Err, IsSamePlace, IsUnmoved, Leading, LendsAll, LendsAllMut, List, None, Noted, Ok, Option, PartsOf, PlaceSeen, Refused, Result, Some}
 use Rattle.xh_kernel.proofs.Common.{Stays, Steps, [], ap, append-nil, arith, at, cond, drop, false, length, option_map, place_of, status_at, subst, sym, unwrap_or, ℕ, ◌++◌, ◌+◌, ◌∙◌, ◌∷◌, ◌≡◌, ◌≤◌}
-use Rattle.xh_kernel.proofs.Recorded.{so_too}
+use Rattle.xh_kernel.proofs.Recorded.{at_step}
 use Rattle.std.proofs.Common.{nat_lt}
 use Rattle.std.proofs.lemmas.Bool.Decides.{nat_tests}
 use Rattle.std.proofs.lemmas.List.{drop_all, take_all}
@@ -13,12 +13,12 @@ use Rattle.xh_core.specs.Refusing.{Tests, first_refusal}
 use Rattle.xh_core.specs.declared.header.Header.{Header}
 use Rattle.xh_core.specs.declared.refused.Refused.TheVariants.{BadRange}
 use Rattle.xh_kernel.specs.Calls.{Moves}
-use Rattle.xh_kernel.specs.Lends.{DidAll, IsNext}
 use Rattle.xh_model.proofs.Keyed.{put_at}
 use Rattle.xh_model.specs.Keyed.{put, value_at}
 use Rattle.xh_place.specs.Bodies.{bytes, patched}
 use Rattle.xh_place.specs.Calls.{HasBytes, Lends, LendsMut, Reads, Writes, bytes_in, made_of}
 use Rattle.xh_place.specs.Places.{Item, PlaceOf, found, header_of, with_blocks}
+use Rattle.xh_place.specs.Seen.{Did}
 
 -- the bytes of the block of a record; none of an endpoint, and none where there is no block
 abbrev pub bytes_at : ℕ → PlaceOf → List ℕ
@@ -31,7 +31,7 @@ read_of p r place (Err why) = Read p r 0 [] (Err why)
 
 abbrev pub write_of : {A : Type 0} → ℕ → ℕ → PlaceOf → Result A Refused → Call
 write_of p r place (Ok a) = Write p r 0 (bytes_at r place) (Ok tt)
-write_of p r place (Err why) = Read p r 0 [] (Err why)
+write_of p r place (Err why) = Write p r 0 [] (Err why)
 
 -- ---- the tests of a read of the whole block
 
@@ -61,11 +61,12 @@ all_over xs ys long =
     let none : drop (0 + length ys) xs ≡ [] = drop_all (0 + length ys) xs (omega arith) in
     let same : ys ≡ ys ++ drop (0 + length ys) xs = sym (ap (λ (z : List ℕ). ys ++ z) none ∙ append-nil ys) in (λ i. record { len = long i; content = bytes (same i) })
 
-is_write : (p r : ℕ) (old new : PlaceSeen) (xs ys : List ℕ) → IsSamePlace old new → HasBytes r old.place xs → length ys ≡ length xs
+is_write : (p r : ℕ) (old new : PlaceSeen) (xs ys : List ℕ) → IsSamePlace old new → Did old.place.process [] old.front new.front → HasBytes r old.place xs → length ys ≡ length xs
     → first_refusal (start (status_at p old.place) ++ range_tests (found old.place r) 0 0) ≡ None
     → new.place ≡ with_blocks old.place (put r (made_of ys) old.place.blocks) → Writes (status_at p old.place) r 0 ys old new (Ok tt)
-is_write p r old new xs ys same has long fine is = let le : length ys ≤ length xs = omega arith in record {
+is_write p r old new xs ys same quiet has long fine is = let le : length ys ≤ length xs = omega arith in record {
   place = same;
+  quiet = quiet;
   written = (
     passes (start (status_at p old.place)) xs (length ys) (found old.place r) (ap (option_map header_of) has) le fine,
     (made_of xs, has, is ∙ ap (λ (x : Item). with_blocks old.place (put r x old.place.blocks)) (all_over xs ys long)),
@@ -91,48 +92,41 @@ module _ {F A : Type 0} (g : Mut F (Bor (List ℕ) × Unit {0}) A) (parts : Part
   did_read (Err why) h = record { same = h.same; read = h.lent }
 
 module _ {F A : Type 0} (g : Mut F (MutBor (List ℕ) × Unit {0}) (A × (MutBor (List ℕ) × Unit {0}))) (parts : PartsOf) (p r : ℕ) (f f' : F) (old new : PlaceSeen) where
-  pub has_changed : (a : A) (shown : List ℕ) → HasBytes r old.place shown → LendsMut g (status_at p old.place) r f f' old new (Ok a)
-      → HasBytes r new.place (bytes_at r new.place) × CalledAtMut g f shown a f' (bytes_at r new.place)
-  has_changed a shown had h =
+  pub has_changed : (a : A) → LendsMut g (status_at p old.place) r f f' old new (Ok a)
+      → (shown : List ℕ) × HasBytes r old.place shown × HasBytes r new.place (bytes_at r new.place) × CalledAtMut g f shown a f' (bytes_at r new.place)
+  has_changed a h =
       let d = h.lent.1 in let now : HasBytes r new.place d.1 = has_left r old.place new.place d.0 d.1 d.2 d.5 in
       let left : d.1 ≡ bytes_at r new.place = sym (bytes_are r new.place d.1 now) in
-      let first : d.0 ≡ shown = sym (bytes_are r old.place d.0 d.2) ∙ bytes_are r old.place shown had in
-      let called : CalledAtMut g f shown a f' d.1 = subst (λ (zs : List ℕ). CalledAtMut g f zs a f' d.1) first d.3 in
-      (subst (HasBytes r new.place) left now, subst (λ (zs : List ℕ). CalledAtMut g f shown a f' zs) left called)
+      (d.0, d.2, subst (HasBytes r new.place) left now, subst (λ (zs : List ℕ). CalledAtMut g f d.0 a f' zs) left d.3)
 
   pub did_write : (result : Result A Refused) → LendsMut g (status_at p old.place) r f f' old new result → Does parts (write_of p r new.place result) old new
   did_write (Ok a) h =
       let d = h.lent.1 in let left : d.1 ≡ bytes_at r new.place = sym (bytes_are r new.place d.1 (has_left r old.place new.place d.0 d.1 d.2 d.5)) in
-      subst (λ (zs : List ℕ). Writes (status_at p old.place) r 0 zs old new (Ok tt)) left (is_write p r old new d.0 d.1 h.place d.2 d.4 h.lent.0 d.5)
-  did_write (Err why) h = record { same = (h.refused, h.place.3); read = h.lent }
+      subst (λ (zs : List ℕ). Writes (status_at p old.place) r 0 zs old new (Ok tt)) left (is_write p r old new d.0 d.1 h.place h.quiet d.2 d.4 h.lent.0 d.5)
+  did_write (Err why) h = record { place = h.place; quiet = h.quiet; written = h.lent; refused = h.refused }
 
 -- ---- what was noted, and what is so of the bytes
 
 module _ (parts : PartsOf) (leads : Leading) (p r : ℕ) where
-  -- the call was written down on the process's place, which was `now` after it
-  abbrev pub IsNoted : Call → PlaceSeen → AccountOf → AccountOf → Type 0
-  IsNoted e now_ from to =
-      Noted (place_of p) e from.number from.fronts to.fronts × IsUnmoved from to × Steps leads (place_of p) (at to.fronts (place_of p)) (λ old new. Does parts e old new × (new ≡ now_))
+  -- the call was written down on the process's place, which was `was` before it and `now` after it
+  abbrev pub IsNoted : Call → PlaceSeen → PlaceSeen → AccountOf → AccountOf → Type 0
+  IsNoted e was now_ from to =
+      Noted (place_of p) e from.number from.fronts to.fronts × IsUnmoved from to × Steps leads (place_of p) (at to.fronts (place_of p)) (λ old new. (old ≡ was) × (new ≡ now_))
 
-  has : {e : Call} {now_ : PlaceSeen} (from to : AccountOf) (xs : List ℕ) → IsNoted e now_ from to → Moves e from to → HasBytes r now_.place xs → DidAll parts leads p r xs e from to
-  has from to xs n moves here = ((n.0, moves), so_too leads _ _ _ _ (λ old new s. (s.0, subst (λ (q : PlaceSeen). HasBytes r q.place xs) (sym s.1) here)) n.2)
+  noted : {e : Call} {was now_ : PlaceSeen} (R : PlaceSeen → PlaceSeen → Type 0) (from to : AccountOf) → IsNoted e was now_ from to → Moves e from to → R was now_ → Calls leads (place_of p) e R from to
+  noted {e} {was} {now_} R from to n moves so = ((n.0, moves), at_step leads _ _ R was now_ so n.2)
 
   -- of the bytes that a function had
   pub lends : {F A : Type 0} (g : Mut F (Bor (List ℕ) × Unit {0}) A) (f f' : F) (old new : PlaceSeen) (from to : AccountOf) (result : Result A Refused)
-      → Lends g (status_at p old.place) r f f' old new result → IsNoted (read_of p r new.place result) new from to → LendsAll parts leads g p r f f' from to result
-  lends g f f' old new from to (Ok a) h n = let s = has_shown g parts p r f f' old new a h in (bytes_at r new.place, has from to (bytes_at r new.place) n n.1 s.0, s.1)
-  lends g f f' old new from to (Err why) h n = (((n.0, n.1), so_too leads _ _ _ _ (λ old new s. s.0) n.2), h.uncalled)
+      → Lends g (status_at p old.place) r f f' old new result → IsNoted (read_of p r new.place result) old new from to → LendsAll leads g p r f f' from to result
+  lends g f f' old new from to (Ok a) h n =
+      let s = has_shown g parts p r f f' old new a h in (bytes_at r new.place, noted _ from to n n.1 (did_read g parts p r f f' old new (Ok a) h, s.0), s.1)
+  lends g f f' old new from to (Err why) h n = (noted _ from to n n.1 (did_read g parts p r f f' old new (Err why) h), h.uncalled)
 
-  -- of the bytes that a function had, and of what one left
-  pub lends_mut : {F G A : Type 0} (read : Mut G (Bor (List ℕ) × Unit {0}) (Unit {0})) (write : Mut F (MutBor (List ℕ) × Unit {0}) (A × (MutBor (List ℕ) × Unit {0})))
-      (l l' : G) (f f' : F) (old was new : PlaceSeen) (from mid to : AccountOf) (answer : Result (Unit {0}) Refused) (result : Result A Refused)
-      → answer ≡ Ok tt → Lends read (status_at p old.place) r l l' old was answer → LendsMut write (status_at p was.place) r f f' was new result
-      → IsNoted (read_of p r was.place answer) was from mid → IsNoted (write_of p r new.place result) new mid to → IsNext (place_of p) (write_of p r new.place result) mid to
-      → LendsAllMut parts leads write p r f f' from to result
-  lends_mut read write l l' f f' old was new from mid to (Ok x) (Ok a) so had h first second next =
-      let xs : List ℕ = bytes_at r was.place in let ys : List ℕ = bytes_at r new.place in
-      let s = has_shown read parts p r l l' old was x had in let w = has_changed write parts p r f f' was new a xs s.0 h in
-      (mid, xs, ys, has from mid xs first first.1 s.0, w.1, has mid to ys second second.1 w.0, next)
-  lends_mut read write l l' f f' old was new from mid to (Ok x) (Err why) so had h first second next =
-      let fails : Some why ≡ None = sym h.lent ∙ ap (λ (q : PlaceOf). first_refusal (start (status_at p q) ++ range_tests (found q r) 0 0)) had.same.0 ∙ had.lent.0 in absurd (cc)
-  lends_mut read write l l' f f' old was new from mid to (Err why) result so had h first second next = absurd (cc)
+  -- of the bytes that a function had, and of what it left
+  pub lends_mut : {F A : Type 0} (g : Mut F (MutBor (List ℕ) × Unit {0}) (A × (MutBor (List ℕ) × Unit {0}))) (f f' : F) (old new : PlaceSeen) (from to : AccountOf) (result : Result A Refused)
+      → LendsMut g (status_at p old.place) r f f' old new result → IsNoted (write_of p r new.place result) old new from to → LendsAllMut leads g p r f f' from to result
+  lends_mut g f f' old new from to (Ok a) h n =
+      let s = has_changed g parts p r f f' old new a h in
+      (s.0, bytes_at r new.place, noted _ from to n n.1 (s.1, did_write g parts p r f f' old new (Ok a) h, s.2), s.3)
+  lends_mut g f f' old new from to (Err why) h n = (noted _ from to n n.1 (did_write g parts p r f f' old new (Err why) h), h.uncalled)

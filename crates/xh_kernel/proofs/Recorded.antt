@@ -1,11 +1,16 @@
 -- One more call of a history.
-use Rattle.xh_kernel.proofs.Common.{AccountOf, Call, Calls, Does, Entry, Glance, Goes, History, IsFound, IsHistoryOf, IsLaw, Leading, Leads, PartsOf, PlaceSeen, Refused, Repeats}
-use Rattle.xh_kernel.proofs.Common.{Result, Stays, Steps, [], glance_of, stays_again, stays_itself, subst, suc, ℕ, ∥∥₁_elim, ∥∥₁_map, ◌++◌, ◌<◌, ◌∷◌, ◌≡◌}
+use Rattle.xh_kernel.proofs.Common.{AccountOf, Call, Does, Entry, Glance, Goes, History, IsFound, IsHistoryOf, IsLaw, Leading, Leads, PartsOf, PlaceSeen, Refused, Repeats}
+use Rattle.xh_kernel.proofs.Common.{Result, Stays, Steps, [], glance_of, stays_again, stays_itself, subst, suc, sym, ℕ, ∥∥₁_elim, ∥∥₁_map, ◌++◌, ◌<◌, ◌∷◌, ◌≡◌}
 use Rattle.xh_records.specs.History.{StartsWith}
 
 -- what is more of the place before the last call and after it
 pub so_too : (leads : Leading) (k : ℕ) (h : History Entry) (R S : PlaceSeen → PlaceSeen → Type 0) → ((old new : PlaceSeen) → R old new → S old new) → Steps leads k h R → Steps leads k h S
 so_too leads k h R S f steps = ∥∥₁_map steps (λ s. (s.0, s.1, s.2, s.3, s.4, s.5, s.6, f s.2 s.3 s.7))
+
+-- what is so of the one place and the other, by a call from the one to the other
+pub at_step : (leads : Leading) (k : ℕ) (h : History Entry) (R : PlaceSeen → PlaceSeen → Type 0) (from to : PlaceSeen) → R from to → Steps leads k h (λ old new. (old ≡ from) × (new ≡ to)) → Steps leads k h R
+at_step leads k h R from to so steps =
+    so_too leads k h (λ old new. (old ≡ from) × (new ≡ to)) R (λ old new s. subst (λ (x : PlaceSeen × PlaceSeen). R x.0 x.1) (λ j. (sym s.0 j, sym s.1 j)) so) steps
 
 module _ (parts : PartsOf) where
   leads_on : (a b c : PlaceSeen) (h : History Entry) (e : ℕ × Entry) → Leads parts a h b → Goes parts e b c → Leads parts a (h ++ e ∷ []) c
@@ -35,10 +40,10 @@ module _ (parts : PartsOf) where
 -- ---- looks in vain
 
 -- the worker made the call as often as it was in vain
-abbrev pub InVain : Leading → ℕ → {A : Type 0} → (Result A Refused → Call) → (Result A Refused → PlaceSeen → PlaceSeen → Type 0) → Result A Refused → AccountOf → AccountOf → Type 0
-InVain leads k e R vain old new = (n : ℕ) × Repeats leads k (e vain) (R vain) n old new
+abbrev pub InVain : (AccountOf → AccountOf → Type 0) → AccountOf → AccountOf → Type 0
+InVain Did old new = (n : ℕ) × Repeats Did n old new
 
 -- one more
-pub in_vain : {A : Type 0} (leads : Leading) (k : ℕ) (e : Result A Refused → Call) (R : Result A Refused → PlaceSeen → PlaceSeen → Type 0) (vain answer : Result A Refused) (old mid new : AccountOf)
-    → answer ≡ vain → InVain leads k e R vain old mid → Calls leads k (e answer) (R answer) mid new → InVain leads k e R vain old new
-in_vain leads k e R vain answer old mid new same was now_ = (suc was.0, (mid, was.1, subst (λ a. Calls leads k (e a) (R a) mid new) same now_))
+pub in_vain : {A : Type 0} (Did : Result A Refused → AccountOf → AccountOf → Type 0) (vain answer : Result A Refused) (old mid new : AccountOf)
+    → answer ≡ vain → InVain (Did vain) old mid → Did answer mid new → InVain (Did vain) old new
+in_vain Did vain answer old mid new same was now_ = (suc was.0, (mid, was.1, subst (λ a. Did a mid new) same now_))

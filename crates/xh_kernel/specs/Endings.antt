@@ -16,7 +16,7 @@ Exits leads p budget old new result = (bytes : ℕ) × Calls leads (place_of p) 
 -- the worker looked whether the process runs; where it doesn't, the refusal is the answer, and nothing else was done
 abbrev pub LooksFirst : Leading → ℕ → AccountOf → AccountOf → {A : Type 0} → Result A Refused → (AccountOf → Type 0) → Type 0
 LooksFirst leads p old new result next = (mid : AccountOf) × (looked : Result (Unit {0}) Refused)
-    × Calls leads (place_of p) (call.Look p looked) (λ from to. Looks p from.place to.place looked) old mid
+    × Calls leads (place_of p) (call.Look p looked) (λ from to. Looks p from to looked) old mid
     × MatchResult looked (λ _. next mid) (λ why. (result ≡ Err why) × (new ≡ mid))
 
 abbrev pub Kills : Leading → ℕ → ℕ → ℕ → AccountOf → AccountOf → Result ℕ Refused → Type 0

@@ -12,13 +12,10 @@ use Rattle.xh_calls.specs.Wires.{ClosesAgain, OpensToward, ReceivesOr, toward_hi
 use Rattle.xh_calls.specs.declared.call.Call.{Call}
 use Rattle.xh_calls.specs.declared.call.Call.TheVariants as call
 use Rattle.xh_calls.specs.declared.call.Entry.{Entry}
-use Rattle.xh_kernel.specs.Accounts.{AccountOf}
-use Rattle.xh_kernel.specs.Calls.{Calls}
 use Rattle.xh_kernel.specs.Places.{IsFound}
-use Rattle.xh_model.specs.Words.{place_of}
 use Rattle.xh_place.specs.Calls.{Allocates, Closes, FreesBlock, Reads, Splits, Stops, Writes}
 use Rattle.xh_place.specs.Messages.{Gives, TakesAt}
-use Rattle.xh_place.specs.Places.{IsPlaceOf, PlaceOf, glance_of}
+use Rattle.xh_place.specs.Places.{IsPlaceOf, glance_of}
 use Rattle.xh_records.specs.History.{StartsWith}
 use Rattle.xh_place.specs.Seen.{PlaceSeen, Stays}
 
@@ -26,8 +23,8 @@ use Rattle.xh_place.specs.Seen.{PlaceSeen, Stays}
 
 -- what the call does to its place, and answers
 abbrev pub Does : PartsOf → Call → PlaceSeen → PlaceSeen → Type 0
-Does parts (call.Spawn result) old new = Spawns old.place new.place result
-Does parts (call.Look p result) old new = Looks p old.place new.place result
+Does parts (call.Spawn result) old new = Spawns parts.generations old new result
+Does parts (call.Look p result) old new = Looks p old new result
 Does parts (call.Alloc p n arena result) old new = Allocates (status_at p old.place) (space_of parts) n arena old new result
 Does parts (call.Split p r k result) old new = Splits (status_at p old.place) r k old new result
 Does parts (call.Read p r i shown result) old new = Reads (status_at p old.place) r i shown old new result
@@ -58,16 +55,17 @@ abbrev pub Leads : PartsOf → PlaceSeen → History Entry → PlaceSeen → Typ
 Leads parts old [] new = Stays old new
 Leads parts old (c ∷ cs) new = (from : PlaceSeen) × (mid : PlaceSeen) × Stays old from × Goes parts c from mid × Leads parts mid cs new
 
--- the place k, while nobody has had it
-pub record IsUnowned (parts : PartsOf) (k : ℕ) (p : PlaceOf) : Type 0 where
-  pub own : IsPlaceOf parts.records p
-  pub process : p.process ≡ k
-  pub state : p.state ≡ Vacant
-  pub blocks : p.blocks ≡ []
+-- the place k, while nobody has had it: it has done nothing, and has seen nothing
+pub record IsUnowned (parts : PartsOf) (k : ℕ) (p : PlaceSeen) : Type 0 where
+  pub own : IsPlaceOf parts.records p.place
+  pub process : p.place.process ≡ k
+  pub state : p.place.state ≡ Vacant
+  pub blocks : p.place.blocks ≡ []
+  pub front : p.front ≡ []
 
 -- the law of histories: the calls of the place k lead to the place from the one that nobody has had, each by what such a call does and answers
 abbrev pub LeadsToPlace : PartsOf → Leading
-LeadsToPlace parts k h place = (first : PlaceSeen) × IsUnowned parts k first.place × Leads parts first h place
+LeadsToPlace parts k h place = (first : PlaceSeen) × IsUnowned parts k first × Leads parts first h place
 
 abbrev pub IsHistoryOf : PartsOf → Leading
 IsHistoryOf parts k h place = ∥ LeadsToPlace parts k h place ∥₁
@@ -75,9 +73,3 @@ IsHistoryOf parts k h place = ∥ LeadsToPlace parts k h place ∥₁
 -- histories lead where the law says, and nowhere else
 abbrev pub IsLaw : PartsOf → Leading → Type 0
 IsLaw parts leads = (k : ℕ) (h : History Entry) (place : PlaceSeen) → (IsHistoryOf parts k h place → ∥ leads k h place ∥₁) × (∥ leads k h place ∥₁ → IsHistoryOf parts k h place)
-
--- ---- a call, by its own line of the table above
-
--- the worker made the call on the process's place, and it did there what such a call does
-abbrev pub DidCall : PartsOf → Leading → ℕ → Call → AccountOf → AccountOf → Type 0
-DidCall parts leads p e = Calls leads (place_of p) e (Does parts e)

@@ -3,6 +3,7 @@ pub mod Accounts
 pub mod Places
 pub mod Histories
 pub mod Calls
+pub mod Did
 pub mod Lends
 pub mod Kept
 pub mod Looks

@@ -11,7 +11,7 @@ use Rattle.xh_place.specs.Places.{AreBlocks, IsPlaceOf, PlaceOf, glance_of}
 use Rattle.xh_place.specs.Seen.{PlaceSeen}
 use Rattle.xh_calls.specs.Parts.{PartsOf}
 
--- its process is one of 128 there, each record stands once in its list, each block is whole, and it has none where its process is over
+-- its process is one of those there can be there, each record stands once in its list, each block is whole, and it has none where its process is over
 pub record IsSoundPlace (p : PlaceOf) : Type 0 where
   pub process : generation_of p.process < GENERATIONS
   pub blocks : AreBlocks p.blocks

@@ -1,5 +1,5 @@
 //! The locks of the places, and the calls.
-ghost use Rattle.std.specs.Prelude.{◌≡◌, ◌<◌, ◌≤◌, [], All, IfErr, IfOk, MatchResult, vec_len};
+ghost use Rattle.std.specs.Prelude.{◌≡◌, ◌<◌, ◌≤◌, All, IfErr, IfOk, MatchResult, vec_len};
 ghost use Rattle.std.specs.Sync.Mutex.{mutex_guard_value};
 ghost use Rattle.xh_calls.specs.inner.Making.{AreBundles};
 ghost use Rattle.xh_calls.specs.Calls.{Spawns};
@@ -10,7 +10,7 @@ ghost use Rattle.xh_calls.specs.declared.call.Call.TheVariants.{Spawn};
 ghost use Rattle.xh_kernel.specs.Finished.{WereSeen, tallies_of};
 ghost use Rattle.xh_kernel.specs.Calls.{Calls};
 ghost use Rattle.xh_kernel.specs.Histories.{IsLaw};
-ghost use Rattle.xh_kernel.specs.inner.Making.{AreFirstSeats, ArePens, AreUnseen};
+ghost use Rattle.xh_kernel.specs.inner.Making.{AreFirstSeats, ArePens, AreUnseen, IsFirstSeat};
 ghost use Rattle.xh_kernel.specs.Kept.{AreKept};
 ghost use Rattle.xh_kernel.specs.Looks.{HasGlanced};
 ghost use Rattle.xh_kernel.specs.Places.{places_of};
@@ -18,7 +18,6 @@ ghost use Rattle.xh_kernel.specs.Waits.{SpawnsAt};
 ghost use Rattle.xh_model.specs.declared.limits.TheConstants.{MAX_ARENAS, PLACES};
 ghost use Rattle.xh_model.specs.Words.{place_of};
 ghost use Rattle.xh_place.specs.Places.{IsPlaceOf};
-ghost use Rattle.xh_records.specs.Seats.{IsSeatOf};
 
 mod blocks;
 mod channels;
@@ -74,7 +73,7 @@ fn lock_place<N: Names>(
     pen: Pen<Entry>,
 ) -> Result<CachePadded<Mutex<Held<N>>>, Refused>
     requires records { records.now ≡ N.parts.records }
-    requires seat { IsSeatOf N.parts.records seat × (seat.lots ≡ []) × (seat.process < PLACES) }
+    requires seat { IsFirstSeat N.parts.records seat.process seat × (seat.process < PLACES) }
     requires history { pen ≡ fresh_pen N.parts.histories seat.process }
     ensures { IfErr result (λ e. e ≡ Refused.OutOfMemory) }
 {
@@ -179,6 +178,7 @@ impl<N: Names> Kernel<N> {
             records,
             channels: parts.channels,
             arenas: Arenas::new(parts.vaults, parts.config.bytes, histories, pens),
+            generations: parts.generations,
         };
         let histories = parts.histories;
         let shared = Shared { heap, histories };
@@ -201,15 +201,15 @@ impl<N: Names> Kernel<N> {
     }
 
     /// A process runs from now on at the lowest place that was found without one: nobody has had the place,
-    /// or its process has ended and was not the 128th. It answers the process's number, the place and 32
-    /// times the generation. NoPlace where none was found.
+    /// or its process has ended and the place may be used again (128 times, or 2,047, as its parts say). It answers
+    /// the process's number, the place and 32 times the generation. NoPlace where none was found.
     pub fn spawn<R: Wait, G: Gate>(
         &self,
         rt: &R,
         account: &mut Account<N>,
         _gate: &G,
     ) -> Result<u16, Refused>
-        ensures calls { SpawnsAt N.leads account.old account.new result }
+        ensures calls { SpawnsAt N.parts N.leads account.old account.new result }
         ensures none { IfErr result (λ e. e ≡ Refused.NoPlace) }
     {
         for number in 0..PLACES {
@@ -223,7 +223,7 @@ impl<N: Names> Kernel<N> {
     // The next process of the place runs, where one can start there: its number.
     fn spawn_at<R: Wait>(&self, rt: &R, number: u8, account: &mut Account<N>) -> Option<u16>
         requires { number < PLACES }
-        ensures { Calls N.leads number (Spawn result) (λ old new. Spawns old.place new.place result) account.old account.new }
+        ensures { Calls N.leads number (Spawn result) (λ old new. Spawns N.parts.generations old new result) account.old account.new }
     {
         let mut guard = self.held(rt, u16::from(number));
         let held: &mut Held<N> = &mut guard;

@@ -9,6 +9,7 @@ mod looking;
 mod parts;
 mod scribe;
 mod shared;
+mod until;
 mod words;
 
 pub use account::Account;

@@ -1,17 +1,13 @@
 //! Looks for a message and for room, and where a process waits.
 ghost use Rattle.std.specs.Prelude.{◌≡◌, ◌≢◌, ◌<◌, [], Err, IfErr, MatchBool, MatchOption, None, false, true};
 ghost use Rattle.xh_calls.specs.Places.{status_at};
-ghost use Rattle.xh_calls.specs.Several.{TakesAny};
-ghost use Rattle.xh_calls.specs.declared.call.Call.TheVariants.{Give, Take, TakeAny};
 ghost use Rattle.xh_core.specs.Calls.{start};
 ghost use Rattle.xh_core.specs.Headers.{has_end};
 ghost use Rattle.xh_core.specs.Refusing.{first_refusal};
-ghost use Rattle.xh_history.specs.Histories.{at};
-ghost use Rattle.xh_kernel.specs.Calls.{Calls, Steps};
-ghost use Rattle.xh_kernel.specs.Waits.{IsLastGive, no_room};
+ghost use Rattle.xh_kernel.specs.Did.{DidGive, DidTake, DidTakeAny};
+ghost use Rattle.xh_kernel.specs.Waits.{no_room};
 ghost use Rattle.xh_model.specs.Words.{place_of};
 ghost use Rattle.xh_model.specs.declared.limits.TheConstants.{PLACES};
-ghost use Rattle.xh_place.specs.Messages.{Gives, IsSpent, TakesAt};
 ghost use Rattle.xh_place.specs.Places.{found};
 
 use crate::account::Account;
@@ -90,7 +86,7 @@ impl<N: Names> Held<N> {
         gate: &G,
     ) -> Result<Taken, Refused>
         requires { self.old.scribe.pen.number ≡ place_of p }
-        ensures call { Calls N.leads (place_of p) (Take p e result) (λ old new. TakesAt (status_at p old.place) e old new result) account.old account.new }
+        ensures call { DidTake N.leads p e result account.old account.new }
         ensures empty { IfErr result (λ why. why ≡ Refused.Empty → (first_refusal (start (status_at p self.old.place.place)) ≡ None) × (has_end (found self.old.place.place e) ≡ true)) }
     {
         let answer = shared.heap.take(rt, &mut self.place, p, e, gate);
@@ -131,7 +127,7 @@ impl<N: Names> Held<N> {
         gate: &G,
     ) -> (Result<Taken, Refused>, Option<(Spot, u64)>)
         requires { self.old.scribe.pen.number ≡ place_of p }
-        ensures call { Calls N.leads (place_of p) (Take p e result.0) (λ old new. TakesAt (status_at p old.place) e old new result.0) account.old account.new }
+        ensures call { DidTake N.leads p e result.0 account.old account.new }
         ensures vain { MatchOption result.1 (IfErr result.0 (λ why. why ≢ Refused.Empty)) (λ _. result.0 ≡ Err Refused.Empty) }
     {
         let turn = self.turn_at(rt, shared, p, e);
@@ -157,7 +153,7 @@ impl<N: Names> Held<N> {
         gate: &G,
     ) -> Result<Answered, Refused>
         requires { self.old.scribe.pen.number ≡ place_of p }
-        ensures call { Calls N.leads (place_of p) (TakeAny p ends.now result) (λ old new. TakesAny p ends.now old new result) account.old account.new }
+        ensures call { DidTakeAny N.leads p ends.now result account.old account.new }
         ensures empty { IfErr result (λ why. why ≡ Refused.Empty → first_refusal (start (status_at p self.old.place.place)) ≡ None) }
     {
         let answer = shared.heap.take_any(rt, &mut self.place, p, ends, gate);
@@ -198,7 +194,7 @@ impl<N: Names> Held<N> {
         gate: &G,
     ) -> (Result<Answered, Refused>, Option<u64>)
         requires { self.old.scribe.pen.number ≡ place_of p }
-        ensures call { Calls N.leads (place_of p) (TakeAny p ends.now result.0) (λ old new. TakesAny p ends.now old new result.0) account.old account.new }
+        ensures call { DidTakeAny N.leads p ends.now result.0 account.old account.new }
         ensures vain { MatchOption result.1 (IfErr result.0 (λ why. why ≡ Refused.Empty → ends.now ≡ [])) (λ _. result.0 ≡ Err Refused.Empty) }
     {
         let bell = self.listen(rt, shared, p, ends);
@@ -211,24 +207,6 @@ impl<N: Names> Held<N> {
         }
         self.waits.bell = true;
         (answer, Some(seen))
-    }
-
-    // Whether a give is to be tried again: there was no room, all blocks came back, and the endpoint hasn't sent its last message.
-    fn is_to_wait(
-        &mut self,
-        shared: &Shared<N>,
-        e: u16,
-        answer: &Result<u64, Refused>,
-        given: &[u16],
-    ) -> bool
-        ensures same { (self.new.place.place ≡ self.old.place.place) × (self.new.scribe ≡ self.old.scribe) }
-        ensures vain { result ≡ true → answer.now ≡ no_room given.now }
-        ensures spent { result ≡ false → answer.now ≡ no_room given.now → IsSpent e self.old.place.place }
-    {
-        if !is_in_vain(answer, given) {
-            return false;
-        }
-        !self.place.is_spent(&shared.heap.records, e)
     }
 
     // Blocks of the process, by the endpoint.
@@ -244,8 +222,7 @@ impl<N: Names> Held<N> {
         gate: &G,
     ) -> Result<u64, Refused>
         requires { self.old.scribe.pen.number ≡ place_of p }
-        ensures call { Calls N.leads (place_of p) (Give p e tag blocks.now result) (λ old new. Gives (status_at p old.place) e tag blocks.now old new result) account.old account.new }
-        ensures step { Steps N.leads (place_of p) (at account.new.fronts (place_of p)) (λ old new. Gives (status_at p old.place) e tag blocks.now old new result × (new ≡ self.new.place)) }
+        ensures { DidGive N.leads p e tag blocks.now result account.old account.new }
     {
         let heap = &shared.heap;
         let answer = heap.give(rt, &mut self.place, p, e, tag, blocks, gate);
@@ -284,12 +261,12 @@ impl<N: Names> Held<N> {
         gate: &G,
     ) -> (Result<u64, Refused>, Option<u64>)
         requires { self.old.scribe.pen.number ≡ place_of p }
-        ensures call { Calls N.leads (place_of p) (Give p e tag blocks.now result.0) (λ old new. Gives (status_at p old.place) e tag blocks.now old new result.0) account.old account.new }
-        ensures vain { MatchOption result.1 (result.0 ≡ no_room blocks.now → IsLastGive N.leads p e tag blocks.now result.0 account.new) (λ _. result.0 ≡ no_room blocks.now) }
+        ensures call { DidGive N.leads p e tag blocks.now result.0 account.old account.new }
+        ensures vain { MatchOption result.1 (result.0 ≢ no_room blocks.now) (λ _. result.0 ≡ no_room blocks.now) }
     {
         let bell = self.hear(rt, shared, p, e, asks);
         let answer = self.give(rt, shared, p, e, tag, blocks, account, gate);
-        if !self.is_to_wait(shared, e, &answer, blocks) {
+        if !is_in_vain(&answer, blocks) {
             self.wake(rt, shared);
             return (answer, None);
         }

@@ -16,13 +16,13 @@ const BLOCKS: u64 = 4;
 const BYTES: u64 = 16_384;
 
 /// The weight of the process's generation.
-const GENERATION: u64 = 281_474_976_710_656;
+const GENERATION: u64 = 9_007_199_254_740_992;
 
 /// A count of blocks is below this.
 const BLOCK_COUNTS: u64 = 4096;
 
 /// A sum of bytes is below this.
-const BYTE_SUMS: u64 = 17_179_869_184;
+const BYTE_SUMS: u64 = 549_755_813_888;
 
 /// The generation of a process, whose number has 16 bits, is below this.
 const GENERATIONS: u64 = 2048;

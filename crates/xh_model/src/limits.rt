@@ -7,7 +7,7 @@ pub const UNIT: u32 = 16;
 pub const MAX_ARENAS: u8 = 8;
 
 /// The bytes of an arena: a multiple of the unit, up to this many.
-pub const MAX_BYTES: u32 = 1_048_576;
+pub const MAX_BYTES: u32 = 134_217_728;
 
 /// The records of an arena: 1 to this many. A record's number is this times its arena's, and its
 /// index there.
@@ -24,12 +24,15 @@ pub const MAX_WEAR: u64 = 9_223_372_036_854_775_807;
 /// The places of processes.
 pub const PLACES: u8 = 32;
 
-/// How often a place can be used. A process's number is its place, and the places times its
-/// generation.
-pub const GENERATIONS: u16 = 128;
+/// How often a place can be used at most. A process's number is its place, and the places times
+/// its generation.
+pub const GENERATIONS: u16 = 2047;
+
+/// How often the serial machine uses a place, and a kernel that isn't told to use it more often.
+pub const USUAL_GENERATIONS: u16 = 128;
 
 /// The numbers of processes: those below this.
-pub const PROCESSES: u16 = 4096;
+pub const PROCESSES: u16 = 65_504;
 
 /// The channels of a machine.
 pub const CHANNELS: u8 = 64;

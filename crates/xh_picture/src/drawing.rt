@@ -17,11 +17,11 @@ pub(crate) const ROW: u64 = 18;
 /// Where the columns begin: the commands, the replies, the messages, and the arenas.
 pub(crate) const LEFT: u64 = 10;
 
-pub(crate) const REPLIES: u64 = 224;
+pub(crate) const REPLIES: u64 = 254;
 
-pub(crate) const MESSAGES: u64 = 354;
+pub(crate) const MESSAGES: u64 = 444;
 
-pub(crate) const ARENAS: u64 = 444;
+pub(crate) const ARENAS: u64 = 534;
 
 /// A picture in the making: where its next part begins, what is drawn, and where bytes stand.
 #[derive(Drop)]
@@ -211,14 +211,14 @@ impl<'a> Sheet<'a> {
         if matches!(answered.reply, Reply::No(_) | Reply::NotGiven(_)) {
             write!(
                 self.svg,
-                "<path class=\"no\" d=\"M0,{y}H{ARENAS}v{ROW}H0z\"/>"
+                "<path class=\"no\" d=\"M2,{y}H{MESSAGES}v{ROW}H2z\"/>"
             )?;
         }
-        write!(self.svg, "<path class=\"line\" d=\"M0,{y}H900\"/>\n")?;
+        write!(self.svg, "<path class=\"line\" d=\"M0,{y}H990\"/>\n")?;
         let y = y.saturating_add(13);
         let command = self.command(row);
-        words(&mut self.svg, LEFT, y, command, 32)?;
-        words(&mut self.svg, REPLIES, y, &reply_text(answered), 19)?;
+        words(&mut self.svg, LEFT, y, command, 36)?;
+        words(&mut self.svg, REPLIES, y, &reply_text(answered), 28)?;
         self.message(y, row, &answered.reply)
     }
 
@@ -284,7 +284,7 @@ fn document(alloc: Global, height: u64, drawn: &str) -> Result<String, AllocErro
     ensures { IfOk result (λ picture. IsPicture (string_bytes picture)) }
 {
     let size = format!(in alloc;
-        "xmlns=\"http://www.w3.org/2000/svg\" width=\"900\" height=\"{height}\"><path fill=\"#eee\" d=\"M0,0H900V{height}H0z\"/>\n"
+        "xmlns=\"http://www.w3.org/2000/svg\" width=\"990\" height=\"{height}\"><path fill=\"#eee\" d=\"M0,0H990V{height}H0z\"/>\n"
     )?;
     let mut picture = String::from_str(alloc, "<svg ")?;
     picture.push_str(&size)?;

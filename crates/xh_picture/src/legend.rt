@@ -7,7 +7,7 @@ use std::alloc::AllocError;
 /// What the document begins with, behind its size.
 pub(crate) const STYLE: &str =
     "<style>text{font:11px monospace;fill:#222}.s text{font-size:9px}.title text{font-weight:bold}\
-.hole{fill:#fff}.no{fill:#f9c4c9}.end{fill:#d4d4d4;stroke-width:2}.held{stroke:#555;stroke-width:.5}.name text{stroke:#fff;stroke-width:2;stroke-opacity:.7;paint-order:stroke}.flight{fill:url(#hatch);stroke:#555}\
+.hole{fill:#fff}.no{fill:none;stroke:#222;stroke-dasharray:3,2}.end{fill:#d4d4d4;stroke-width:2}.held{stroke:#555;stroke-width:.5}.name text{stroke:#fff;stroke-width:2;stroke-opacity:.7;paint-order:stroke}.flight{fill:url(#hatch);stroke:#555}\
 .line{stroke:#000;stroke-opacity:.12}.arrow{stroke:#111;stroke-width:1.5;marker-end:url(#head)}</style>\
 <defs><pattern id=\"hatch\" width=\"6\" height=\"6\" patternUnits=\"userSpaceOnUse\" patternTransform=\"rotate(45)\">\
 <path fill=\"#fff\" d=\"M0,0h6v6h-6z\"/><path fill=\"#999\" d=\"M0,0h2v6h-2z\"/></pattern>\
@@ -21,7 +21,7 @@ const SIGNS: &str =
 <path class=\"arrow\" d=\"M660,6h12\"/><text x=\"682\" y=\"10\">message, to where it goes</text>\
 <path class=\"no\" d=\"M0,18h14v12h-14z\"/><text x=\"22\" y=\"28\">refused command</text>\
 <text x=\"220\" y=\"28\">&#8594;1 message 1 is given</text><text x=\"440\" y=\"28\">&#8592;1 message 1 is taken</text>\
-<path class=\"line\" d=\"M660,22v6\"/><g class=\"s\"><text x=\"660\" y=\"28\">16</text></g><text x=\"682\" y=\"28\">byte 16 of an arena</text></g>\n";
+<path class=\"line\" d=\"M660,22v6\"/><g class=\"s\"><text x=\"660\" y=\"28\">16</text></g><text x=\"682\" y=\"28\">byte 16 of an arena; widths are not to scale</text></g>\n";
 
 /// The first comment of a script, three lines of it at most.
 pub(crate) fn title_of<'a>(lines: &[&'a [u8]]) -> ArrayVec<&'a [u8], 3> {

@@ -14,16 +14,14 @@ mod stage;
 mod supervisor;
 
 use crate::pipeline::{Pipeline, WORKERS};
-use std::io;
 use xh_heap::{Config, one_arena, run};
 
-fn main(rt: HostRuntime) -> io::Result<()> {
+fn main(rt: HostRuntime) -> anyhow::Result<()> {
     let config = Config {
         depth: 8,
         ..one_arena(1 << 20)
     };
-    match run(&rt, rt.alloc(), config, WORKERS, &Pipeline) {
-        Ok(closed) => println!(rt; "rounds {:?}\n{closed}", closed.answers),
-        Err(refused) => println!(rt; "{refused}"),
-    }
+    let closed = run(&rt, rt.alloc(), config, WORKERS, &Pipeline)?;
+    println!(rt; "rounds {:?}\n{closed}", closed.answers)?;
+    Ok(())
 }

@@ -1,7 +1,8 @@
 -- An endpoint that a call works on in its lot, and what follows of the channel's clauses.
-use Rattle.xh_place.proofs.Words.{rules, refl, Content, bytes, ◌≡◌, ℕ, List, true, sym, ap, ◌∙◌, subst, Some, LotOf, Status, END_BYTES, put, value_at, Shape, IsLotOf, Held, with_lots, EndpointOf, Body, End, content_of}
+use Rattle.xh_place.proofs.Words.{rules, refl, Content, bytes, ◌≡◌, ℕ, List, true, sym, ap, ◌∙◌, subst, Some, LotOf, Status, END_BYTES, put, value_at, Shape, IsLotOf, Held, with_lots}
+use Rattle.xh_place.proofs.Words.{EndpointOf, Body, End, content_of}
 use Rattle.xh_place.proofs.Words.{endpoint, fits_in, kind_of, IsEnd, LotDoes, bare, EndDoes, end_block, Item, PlaceOf, IsBlock, IsPlace, item_of, shown, with_blocks, Ok, Err, Result, IfErr}
-use Rattle.xh_place.proofs.Words.{MatchResult, Message, Refused, put_same, toward, Taken, EndpointShuts, Takes, IsTaken, IsUntaken, PlaceSeen}
+use Rattle.xh_place.proofs.Words.{MatchResult, Message, Refused, put_same, toward, Taken, EndpointShuts, Takes, IsTaken, IsUntaken, PlaceSeen, Did, []}
 use Rattle.xh_channel.specs.declared.refused.Refused.{Refused as NoMessage}
 use Rattle.xh_channel.specs.Refusals.{same_refusal}
 use Rattle.xh_core.specs.declared.refused.Refused.TheVariants.{Empty}
@@ -75,7 +76,8 @@ untaken_empty e old new t = go t.0 t.1 t.2 where
       ∙ ap (with_blocks old) (put_same e (end_block d.0) old.blocks d.2)
   go n d h = absurd (cc)
 
-pub empty_keeps : (e : ℕ) (old new : PlaceSeen) (result : Result Taken Refused) → MatchResult result (IsTaken e old new) (IsUntaken e old.place new.place)
+pub empty_keeps : (e : ℕ) (old new : PlaceSeen) (result : Result Taken Refused)
+    → MatchResult result (IsTaken e old new) (λ refused. IsUntaken e old.place new.place refused × Did old.place.process [] old.front new.front)
     → IfErr result (λ u. u ≡ Empty → new.place ≡ old.place)
 empty_keeps e old new (Ok t) is = tt
-empty_keeps e old new (Err u) is = λ h. untaken_empty e old.place new.place (subst (IsUntaken e old.place new.place) h is)
+empty_keeps e old new (Err u) is = λ h. untaken_empty e old.place new.place (subst (IsUntaken e old.place new.place) h is.0)

@@ -60,7 +60,7 @@ module _ {seat : Held Body} {xs : List (ℕ × Item)} {room total : ℕ} {state 
     distinct = is.distinct;
     whole = λ r x at. let f = has r x at in subst IsWhole f.same (f.block.full.0, fits_whole f.lot.body f.lot.len f.block.full.1);
     few = count_bound is;
-    sum = subst (λ (n : ℕ). n ≤ 2147483648) is.sum (total_bound is);
+    sum = subst (λ (n : ℕ). n ≤ 274877906944) is.sum (total_bound is);
   }
 
   pub lists : Lists seat xs

@@ -4,11 +4,11 @@ use Rattle.xh_place.proofs.Words.{without, last_at, last_put, last_without, IsLo
 use Rattle.xh_place.proofs.Words.{◌≢◌, ◌+◌, ⊎_elim}
 use Rattle.xh_place.proofs.Words.{append_assoc, refl, Status, among_either, keys_push, last_other, put_split, IsRecord, Item, with_blocks, item_at, item_of, shown, IsPlace, is_over}
 use Rattle.xh_place.specs.inner.Opening.{AreMade, HasTwoMore}
-use Rattle.xh_place.proofs.Words.{StartsWith, ◌/◌, Event, Claim, Vacate, HasLooked, HasLost, SawFull, SawTaken, SeatFull, SeatLetsGo, append-nil, did, with_done}
+use Rattle.xh_place.proofs.Words.{◌/◌, Acts, HasLooked, SawFull, SawTaken, SeatFull, SeatLetsGo, append-nil, claimed, vacated}
 use Rattle.xh_place.proofs.Steps.{IsNow, list_room, won}
-use Rattle.xh_place.proofs.Events.{did_none, did_twice, heard}
+use Rattle.xh_place.proofs.Events.{acts_of, acts_twice}
 use Rattle.xh_place.proofs.Found.{no_record}
-use Rattle.xh_place.proofs.Seeing.{advanced, full_wide}
+use Rattle.xh_place.proofs.Seeing.{did_starts, full_wide}
 
 module _ (seat new : Held Body) (r : ℕ) (l : LotOf Body) (is : HasNow seat (seat.lots ++ (r, l) ∷ []) new) (fresh : Among (keys seat.lots) r → ⊥) where
   pub has : value_at r new.lots ≡ Some l
@@ -21,28 +21,28 @@ module _ (seat new : Held Body) (r : ℕ) (l : LotOf Body) (is : HasNow seat (se
   pub lot_is : IsLotOf seat.shape r l → IsLotOf new.shape r l
   lot_is = subst (λ z. IsLotOf z r l) (sym (ap (λ (h : Held Body). h.shape) is))
 
-pub fits_bytes : (b : Body) (xs : List ℕ) (n : ℕ) → content_of b ≡ bytes xs → length xs ≡ n → 0 < n → n ≤ 1048576 → fits_in b n ≡ true
+pub fits_bytes : (b : Body) (xs : List ℕ) (n : ℕ) → content_of b ≡ bytes xs → length xs ≡ n → 0 < n → n ≤ 134217728 → fits_in b n ≡ true
 fits_bytes Nothing xs n e long some most = let same : [] ≡ xs = cc in let none : 0 ≡ n = ap length same ∙ long in absurd (omega arith)
 fits_bytes (Data v) xs n e long some most = let same : v.items ≡ xs = cc in let a : eqb (length v.items) n ≡ true = eq-eqb (length v.items) n (ap length same ∙ long) in
-    let b : nat_le n 1048576 ≡ true = search rules in let d : nat_lt 0 n ≡ true = search rules in (λ i. a i && (d i && b i))
+    let b : nat_le n 134217728 ≡ true = search rules in let d : nat_lt 0 n ≡ true = search rules in (λ i. a i && (d i && b i))
 fits_bytes (End p) xs n e long some most = absurd (cc)
 
 -- ---- a seat that let go again of what it claimed
 
 pub none_claimed : (arena : ℕ) (also : List ℕ → Type 0) (seat last : Held Body) → also [] → HasLooked seat last → SeatLetsGo also arena seat last
-none_claimed arena also seat last h looked = ([], h, (λ r a. absurd a), did_none seat last seat.lots (ap bare looked.0))
+none_claimed arena also seat last h looked = ([], h, (λ r a. absurd a), acts_of [] [] seat.lots seat last looked refl)
 
 pub one_gone : (arena : ℕ) (also : List ℕ → Type 0) (seat mid last : Held Body) (r : ℕ) (l : LotOf Body) → also (r ∷ []) → r / 256 ≡ arena
-    → HasNow (did (Claim seat.process r) seat) (seat.lots ++ (r, l) ∷ []) mid → (Among (keys seat.lots) r → ⊥) → HasNow (did (Vacate mid.process r) mid) (without r mid.lots) last
+    → Acts (claimed seat.process (r ∷ [])) (seat.lots ++ (r, l) ∷ []) seat mid → (Among (keys seat.lots) r → ⊥) → Acts (vacated mid.process r) (without r mid.lots) mid last
     → SeatLetsGo also arena seat last
 one_gone arena also seat mid last r l h near is fresh then =
-    let lots : without r mid.lots ≡ seat.lots = ap (λ (k : Held Body). without r k.lots) is ∙ last_without r l seat.lots fresh in
-    let whose : mid.process ≡ seat.process = ap (λ (k : Held Body). k.process) is in
-    let gone : HasNow (did (Vacate seat.process r) mid) seat.lots last = then ∙ (λ i. with_lots (bare (did (Vacate (whose i) r) mid)) (lots i)) in (
+    let lots : without r mid.lots ≡ seat.lots = ap (λ (k : Held Body). without r k.lots) is.0 ∙ last_without r l seat.lots fresh in
+    let whose : mid.process ≡ seat.process = ap (λ (k : Held Body). k.process) is.0 in
+    let gone : Acts (vacated seat.process r) seat.lots mid last = subst (λ (z : ℕ × List (ℕ × LotOf Body)). Acts (vacated z.0 r) z.1 mid last) (λ i. (whose i, lots i)) then in (
       r ∷ [],
       h,
       (λ q a. ⊎_elim (λ (e : q ≡ r). subst (λ (z : ℕ). z / 256 ≡ arena) (sym e) near) (λ z. absurd z) a),
-      did_twice seat mid last (Claim seat.process r ∷ []) (Vacate seat.process r ∷ []) (seat.lots ++ (r, l) ∷ []) seat.lots is gone,
+      acts_twice (claimed seat.process (r ∷ [])) (vacated seat.process r) (seat.lots ++ (r, l) ∷ []) seat.lots seat mid last is gone,
     )
 
 -- a claim found no record free, and the seat had claimed none in the call, or one, which it then let go of
@@ -53,16 +53,20 @@ full_now arena most words seat last taken looked = none_claimed arena
     (omega arith, subst (λ (ks : List ℕ). SawFull seat.process ks seat.shape seat.front last.front arena) (sym (append-nil (keys seat.lots))) (no_record arena words seat last taken)) looked
 
 pub full_after : (arena : ℕ) (words : List ℕ) (seat mid late last : Held Body) (r : ℕ) (l : LotOf Body) → r / 256 ≡ arena
-    → HasNow (did (Claim seat.process r) seat) (seat.lots ++ (r, l) ∷ []) mid → (Among (keys seat.lots) r → ⊥) → StartsWith mid.front seat.front
-    → SawTaken arena words mid late → HasLooked mid late → (v : LotOf Body) → HasLost (Vacate late.process r) v late last → SeatFull 1 seat last arena
-full_after arena words seat mid late last r l near is fresh before taken looked v lost =
+    → Acts (claimed seat.process (r ∷ [])) (seat.lots ++ (r, l) ∷ []) seat mid → (Among (keys seat.lots) r → ⊥)
+    → SawTaken arena words mid late → HasLooked mid late → Acts (vacated late.process r) (without r late.lots) late last → SeatFull 1 seat last arena
+full_after arena words seat mid late last r l near is fresh taken looked gone =
     let keyed : keys (seat.lots ++ (r, l) ∷ []) ≡ keys seat.lots ++ r ∷ [] = keys_push seat.lots (r, l) in
-    let found = subst (λ (z : Held Body). SawFull z.process (keys z.lots) z.shape mid.front late.front arena) is (no_record arena words mid late taken) in
+    let found = subst (λ (z : Held Body). SawFull z.process (keys z.lots) z.shape mid.front late.front arena) is.0 (no_record arena words mid late taken) in
     let held : List ℕ = keys seat.lots ++ r ∷ [] in
     let full = subst (λ (ks : List ℕ). SawFull seat.process ks seat.shape mid.front late.front arena) keyed found in
-    let wide = full_wide seat.process held held seat.shape mid.front late.front seat.front last.front arena (λ q a. a) before (advanced _ late last lost.1) full in
+    let before = did_starts seat.process (claimed seat.process (r ∷ [])) seat.front mid.front is.1 in
+    let after = did_starts late.process (vacated late.process r) late.front last.front gone.1 in
+    let wide = full_wide seat.process held held seat.shape mid.front late.front seat.front last.front arena (λ q a. a) before after full in
+    let all : Acts (vacated late.process r) (without r late.lots) mid last =
+    acts_twice [] (vacated late.process r) mid.lots (without r late.lots) mid late last (acts_of [] [] mid.lots mid late looked refl) gone in
     one_gone arena (λ claims. (length claims ≤ 1) × SawFull seat.process (keys seat.lots ++ claims) seat.shape seat.front last.front arena) seat mid last r l (omega arith, wide) near is fresh
-    (ap bare lost.0 ∙ ap (λ (h : Held Body). bare (did (Vacate h.process r) (with_lots h (without r h.lots)))) looked.0)
+    (subst (λ (h : Held Body). Acts (vacated h.process r) (without r h.lots) mid last) looked.0 all)
 
 -- ---- a seat, and a place, that gained two records at once
 
@@ -85,56 +89,46 @@ module _ (lots : List (ℕ × LotOf Body)) (r t : ℕ) (first : Among (keys lots
       ap (λ (z : List (ℕ × LotOf Body)). without r (without t z)) (sym (append_assoc lots ((r, l) ∷ []) ((t, m) ∷ [])))
       ∙ ap (without r) (last_without t m (lots ++ (r, l) ∷ []) (late l)) ∙ last_without r l lots first
 
--- the two claims
-abbrev pub two_claims : Held Body → ℕ → ℕ → List Event
-two_claims seat r t = Claim seat.process r ∷ Claim seat.process t ∷ []
-
 module _ {arena : ℕ} {old new : Held Body} {r t : ℕ} {l m : LotOf Body} (two : HasTwoMore arena old new r t l m) where
-  abbrev did_both : Held Body
-  did_both = with_done (two_claims old r t) old
-
-  pub then_other : HasNow (with_one did_both r l) ((with_one did_both r l).lots ++ (t, m) ∷ []) new
-  then_other = two.lots ∙ ap (with_lots (bare did_both)) (sym (append_assoc old.lots ((r, l) ∷ []) ((t, m) ∷ [])))
+  pub then_other : HasNow (with_one old r l) ((with_one old r l).lots ++ (t, m) ∷ []) new
+  then_other = two.lots.0 ∙ ap (with_lots (bare old)) (sym (append_assoc old.lots ((r, l) ∷ []) ((t, m) ∷ [])))
 
   pub other_fresh : Among (keys (with_one old r l).lots) t → ⊥
   other_fresh = late old.lots r t two.first_fresh two.second_fresh two.apart l
 
   -- what it has at both
   pub has_other : value_at t new.lots ≡ Some m
-  has_other = has (with_one did_both r l) new t m then_other other_fresh
+  has_other = has (with_one old r l) new t m then_other other_fresh
 
   pub has_first : value_at r new.lots ≡ Some l
   has_first = ap (λ (h : Held Body). value_at r h.lots) then_other ∙ last_other r t m (with_one old r l).lots (λ e. two.apart (sym e)) ∙ last_at r l old.lots two.first_fresh
 
   -- it let go of both
-  pub two_gone : (last : Held Body) (also : List ℕ → Type 0) → also (r ∷ t ∷ []) → HasNow (with_done (Vacate new.process t ∷ Vacate new.process r ∷ []) new) (without r (without t new.lots)) last
+  pub two_gone : (last : Held Body) (also : List ℕ → Type 0) → also (r ∷ t ∷ []) → Acts (vacated new.process t ++ vacated new.process r) (without r (without t new.lots)) new last
       → SeatLetsGo also arena old last
   two_gone last also h then =
       let lots : without r (without t new.lots) ≡ old.lots =
-      ap (λ (k : Held Body). without r (without t k.lots)) two.lots ∙ both_gone old.lots r t two.first_fresh two.second_fresh two.apart l m in
-      let whose : new.process ≡ old.process = ap (λ (k : Held Body). k.process) two.lots in
-      let gone : HasNow (with_done (Vacate old.process t ∷ Vacate old.process r ∷ []) new) old.lots last =
-      then ∙ (λ i. with_lots (bare (with_done (Vacate (whose i) t ∷ Vacate (whose i) r ∷ []) new)) (lots i)) in (
+      ap (λ (k : Held Body). without r (without t k.lots)) two.lots.0 ∙ both_gone old.lots r t two.first_fresh two.second_fresh two.apart l m in
+      let whose : new.process ≡ old.process = ap (λ (k : Held Body). k.process) two.lots.0 in
+      let gone : Acts (vacated old.process t ++ vacated old.process r) old.lots new last =
+      subst (λ (z : ℕ × List (ℕ × LotOf Body)). Acts (vacated z.0 t ++ vacated z.0 r) z.1 new last) (λ i. (whose i, lots i)) then in (
         r ∷ t ∷ [],
         h,
         (λ q a. ⊎_elim (λ (e : q ≡ r). subst (λ (z : ℕ). z / 256 ≡ arena) (sym e) two.first_arena)
             (λ b. ⊎_elim (λ (e : q ≡ t). subst (λ (z : ℕ). z / 256 ≡ arena) (sym e) two.second_arena) (λ z. absurd z) b) a),
-        did_twice old new last (two_claims old r t) (Vacate old.process t ∷ Vacate old.process r ∷ []) (old.lots ++ (r, l) ∷ (t, m) ∷ []) old.lots two.lots gone,
+        acts_twice (claimed old.process (r ∷ t ∷ [])) (vacated old.process t ++ vacated old.process r) (old.lots ++ (r, l) ∷ (t, m) ∷ []) old.lots old new last two.lots gone,
       )
 
 module _ {seat last : Held Body} (rs : List ℕ) {room total : ℕ} {state : Status} (is : IsPlace seat (shown seat.lots rs) room total state) (alive : is_over state ≡ true → ⊥)
     {arena r t : ℕ} {l m : LotOf Body} (made : AreMade arena seat last r t l m) where
-  abbrev claimed_both : Held Body
-  claimed_both = with_done (two_claims seat r t) seat
-
-  first_more : IsNow claimed_both rs state (with_one claimed_both r l) (rs ++ r ∷ []) room (total + l.len) (λ (es : List (ℕ × Item)). es ++ (r, item_of l) ∷ [])
-  first_more = won rs (heard (two_claims seat r t) is) (with_one claimed_both r l) made.two.first_fresh refl made.first alive refl refl refl
+  first_more : IsNow seat rs state (with_one seat r l) (rs ++ r ∷ []) room (total + l.len) (λ (es : List (ℕ × Item)). es ++ (r, item_of l) ∷ [])
+  first_more = won rs is (with_one seat r l) made.two.first_fresh refl made.first alive refl refl refl
 
   pub room_second : length (rs ++ r ∷ []) < room
   room_second = list_room (rs ++ r ∷ []) first_more.0 made.second (other_fresh made.two)
 
   pub opened : {ys : List ℕ} {room' n : ℕ} → ys ≡ (rs ++ r ∷ []) ++ t ∷ [] → room' ≡ room → n ≡ total + l.len + m.len
-      → IsNow claimed_both rs state last ys room' n (λ (es : List (ℕ × Item)). es ++ (r, item_of l) ∷ (t, item_of m) ∷ [])
+      → IsNow seat rs state last ys room' n (λ (es : List (ℕ × Item)). es ++ (r, item_of l) ∷ (t, item_of m) ∷ [])
   opened {ys} {room'} {n} items same sum =
       let second = won (rs ++ r ∷ []) first_more.0 last (other_fresh made.two) (then_other made.two) made.second alive items same refl in (
         subst (λ (z : ℕ). IsPlace last (shown last.lots ys) room' z state) (sym sum) second.0,
@@ -145,7 +139,7 @@ module _ {seat last : Held Body} (rs : List ℕ) {room total : ℕ} {state : Sta
   pub both_listed : (ys : List ℕ) {room' n : ℕ} → IsPlace last (shown last.lots ys) room' n state → {low high : Item} → item_of l ≡ low → item_of m ≡ high
       → (value_at r (shown last.lots ys) ≡ Some low) × IsRecord last.shape r × (value_at t (shown last.lots ys) ≡ Some high) × IsRecord last.shape t
   both_listed ys {room'} {n} is' {low} {high} first second =
-      let shape : seat.shape ≡ last.shape = sym (ap (λ (h : Held Body). h.shape) made.two.lots) in (
+      let shape : seat.shape ≡ last.shape = sym (ap (λ (h : Held Body). h.shape) made.two.lots.0) in (
         is'.same r ∙ ap item_at (has_first made.two) ∙ ap (λ (z : Item). Some z) first,
         subst (λ s. IsRecord s r) shape made.first.exists,
         is'.same t ∙ ap item_at (has_other made.two) ∙ ap (λ (z : Item). Some z) second,

@@ -2,20 +2,19 @@
 use Rattle.xh_place.proofs.Words.{dec_among, map-append, arith, eqb, eq-eqb, ◌≡◌, ℕ, Bool, true, false, ⊎_elim, List, [], ◌∷◌, refl, sym, ap, ◌∙◌, ◌==◌, ◌||◌, ◌&&◌, Option, Some, None, is_some}
 use Rattle.xh_place.proofs.Words.{nat_tests, list_all, list_any, first_refusal, Among, Distinct, value_at, given_tests, is_listed, Item, ◌≢◌, ◌+◌, ◌*◌, ◌≤◌, inl, inr, length, subst, cond, dite}
 use Rattle.xh_place.proofs.Words.{ℕ_discrete, LotOf, Status, is_over, keys, put, without, distinct_without, put_at, put_keys, put_other, without_at, without_other, Held, with_lots, HasNow, AreBack}
-use Rattle.xh_place.proofs.Words.{lens, less_all, Body, item_at, item_of, item_in, shown, total_of, with_blocks, IsBlock, IsPlace, settle, settled, length-append}
-use Rattle.xh_place.proofs.Words.{◌++◌, Event, Accept}
-use Rattle.xh_place.proofs.Words.{StartsWith, Pass, among_either, last_at, last_other, did, accepted_on, passed_on, SawAt, with_done, IsElsewhere, CameBack}
-use Rattle.xh_place.proofs.Words.{among_back, among_front}
-use Rattle.xh_place.proofs.Words.{ArePassed, Came}
+use Rattle.xh_place.proofs.Words.{lens, less_all, Body, item_at, item_of, item_in, shown, total_of, with_blocks, IsBlock, IsPlace, settle, settled, length-append, append-nil, append_assoc}
+use Rattle.xh_place.proofs.Words.{◌++◌, Acts, Did, Event, Accept, AreGot, Got, IsSeenAfter, IsSeenBy, Shape, map, place_of, record_of}
+use Rattle.xh_place.proofs.Words.{StartsWith, Pass, among_either, last_at, last_other, accepted_on, passed_on, SawAt, CameBack}
 use Rattle.xh_core.specs.Several.{has_twice}
 use Rattle.std.proofs.Math.Bool.{or-false}
 use Rattle.std.proofs.lemmas.List.Folds.{list_any-append}
 use Rattle.xh_place.proofs.Steps.{IsNow, is_now, quiet_alive, turned}
 use Rattle.xh_place.proofs.Listing.{keys_settled, lens_none, lens_same, shown_keys, total_put, total_without, lens_one, unequal}
-use Rattle.xh_place.proofs.Seeing.{arrived_wide, came_before, came_more, away_as, saw_later, starts_same}
-use Rattle.xh_place.specs.Seen.{Arrived}
-use Rattle.xh_place.proofs.Words.{alone, bare, carrying, map, picked, values}
-use Rattle.xh_place.proofs.Events.{moved_none, moved_twice, own_lots, picked_append, picked_one, picked_same}
+use Rattle.xh_place.proofs.Seeing.{all_got_as, arrived_wide, did_starts, got_both, saw_wide, split_at, starts_same}
+use Rattle.xh_place.specs.Seen.{Arrived, Sight, bears, brings}
+use Rattle.xh_place.specs.declared.got.Got.TheVariants.{Here, Missing}
+use Rattle.xh_records.specs.Deeds.{Deed}
+use Rattle.xh_place.proofs.Events.{acts_none, acts_twice, own_acts, shown_append, shown_same}
 
 neither : (a b : Bool) → (a || b) ≡ false → (a ≡ false) × (b ≡ false)
 neither true b e = absurd (cc)
@@ -132,16 +131,6 @@ any_of : (e : ℕ) (rs : List ℕ) → Among rs e → list_any (λ q. q == e) rs
 any_of e [] a = absurd a
 any_of e (r ∷ rs) a = grind (arith, nat_tests, any_of e rs)
 
--- those that came back, as blocks
-shown_items : (rs : List ℕ) (lots : List (ℕ × LotOf Body)) → ((r : ℕ) → Among rs r → (l : LotOf Body) × (value_at r lots ≡ Some l)) → map item_of (values (picked rs lots)) ≡ values (shown lots rs)
-shown_items [] lots has = refl
-shown_items (r ∷ rs) lots has = let h = has r (inl refl) in
-    ap (λ (o : Option (LotOf Body)). map item_of (values (alone r o ++ picked rs lots))) h.1 ∙ (λ i. item_in (sym h.1 i) ∷ shown_items rs lots (λ q a. has q (inr a)) i)
-
-pub back_items : (given back : List ℕ) (seat : Held Body) → AreBack given back seat → map item_of (values (picked back seat.lots)) ≡ values (shown seat.lots back)
-back_items given back seat came =
-    shown_items back seat.lots (λ r a. some_of (value_at r seat.lots) (sym (came.here r (came.only r a)) ∙ any_of r back a))
-
 -- After a give, whatever came back: each given record has what its seat has for it now, and its old place; all others are as they were.
 settled_place : (seat last : Held Body) (rs ys given back : List ℕ) (room cap total total' : ℕ) (state : Status) → (is_over state ≡ true → ⊥)
     → IsPlace seat (shown seat.lots rs) room total state → Distinct given → ((r : ℕ) → Among given r → (k : LotOf Body) × (value_at r seat.lots ≡ Some k))
@@ -196,26 +185,25 @@ module _ {seat last : Held Body} (rs : List ℕ) {ys given back : List ℕ} {roo
 
 -- of the given records those in `more` are to be passed on the direction, and the others, `gone`, were
 abbrev pub IsPassing : ℕ → List ℕ → List ℕ → List ℕ → Held Body → Held Body → Type 0
-IsPassing d given gone more old seat = HasNow (with_done (passed_on old.process d gone) (carrying (values (picked gone old.lots)) old)) seat.lots seat
+IsPassing d given gone more old seat = Acts (passed_on old.process d (shown old.lots gone)) seat.lots old seat
     × ((r : ℕ) → (Among more r → ⊥) → Among given r → value_at r seat.lots ≡ None)
     × ((r : ℕ) → Among more r → value_at r seat.lots ≡ value_at r old.lots)
     × ((r : ℕ) → (Among given r → ⊥) → value_at r seat.lots ≡ value_at r old.lots)
     × Distinct more
 
 pub passing : (d : ℕ) (given gone more : List ℕ) (r : ℕ) (l : LotOf Body) (old seat last : Held Body) → Among given r → IsPassing d given gone (r ∷ more) old seat → value_at r old.lots ≡ Some l
-    → HasNow (did (Pass seat.process r d) (carrying (l ∷ []) seat)) (without r seat.lots) last → IsPassing d given (gone ++ r ∷ []) more old last
+    → Acts (passed_on seat.process d ((r, item_of l) ∷ [])) (without r seat.lots) seat last → IsPassing d given (gone ++ r ∷ []) more old last
 passing d given gone more r l old seat last among is here new =
     let p : ℕ = old.process in
-    let whose : seat.process ≡ p = ap (λ (h : Held Body). h.process) is.0 in
-    let log : passed_on p d gone ++ Pass seat.process r d ∷ [] ≡ passed_on p d (gone ++ r ∷ []) =
-    (λ i. passed_on p d gone ++ Pass (whose i) r d ∷ []) ∙ sym (map-append (λ (z : ℕ). Pass p z d) gone (r ∷ [])) in
-    let lots : values (picked gone old.lots) ++ l ∷ [] ≡ values (picked (gone ++ r ∷ []) old.lots) =
-    ap (λ (z : List (LotOf Body)). values (picked gone old.lots) ++ z) (sym (picked_one r l old.lots here)) ∙ sym (picked_append gone (r ∷ []) old.lots) in
-    let at : (q : ℕ) → value_at q last.lots ≡ value_at q (without r seat.lots) = λ q. ap (λ (h : Held Body). value_at q h.lots) new in
+    let whose : seat.process ≡ p = ap (λ (h : Held Body). h.process) is.0.0 in
+    let log : passed_on p d (shown old.lots gone) ++ passed_on seat.process d ((r, item_of l) ∷ []) ≡ passed_on p d (shown old.lots (gone ++ r ∷ [])) =
+    (λ i. passed_on p d (shown old.lots gone) ++ (Pass (whose i) r d, item_in (sym here i)) ∷ [])
+    ∙ sym (map-append (λ (x : ℕ × Item). (Pass p x.0 d, x.1)) (shown old.lots gone) (shown old.lots (r ∷ []))) ∙ ap (passed_on p d) (sym (shown_append old.lots gone (r ∷ []))) in
+    let at : (q : ℕ) → value_at q last.lots ≡ value_at q (without r seat.lots) = λ q. ap (λ (h : Held Body). value_at q h.lots) new.0 in
     let other : (q : ℕ) → r ≢ q → value_at q last.lots ≡ value_at q seat.lots = λ q n. at q ∙ without_other q r seat.lots n in (
-      subst (λ (z : List Event × List (LotOf Body)). HasNow (with_done z.0 (carrying z.1 old)) last.lots last) (λ i. (log i, lots i))
-          (moved_twice old seat last (passed_on p d gone) (Pass seat.process r d ∷ []) (values (picked gone old.lots)) (l ∷ []) seat.lots last.lots is.0
-          (own_lots (did (Pass seat.process r d) (carrying (l ∷ []) seat)) last _ new)),
+      subst (λ (es : List (Event × Item)). Acts es last.lots old last) log (own_acts (passed_on p d (shown old.lots gone) ++ passed_on seat.process d ((r, item_of l) ∷ []))
+          (without r seat.lots) old last
+          (acts_twice (passed_on p d (shown old.lots gone)) (passed_on seat.process d ((r, item_of l) ∷ [])) seat.lots (without r seat.lots) old seat last is.0 new)),
       (λ q n a. dite (ℕ_discrete r q)
           (λ e. at q ∙ subst (λ (z : ℕ). value_at z (without r seat.lots) ≡ None) e (without_at r seat.lots))
           (λ o. other q o ∙ is.1 q (λ h. ⊎_elim (λ (e : q ≡ r). o (sym e)) n h) a)),
@@ -234,13 +222,14 @@ passed_bytes given more gone d r bytes n l old seat last once among is at new le
     ∙ sym (ap (value_at q) new)) in
     let here : (item_in (value_at r seat.lots)).len ≡ l.len = ap (λ (o : Option (LotOf Body)). (item_in o).len) (is.2 r (inl refl) ∙ at) in omega arith
 
--- of the given records those in `more` are still away; of the others those that came back are in the seat
-abbrev pub IsAccepting : ℕ → List ℕ → List ℕ → Held Body → Held Body → List ℕ → ℕ → Type 0
-IsAccepting d given more old seat back bytes = HasNow (with_done (accepted_on old.process d back) (carrying (values (picked back seat.lots)) old)) seat.lots seat
+-- Of the given records those in `more` are still away; the others, `gone`, were tried in this order, and what came of each is told. Those that came back are in the seat.
+abbrev pub IsAccepting : ℕ → List ℕ → List ℕ → List ℕ → Held Body → Held Body → List ℕ → ℕ → Type 0
+IsAccepting d gone given more old seat back bytes = Acts (accepted_on old.process d (shown seat.lots back)) seat.lots old seat
     × AreBack given back seat
     × ((r : ℕ) → Among more r → value_at r seat.lots ≡ None)
     × ((r : ℕ) → (Among given r → ⊥) → value_at r seat.lots ≡ value_at r old.lots)
     × Distinct more × (bytes ≡ lens given (λ q. value_at q seat.lots))
+    × ((gots : List Got) × (map record_of gots ≡ gone) × AreGot (IsSeenBy old seat) d (shown seat.lots back) gots)
 
 -- nothing of what went came back
 pub back_none : (given : List ℕ) (seat : Held Body) (back : List ℕ) → back ≡ [] → ((r : ℕ) → Among given r → value_at r seat.lots ≡ None) → AreBack given back seat
@@ -251,24 +240,40 @@ back_none given seat back new none = subst (λ (l : List ℕ). AreBack given l s
 })
 
 pub accepting_none : (d : ℕ) (given : List ℕ) (seat : Held Body) (back : List ℕ) → back ≡ [] → ((r : ℕ) → Among given r → value_at r seat.lots ≡ None) → Distinct given
-    → IsAccepting d given given seat seat back 0
-accepting_none d given seat back new none once = subst (λ (l : List ℕ). IsAccepting d given given seat seat l 0) (sym new) (
-  moved_none seat,
+    → IsAccepting d [] given given seat seat back 0
+accepting_none d given seat back new none once = subst (λ (l : List ℕ). IsAccepting d [] given given seat seat l 0) (sym new) (
+  acts_none seat.lots seat seat refl,
   back_none given seat [] refl none,
   none,
   (λ r n. refl),
   once,
   sym (lens_none given (λ q. value_at q seat.lots) none),
+  ([], refl, refl),
 )
 
-pub accepting : (d : ℕ) (given more : List ℕ) (r bytes n : ℕ) (old seat last : Held Body) (back new : List ℕ) → Distinct given → Among given r → IsAccepting d given (r ∷ more) old seat back bytes
-    → CameBack d r seat last back new n → IsAccepting d given more old last new (bytes + n)
-accepting d given more r bytes n old seat last back new once among is came = ⊎_elim
-    (λ h. let lots : last.lots ≡ seat.lots = ap (λ (k : Held Body). k.lots) h.1 in let shape : seat.shape ≡ last.shape = sym (ap (λ (k : Held Body). k.shape) h.1) in
+-- what was seen at a step of several
+seen_wide : (old seat next last : Held Body) → seat.shape ≡ old.shape → seat.process ≡ old.process → StartsWith seat.front old.front → StartsWith last.front next.front
+    → (r : ℕ) (s : Sight) → IsSeenBy seat next r s → IsSeenBy old last r s
+seen_wide old seat next last shape whose before after r (bears word) saw =
+    subst (λ (z : Shape). SawAt z old.front last.front r word) shape (saw_wide seat.shape seat.front next.front old.front last.front r word before after saw)
+seen_wide old seat next last shape whose before after r (brings d x) saw =
+    subst (λ (z : ℕ). Arrived z old.front last.front r d x) whose (arrived_wide seat.process seat.front next.front old.front last.front r d x before after saw)
+
+pub accepting : (d : ℕ) (gone given more : List ℕ) (r bytes n : ℕ) (old seat last : Held Body) (back new : List ℕ) → Distinct given → Among given r
+    → IsAccepting d gone given (r ∷ more) old seat back bytes → CameBack d r seat last back new n → IsAccepting d (gone ++ r ∷ []) given more old last new (bytes + n)
+accepting d gone given more r bytes n old seat last back new once among is came = ⊎_elim
+    (λ h. let lots : last.lots ≡ seat.lots = ap (λ (k : Held Body). k.lots) h.1.0 in let shape : seat.shape ≡ last.shape = sym (ap (λ (k : Held Body). k.shape) h.1.0) in
     let sum : bytes + n ≡ bytes = (let z : n ≡ 0 = h.2 in omega arith) in
-    subst (λ (z : List ℕ). IsAccepting d given more old last z (bytes + n)) (sym h.0) (
-      own_lots (with_done (accepted_on old.process d back) (carrying (values (picked back last.lots)) old)) last _
-          (h.1 ∙ is.0 ∙ ap (λ (ls : List (ℕ × LotOf Body)). bare (with_lots (with_done (accepted_on old.process d back) (carrying (values (picked back ls)) old)) seat.lots)) (sym lots)),
+    let log : accepted_on p d (shown seat.lots back) ++ [] ≡ accepted_on p d (shown last.lots back) =
+    append-nil (accepted_on p d (shown seat.lots back)) ∙ ap (λ (ls : List (ℕ × LotOf Body)). accepted_on p d (shown ls back)) (sym lots) in
+    let after = did_starts seat.process [] seat.front last.front h.1.1 in
+    let got : Got = Missing r h.3.0 in
+    let told : AreGot (IsSeenBy old last) d (shown last.lots back) (is.6.0 ++ got ∷ []) =
+    subst (λ (ys : List (ℕ × Item)). AreGot (IsSeenBy old last) d ys (is.6.0 ++ got ∷ [])) (append-nil (shown seat.lots back) ∙ ap (λ (ls : List (ℕ × LotOf Body)). shown ls back) (sym lots))
+    (got_both (IsSeenBy old last) d (shown seat.lots back) [] is.6.0 (got ∷ []) (before after) (h.3.1, step seat last after (bears h.3.0) h.3.2, refl)) in
+    subst (λ (z : List ℕ). IsAccepting d (gone ++ r ∷ []) given more old last z (bytes + n)) (sym h.0) (
+      own_acts (accepted_on p d (shown last.lots back)) seat.lots old last (subst (λ (es : List (Event × Item)). Acts es seat.lots old last) log
+          (acts_twice (accepted_on p d (shown seat.lots back)) [] seat.lots seat.lots old seat last is.0 h.1)),
       record {
         here = λ q a. is.1.here q a ∙ ap (λ (l : List (ℕ × LotOf Body)). is_some (value_at q l)) (sym lots);
         only = is.1.only;
@@ -278,28 +283,33 @@ accepting d given more r bytes n old seat last back new once among is came = ⊎
       (λ q o. ap (value_at q) lots ∙ is.3 q o),
       is.4.1,
       sum ∙ is.5 ∙ ap (λ (l : List (ℕ × LotOf Body)). lens given (λ q. value_at q l)) (sym lots),
+      (is.6.0 ++ got ∷ [], records got refl, told),
     ))
     (λ h. let l = h.0 in let none : value_at r seat.lots ≡ None = is.2 r (inl refl) in
-    let p : ℕ = old.process in let whose : seat.process ≡ p = ap (λ (k : Held Body). k.process) is.0 in
-    let log : accepted_on p d back ++ accepted_on seat.process d (r ∷ []) ≡ accepted_on p d new =
-    (λ i. accepted_on p d back ++ accepted_on (whose i) d (r ∷ [])) ∙ sym (map-append (λ (z : ℕ). Accept p z d) back (r ∷ [])) ∙ ap (accepted_on p d) (sym h.1) in
-    let now = own_lots (did (Accept seat.process r d) (carrying (l ∷ []) seat)) last _ h.3 in
-    let lots : last.lots ≡ seat.lots ++ (r, l) ∷ [] = ap (λ (k : Held Body). k.lots) h.3 in
+    let lots : last.lots ≡ seat.lots ++ (r, l) ∷ [] = ap (λ (k : Held Body). k.lots) h.3.0 in
     let mine : value_at r last.lots ≡ Some l = ap (value_at r) lots ∙ last_at r l seat.lots h.2 in
     let at : (q : ℕ) → r ≢ q → value_at q last.lots ≡ value_at q seat.lots = λ q o. ap (value_at q) lots ∙ last_other q r l seat.lots o in
     let away : Among back r → ⊥ = none_of r back (is.1.here r among ∙ ap is_some none) in
-    let kept : picked back seat.lots ≡ picked back last.lots =
-    picked_same back seat.lots last.lots (λ q a. sym (at q (λ e. away (subst (λ (z : ℕ). Among back z) (sym e) a)))) in
-    let moved : values (picked back seat.lots) ++ l ∷ [] ≡ values (picked new last.lots) =
-    (λ i. values (kept i) ++ sym (picked_one r l last.lots mine) i) ∙ sym (picked_append back (r ∷ []) last.lots) ∙ ap (λ (z : List ℕ). values (picked z last.lots)) (sym h.1) in
+    let kept : shown seat.lots back ≡ shown last.lots back =
+    shown_same back seat.lots last.lots (λ q a. sym (at q (λ e. away (subst (λ (z : ℕ). Among back z) (sym e) a)))) in
+    let blocks : shown seat.lots back ++ (r, item_of l) ∷ [] ≡ shown last.lots new =
+    (λ i. kept i ++ (r, item_in (sym mine i)) ∷ []) ∙ sym (shown_append last.lots back (r ∷ [])) ∙ ap (shown last.lots) (sym h.1) in
+    let log : accepted_on p d (shown seat.lots back) ++ accepted_on seat.process d ((r, item_of l) ∷ []) ≡ accepted_on p d (shown last.lots new) =
+    (λ i. accepted_on p d (shown seat.lots back) ++ (Accept (whose i) r d, item_of l) ∷ [])
+    ∙ sym (map-append (λ (x : ℕ × Item). (Accept p x.0 d, x.1)) (shown seat.lots back) ((r, item_of l) ∷ [])) ∙ ap (accepted_on p d) blocks in
+    let after = did_starts seat.process (accepted_on seat.process d ((r, item_of l) ∷ [])) seat.front last.front h.3.1 in
+    let got : Got = Here (record { rec = r; len = l.len }) in
+    let told : AreGot (IsSeenBy old last) d (shown last.lots new) (is.6.0 ++ got ∷ []) =
+    subst (λ (ys : List (ℕ × Item)). AreGot (IsSeenBy old last) d ys (is.6.0 ++ got ∷ [])) blocks
+    (got_both (IsSeenBy old last) d (shown seat.lots back) ((r, item_of l) ∷ []) is.6.0 (got ∷ []) (before after) (item_of l, [], refl, refl, step seat last after (brings d (item_of l)) h.5, refl)) in
     let any : (q : ℕ) → list_any (λ z. z == q) new ≡ (list_any (λ z. z == q) back || (r == q || false)) = λ q. ap (list_any (λ z. z == q)) h.1 ∙ list_any-append (λ z. z == q) back (r ∷ []) in
-    let shape : seat.shape ≡ last.shape = sym (ap (λ (k : Held Body). k.shape) h.3) in
+    let shape : seat.shape ≡ last.shape = sym (ap (λ (k : Held Body). k.shape) h.3.0) in
     let more_bytes : lens given (λ q. value_at q last.lots) ≡ lens given (λ q. value_at q seat.lots) + (item_in (value_at r last.lots)).len =
     lens_one given r (λ q. value_at q seat.lots) (λ q. value_at q last.lots) once among none at in
-    let len : (item_in (value_at r last.lots)).len ≡ l.len = ap (λ (o : Option (LotOf Body)). (item_in o).len) mine in let told : n ≡ l.len = h.6 in
-    let before : bytes ≡ lens given (λ q. value_at q seat.lots) = is.5 in (
-      subst (λ (z : List Event × List (LotOf Body)). HasNow (with_done z.0 (carrying z.1 old)) last.lots last) (λ i. (log i, moved i))
-          (moved_twice old seat last (accepted_on p d back) (accepted_on seat.process d (r ∷ [])) (values (picked back seat.lots)) (l ∷ []) seat.lots last.lots is.0 now),
+    let len : (item_in (value_at r last.lots)).len ≡ l.len = ap (λ (o : Option (LotOf Body)). (item_in o).len) mine in let told_len : n ≡ l.len = h.6 in
+    let had : bytes ≡ lens given (λ q. value_at q seat.lots) = is.5 in (
+      own_acts (accepted_on p d (shown last.lots new)) (seat.lots ++ (r, l) ∷ []) old last (subst (λ (es : List (Event × Item)). Acts es (seat.lots ++ (r, l) ∷ []) old last) log
+          (acts_twice (accepted_on p d (shown seat.lots back)) (accepted_on seat.process d ((r, item_of l) ∷ [])) seat.lots (seat.lots ++ (r, l) ∷ []) old seat last is.0 h.3)),
       record {
         here = λ q a. dite (ℕ_discrete r q)
             (λ e. subst (λ (z : ℕ). list_any (λ y. y == z) new ≡ is_some (value_at z last.lots)) e
@@ -316,75 +326,56 @@ accepting d given more r bytes n old seat last back new once among is came = ⊎
       (λ q o. at q (λ e. o (subst (λ (z : ℕ). Among given z) e among)) ∙ is.3 q o),
       is.4.1,
       omega arith,
+      (is.6.0 ++ got ∷ [], records got refl, told),
     ))
-    came
-
--- one more was passed
-pub passed_more : (d : ℕ) (gone : List ℕ) (r : ℕ) (old seat last : Held Body) → seat.process ≡ old.process → StartsWith seat.front old.front → StartsWith last.front seat.front
-    → ArePassed d gone old seat → Came (Pass seat.process r d) seat.front last.front → ArePassed d (gone ++ r ∷ []) old last
-passed_more d gone r old seat last whose before after all one q among = ⊎_elim
-    (λ a. came_more (Pass old.process q d) old.front (all q a) after)
-    (λ a. ⊎_elim (λ (e : q ≡ r). subst (λ (z : ℕ). Came (Pass old.process z d) old.front last.front) (sym e)
-    (came_before (Pass old.process r d) old.front before (subst (λ (p : ℕ). Came (Pass p r d) seat.front last.front) whose one))) (λ z. absurd z) a)
-    (among_either gone (r ∷ []) q among)
-
--- each of these that came back is as it was passed
-abbrev pub AreArrived : ℕ → List ℕ → Held Body → Held Body → Type 0
-AreArrived d back old new = (r : ℕ) (l : LotOf Body) → Among back r → value_at r new.lots ≡ Some l → Arrived old.process old.front new.front r d (item_of l)
-
-pub arrived_more : (d r n : ℕ) (old seat last : Held Body) (back new : List ℕ) → seat.process ≡ old.process → StartsWith seat.front old.front → StartsWith last.front seat.front
-    → (Among back r → ⊥) → AreArrived d back old seat → CameBack d r seat last back new n → AreArrived d new old last
-arrived_more d r n old seat last back new whose before after away are came q l among at = ⊎_elim
-    (λ h. wide (are q l (subst (λ (z : List ℕ). Among z q) h.0 among) (sym (ap (λ (k : Held Body). value_at q k.lots) h.1) ∙ at)))
-    (λ h. ⊎_elim
-    (λ a. wide (are q l a (sym (last_other q r h.0 seat.lots (λ e. away (subst (λ (z : ℕ). Among back z) (sym e) a))) ∙ sym (ap (λ (k : Held Body). value_at q k.lots) h.3) ∙ at)))
-    (λ a. ⊎_elim (λ (e : q ≡ r).
-    let mine : value_at q last.lots ≡ Some h.0 = ap (λ (z : ℕ). value_at z last.lots) e ∙ ap (λ (k : Held Body). value_at r k.lots) h.3 ∙ last_at r h.0 seat.lots h.2 in
-    let two : Some h.0 ≡ Some l = sym mine ∙ at in let one : h.0 ≡ l = cc in
-    subst (λ (z : ℕ × ℕ × LotOf Body). Arrived z.0 old.front last.front z.1 d (item_of z.2)) (λ i. (whose i, sym e i, one i))
-    (arrived_wide seat.process seat.front last.front old.front last.front r d (item_of h.0) before (starts_same refl) h.5)) (λ z. absurd z) a)
-    (among_either back (r ∷ []) q (subst (λ (z : List ℕ). Among z q) h.1 among)))
     came where
-      wide : Arrived old.process old.front seat.front q d (item_of l) → Arrived old.process old.front last.front q d (item_of l)
-      wide h = arrived_wide old.process old.front seat.front old.front last.front q d (item_of l) (starts_same refl) after h
+      p : ℕ
+      p = old.process
 
-among_shown : (lots : List (ℕ × LotOf Body)) (rs : List ℕ) (r : ℕ) (x : Item) → Among (shown lots rs) (r, x) → Among rs r × (x ≡ item_in (value_at r lots))
-among_shown lots [] r x a = absurd a
-among_shown lots (q ∷ qs) r x a = ⊎_elim
-    (λ (e : (r, x) ≡ (q, item_in (value_at q lots))). let is : r ≡ q = ap (λ (z : ℕ × Item). z.0) e in
-    (inl is, ap (λ (z : ℕ × Item). z.1) e ∙ ap (λ (z : ℕ). item_in (value_at z lots)) (sym is)))
-    (λ t. let m = among_shown lots qs r x t in (inr m.0, m.1))
-    a
+      whose : seat.process ≡ p
+      whose = ap (λ (k : Held Body). k.process) is.0.0
 
-pub shown_arrived : (d : ℕ) (given back : List ℕ) (old new : Held Body) → AreBack given back new → AreArrived d back old new → (r : ℕ) (x : Item) → Among (shown new.lots back) (r, x)
-    → Arrived old.process old.front new.front r d x
-shown_arrived d given back old new are all r x among = go (value_at r new.lots) refl where
-  s : Among back r × (x ≡ item_in (value_at r new.lots))
-  s = among_shown new.lots back r x among
+      step : (next last : Held Body) → StartsWith last.front next.front → (s : Sight) → IsSeenBy seat last r s → IsSeenBy old last r s
+      step next last after s saw = seen_wide old seat last last (ap (λ (k : Held Body). k.shape) is.0.0) whose
+          (did_starts p (accepted_on p d (shown seat.lots back)) old.front seat.front is.0.1) (starts_same refl) r s saw
 
-  go : (o : Option (LotOf Body)) → value_at r new.lots ≡ o → Arrived old.process old.front new.front r d x
-  go None e = absurd (none_of r back (are.here r (are.only r s.0) ∙ ap is_some e) s.0)
-  go (Some l) e = subst (λ (z : Item). Arrived old.process old.front new.front r d z) (sym (s.1 ∙ ap item_in e)) (all r l s.0 e)
+      before : StartsWith last.front seat.front → AreGot (IsSeenBy old last) d (shown seat.lots back) is.6.0
+      before after = all_got_as (IsSeenBy old seat) (IsSeenBy old last) (seen_wide old old seat last refl refl (starts_same refl) after) d (shown seat.lots back) is.6.0 is.6.2
 
--- each of these that didn't come back had another word
-abbrev pub AreLost : ℕ → List ℕ → List ℕ → Held Body → Held Body → Type 0
-AreLost d gone back old new = (r : ℕ) → Among gone r → (Among back r → ⊥) → IsElsewhere (SawAt old.shape old.front new.front) d r
+      records : (got : Got) → record_of got ≡ r → map record_of (is.6.0 ++ got ∷ []) ≡ gone ++ r ∷ []
+      records got e = map-append record_of is.6.0 (got ∷ []) ∙ (λ i. is.6.1 i ++ e i ∷ [])
 
-pub lost_more : (d : ℕ) (gone : List ℕ) (r n : ℕ) (old seat last : Held Body) (back new : List ℕ) → seat.shape ≡ old.shape → StartsWith seat.front old.front → StartsWith last.front seat.front
-    → AreLost d gone back old seat → CameBack d r seat last back new n → AreLost d (gone ++ r ∷ []) new old last
-lost_more d gone r n old seat last back new shape before after lost came q among missed = ⊎_elim
-    (λ a. away_as (SawAt old.shape old.front seat.front) (SawAt old.shape old.front last.front) (saw_later old old seat last refl (starts_same refl) after) d q (lost q a (λ b. missed (kept q b))))
-    (λ a. ⊎_elim (λ (e : q ≡ r). here e) (λ z. absurd z) a)
-    (among_either gone (r ∷ []) q among) where
-      kept : (z : ℕ) → Among back z → Among new z
-      kept z b = ⊎_elim (λ h. subst (λ (l : List ℕ). Among l z) (sym h.0) b) (λ h. subst (λ (l : List ℕ). Among l z) (sym h.1) (among_front back (r ∷ []) z b)) came
+-- ---- what was seen after a pass
 
-      here : q ≡ r → IsElsewhere (SawAt old.shape old.front last.front) d q
-      here e = ⊎_elim
-          (λ h. subst (λ (z : ℕ). IsElsewhere (SawAt old.shape old.front last.front) d z) (sym e)
-          (away_as (SawAt seat.shape seat.front last.front) (SawAt old.shape old.front last.front) (saw_later old seat last last shape before (starts_same refl)) d r h.3))
-          (λ h. absurd (missed (subst (λ (l : List ℕ). Among l q) (sym h.1) (among_back back (r ∷ []) q (inl e)))))
-          came
+-- each given record was passed
+passed_own : (p d r : ℕ) (lots : List (ℕ × LotOf Body)) (given : List ℕ) (own : List (Deed Body)) → map (λ (x : Deed Body). (x.0, item_of x.1)) own ≡ passed_on p d (shown lots given) → Among given r
+    → (l : LotOf Body) × Among own (Pass p r d, l)
+passed_own p d r lots [] own e a = absurd a
+passed_own p d r lots (q ∷ qs) [] e a = absurd (cc)
+passed_own p d r lots (q ∷ qs) (x ∷ xs) e a =
+    let first : (x.0, item_of x.1) ≡ (Pass p q d, item_in (value_at q lots)) = cc in
+    let rest : map (λ (y : Deed Body). (y.0, item_of y.1)) xs ≡ passed_on p d (shown lots qs) = cc in
+    let event : x.0 ≡ Pass p q d = ap (λ (z : Event × Item). z.0) first in
+    ⊎_elim (λ (s : r ≡ q). (x.1, inl (λ i. ((ap (λ (z : ℕ). Pass p z d) s ∙ sym event) i, x.1)))) (λ b. let t = passed_own p d r lots qs xs rest b in (t.0, inr t.1)) a
+
+pub seen_after : (d : ℕ) (given : List ℕ) (old mid new : Held Body) → mid.process ≡ old.process → mid.shape ≡ old.shape
+    → Did old.process (passed_on old.process d (shown old.lots given)) old.front mid.front → (r : ℕ) → Among given r → (s : Sight) → IsSeenBy mid new r s
+    → IsSeenAfter d old.process old.shape old.front new.front r s
+seen_after d given old mid new whose shape did r among (bears word) saw =
+    let p : ℕ = old.process in let t = passed_own p d r old.lots given did.0 did.2 among in let own : Deed Body = (Pass p r d, t.0) in
+    let s = split_at (place_of p) did.1.0 own (subst (λ (z : List (Deed Body)). Among z own) (sym did.1.2) t.1) in
+    let before : List (Deed Body) = old.front ++ s.0 in
+    let e : mid.front ≡ (before ++ own ∷ []) ++ s.1 =
+    did.1.1 ∙ ap (λ (z : List (Deed Body)). old.front ++ z) s.2 ∙ sym (append_assoc old.front s.0 (own ∷ s.1)) ∙ sym (append_assoc before (own ∷ []) s.1) in (
+      before,
+      t.0,
+      (s.0, refl),
+      subst (λ (z : Shape). SawAt z (before ++ own ∷ []) new.front r word) shape
+          (saw_wide mid.shape mid.front new.front (before ++ own ∷ []) new.front r word (s.1, e) (starts_same refl) saw),
+    )
+seen_after d given old mid new whose shape did r among (brings way x) saw =
+    subst (λ (z : ℕ). Arrived z old.front new.front r way x) whose
+    (arrived_wide mid.process mid.front new.front old.front new.front r way x (did_starts old.process (passed_on old.process d (shown old.lots given)) old.front mid.front did) (starts_same refl) saw)
 
 pub one_longer : (d r bytes : ℕ) (old new : Held Body) (had back : List ℕ) → CameBack d r old new had back bytes → (k : ℕ) → length had ≤ k → length back ≤ k + 1
 one_longer d r bytes old new had back came k few = ⊎_elim

@@ -27,7 +27,7 @@ pub lent : {F A : Type 0} (g : Mut F (MutBor (List ℕ) × Unit {0}) (A × (MutB
     × OnErr result (f ≡ (λ (es : List (ℕ × Item)). es)) × (last.front ≡ seat.front)
 lent g from to {seat} last rs {room} {total} {state} {r} {l} {x} (Ok a) is held block same (fine, (whole, (m, called, lot, full, new))) none =
     let xs : List ℕ = bytes_in (content_of l.body) in let ys : List ℕ = bytes_in (content_of m.body) in
-    let len : m.len ≡ l.len = ap (λ (z : LotOf Body). z.len) lot in let most : l.len ≤ 1048576 = block_small block in let some : 0 < l.len = block.full.0 in
+    let len : m.len ≡ l.len = ap (λ (z : LotOf Body). z.len) lot in let most : l.len ≤ 134217728 = block_small block in let some : 0 < l.len = block.full.0 in
     let was : l.len ≡ length xs = ap (λ (z : Item). z.len) whole in let long : m.len ≡ length ys = ap (λ (z : Item). z.len) full in
     let good : IsBlock seat.shape r m = record {
       exists = block.exists;

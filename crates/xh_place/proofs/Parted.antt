@@ -2,9 +2,10 @@
 use Rattle.xh_place.proofs.Words.{◌≡◌, ◌≢◌, ℕ, ◌+◌, ◌-◌, ◌/◌, ◌<◌, ◌≤◌, List, [], ◌∷◌, ◌++◌, length, drop, take, true, refl, sym, ap, ◌∙◌, subst, arith, rules, length-take-le, length-drop, Some}
 use Rattle.xh_place.proofs.Words.{None, LotOf, start, Tests, first_refusal, is_over, Status, Running, Among, keys, value_at, put, at_key, front_at, keys_push, last_put, put_keys}
 use Rattle.xh_place.proofs.Words.{IsLotOf, Held, IsRecord, IsSeatOf, RecordsOf, with_lots, HasNow, IsCut, IsData, bare, Body, Nothing, Data, End, bytes, content_of, fits_in, front, kind_of, rest}
-use Rattle.xh_place.proofs.Words.{Claim, did, Item, item_at, item_of, shown, total_of, IsBlock, IsPlace, length-append, Shape, patched}
+use Rattle.xh_place.proofs.Words.{Did, claimed, Item, item_at, item_of, shown, total_of, IsBlock, IsPlace, length-append, Shape, patched}
 use Rattle.xh_model.specs.Arena.{IsGoodCut}
 use Rattle.xh_place.proofs.Listing.{put_front, shown_keys, total_put}
+use Rattle.xh_place.proofs.Events.{acts_lent}
 use Rattle.xh_place.proofs.Gained.{fits_bytes, has}
 use Rattle.xh_place.proofs.Steps.{IsNow, changes, gains, is_now, quiet_alive, stays, turned}
 use Rattle.xh_core.specs.declared.header.Kind.TheVariants as kind
@@ -28,7 +29,7 @@ cut_up seat mid last r t l l0 h m is fresh at new =
     ∙ ap (with_lots (bare seat)) (last_put t l0 m (put r h seat.lots) (still_fresh r t h seat.lots fresh))
 
 -- the bytes of a data block
-pub data_of : (b : Body) (n : ℕ) → kind_of (content_of b) ≡ kind.Data → fits_in b n ≡ true → (xs : List ℕ) × (content_of b ≡ bytes xs) × (length xs ≡ n) × (n ≤ 1048576)
+pub data_of : (b : Body) (n : ℕ) → kind_of (content_of b) ≡ kind.Data → fits_in b n ≡ true → (xs : List ℕ) × (content_of b ≡ bytes xs) × (length xs ≡ n) × (n ≤ 134217728)
 data_of Nothing n k e = ([], refl, search rules, search rules)
 data_of (Data v) n k e = (v.items, refl, search rules, search rules)
 data_of (End p) n k e = absurd (cc)
@@ -76,14 +77,14 @@ cutting all seat mid r t l l0 own at block exists lot fresh is = record {
   is = is;
 }
 
-pub is_cut : (all : RecordsOf) (seat mid last : Held Body) (r t k : ℕ) (l l0 h m : LotOf Body) (b : Body) → Cutting all (did (Claim seat.process t) seat) mid r t l l0
+pub is_cut : (all : RecordsOf) (seat mid last : Held Body) (r t k : ℕ) (l l0 h m : LotOf Body) (b : Body) → Cutting all seat mid r t l l0
     → (Among (keys seat.lots) t → ⊥) → IsBlock seat.shape r l
     → IsLotOf seat.shape t l0 → IsRecord seat.shape t → IsData l → IsGoodCut k l.len → t / 256 ≡ r / 256
     → h ≡ record l { len = k; body = h.body } → content_of h.body ≡ front k (content_of l.body) → m ≡ record l0 { len = l.len - k; body = b } → content_of b ≡ rest k (content_of l.body)
-    → last ≡ with_lots mid (put t m (put r h mid.lots)) → IsCut seat last r k l t
-is_cut all seat mid last r t k l l0 h m b c fresh block lot exists held good arena head head_bytes tail tail_bytes new =
+    → last ≡ with_lots mid (put t m (put r h mid.lots)) → Did seat.process (claimed seat.process (t ∷ [])) seat.front mid.front → IsCut seat last r k l t
+is_cut all seat mid last r t k l l0 h m b c fresh block lot exists held good arena head head_bytes tail tail_bytes new acted =
     let d = data_of l.body l.len held.0 held.1 in let xs : List ℕ = d.0 in
-    let long : length xs ≡ l.len = d.2 in let most : l.len ≤ 1048576 = d.3 in let below : k < l.len = good.2 in let some : 0 < k = good.0 in
+    let long : length xs ≡ l.len = d.2 in let most : l.len ≤ 134217728 = d.3 in let below : k < l.len = good.2 in let some : 0 < k = good.0 in
     let h_len : h.len ≡ k = ap (λ (z : LotOf Body). z.len) head in let m_len : m.len ≡ l.len - k = ap (λ (z : LotOf Body). z.len) tail in
     let h_bytes : content_of h.body ≡ bytes (take k xs) = head_bytes ∙ ap (front k) d.1 in
     let body : m.body ≡ b = ap (λ (z : LotOf Body). z.body) tail in
@@ -93,7 +94,7 @@ is_cut all seat mid last r t k l l0 h m b c fresh block lot exists held good are
       h,
       m,
       fresh,
-      cut_up (did (Claim seat.process t) seat) mid last r t l l0 h m c.is fresh c.was new,
+      (cut_up seat mid last r t l l0 h m c.is fresh c.was new, (acts_lent (claimed seat.process (t ∷ [])) (seat.lots ++ (t, l0) ∷ []) (put t m (put r h mid.lots)) seat mid last (c.is, acted) new).1),
       record {
         exists = block.exists;
         lot = (ap (λ (z : LotOf Body). z.index) head ∙ block.lot.0, block.lot.1 ∙ ap (λ (z : LotOf Body). Some z.id) (sym head));
@@ -147,7 +148,7 @@ is_patched : {s : Shape} {r : ℕ} (at : ℕ) (ys : List ℕ) {l m : LotOf Body}
     → IsBlock s r m × (m.len ≡ l.len) × (item_of m ≡ record x { content = patched at ys x.content })
 is_patched {s} {r} at ys {l} {m} {x} block same data_kind fits lot content =
     let d = data_of l.body l.len (ap (λ (z : Item). kind_of z.content) same ∙ data_kind) block.full.1 in let xs : List ℕ = d.0 in
-    let long : length xs ≡ l.len = d.2 in let most : l.len ≤ 1048576 = d.3 in
+    let long : length xs ≡ l.len = d.2 in let most : l.len ≤ 134217728 = d.3 in
     let len : m.len ≡ l.len = ap (λ (z : LotOf Body). z.len) lot in let x_len : l.len ≡ x.len = ap (λ (z : Item). z.len) same in
     let room : at + length ys ≤ length xs = omega arith in let some : 0 < l.len = block.full.0 in
     let new : content_of m.body ≡ bytes (take at xs ++ (ys ++ drop (at + length ys) xs)) = content ∙ ap (patched at ys) d.1 in

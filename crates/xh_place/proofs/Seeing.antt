@@ -1,8 +1,11 @@
 -- What was seen stays seen, and a word that was seen between two fronts was seen between wider ones.
 use Rattle.xh_place.proofs.Words.{◌≡◌, ℕ, ⊎_elim, inl, inr, List, [], ◌∷◌, ◌++◌, append_assoc, append-nil, refl, sym, ap, ◌∙◌, subst, Event, Among, value_at, Shape}
-use Rattle.xh_place.proofs.Words.{StartsWith, Advances, Held, IsRecord, HasSeen, Body, Got, Message, Content, bytes, endpoint, toward, AreEnded, IsSwept, IsSweptBy, AreGot, AreUnpacked}
-use Rattle.xh_place.proofs.Words.{EndsWith, IsGot, toward_in, Clears, Drains, Item, PlaceOf, Status, IsElsewhere, IsSeen, PlaceSeen, SawAt, SawFull, SawWord}
-use Rattle.xh_place.proofs.Words.{Accept, Came, HasLeft, LotOf, item_of}
+use Rattle.xh_place.proofs.Words.{StartsWith, Held, IsRecord, HasSeen, Body, Got, Content, bytes, endpoint, toward, AreEnded, IsSwept, AreGot, Did, map, map-append}
+use Rattle.xh_place.proofs.Words.{EndsWith, toward_in, Clears, Drains, Item, PlaceOf, Status, IsElsewhere, IsSeen, PlaceSeen, SawAt, SawFull, SawWord}
+use Rattle.xh_place.proofs.Words.{Accept, LotOf, dite, here_first, item_of, not_here, place_of, record_of, ℕ_discrete}
+use Rattle.xh_records.specs.History.{process_of}
+use Rattle.xh_records.specs.Deeds.{Adds, deeds_by}
+use Rattle.xh_records.proofs.Deeds.{adds_more, adds_none}
 use Rattle.xh_place.specs.Seen.{Arrived, Sight, bears, brings}
 use Rattle.xh_records.specs.Deeds.{Arrives, Deed}
 use Rattle.xh_arena.specs.Views.{VaultOf}
@@ -18,31 +21,40 @@ starts_same {X} {a} {b} e = ([], e ∙ sym (append-nil a))
 pub starts_more : {X : Type 0} (a : List X) {b c : List X} → StartsWith b a → StartsWith c b → StartsWith c a
 starts_more {X} a {b} {c} one two = (one.0 ++ two.0, two.1 ∙ ap (λ (l : List X). l ++ two.0) one.1 ∙ append_assoc a one.0 two.0)
 
--- a step of the seat
-pub advanced : (own : List (Deed Body)) (x y : Held Body) → Advances own x y → StartsWith y.front x.front
-advanced own x y h = (h.0 ++ own, h.1)
+-- ---- deeds
 
--- ---- events that came
+pub did_none : (p : ℕ) (a b : List (Deed Body)) → b ≡ a → Did p [] a b
+did_none p a b e = ([], adds_none (place_of p) a b e, refl)
 
-pub came_more : (e : Event) (a : List (Deed Body)) {b c : List (Deed Body)} → Came e a b → StartsWith c b → Came e a c
-came_more e a h two = (h.0, h.1, h.2, starts_more (h.0 ++ (e, h.1) ∷ []) h.3 two)
+pub did_more : (p : ℕ) (es fs : List (Event × Item)) (a b c : List (Deed Body)) → Did p es a b → Did p fs b c → Did p (es ++ fs) a c
+did_more p es fs a b c x y =
+    (x.0 ++ y.0, adds_more (place_of p) x.0 y.0 a b c x.1 y.1, map-append (λ (d : Deed Body). (d.0, item_of d.1)) x.0 y.0 ∙ (λ i. x.2 i ++ y.2 i))
 
-pub came_before : (e : Event) (a : List (Deed Body)) {b c : List (Deed Body)} → StartsWith b a → Came e b c → Came e a c
-came_before e a one h = (h.0, h.1, starts_more a one h.2, h.3)
+pub did_starts : (p : ℕ) (es : List (Event × Item)) (a b : List (Deed Body)) → Did p es a b → StartsWith b a
+did_starts p es a b h = (h.1.0, h.1.1)
 
--- the step's own
-last_is : (d : Deed Body) (x y : Held Body) (h : Advances (d ∷ []) x y) → y.front ≡ (x.front ++ h.0) ++ d ∷ []
-last_is d x y h = h.1 ∙ sym (append_assoc x.front h.0 (d ∷ []))
-
-pub came_last : (e : Event) (l : LotOf Body) (x y : Held Body) → Advances ((e, l) ∷ []) x y → Came e x.front y.front
-came_last e l x y h = (x.front ++ h.0, l, (h.0, refl), starts_same (last_is (e, l) x y h))
+-- one of the place's own deeds stands in what was added
+pub split_at : (q : ℕ) (more : List (Deed Body)) (d : Deed Body) → Among (deeds_by q more) d → (before : List (Deed Body)) × (after : List (Deed Body)) × (more ≡ before ++ d ∷ after)
+split_at q [] d h = absurd h
+split_at q (x ∷ xs) d h =
+    let at : ℕ = place_of (process_of x.0) in
+    let rest : Among (deeds_by q xs) d → (before : List (Deed Body)) × (after : List (Deed Body)) × (x ∷ xs ≡ before ++ d ∷ after) =
+    λ a. let t = split_at q xs d a in (x ∷ t.0, t.1, ap (λ (l : List (Deed Body)). x ∷ l) t.2) in
+    dite (ℕ_discrete at q)
+    (λ e. ⊎_elim (λ (s : d ≡ x). ([], xs, ap (λ (z : Deed Body). z ∷ xs) (sym s))) rest
+    (subst (λ (l : List (Deed Body)). Among l d) (here_first at q (x ∷ deeds_by q xs) (deeds_by q xs) e) h))
+    (λ n. rest (subst (λ (l : List (Deed Body)). Among l d) (not_here at q (x ∷ deeds_by q xs) (deeds_by q xs) n) h))
 
 -- ---- blocks that arrived
 
 -- an accept, as the seat says it
-pub arrived_last : (r d : ℕ) (l : LotOf Body) (x y : Held Body) → Advances ((Accept x.process r d, l) ∷ []) x y → Arrives y.front → Arrived x.process x.front y.front r d (item_of l)
+pub arrived_last : (r d : ℕ) (l : LotOf Body) (x y : Held Body) → Adds (place_of x.process) ((Accept x.process r d, l) ∷ []) x.front y.front → Arrives y.front
+    → Arrived x.process x.front y.front r d (item_of l)
 arrived_last r d l x y h all =
-    let e = last_is (Accept x.process r d, l) x y h in (x.front ++ h.0, l, (h.0, refl), starts_same e, all (x.front ++ h.0) [] x.process r d l e, refl)
+    let own : Deed Body = (Accept x.process r d, l) in
+    let s = split_at (place_of x.process) h.0 own (subst (λ (z : List (Deed Body)). Among z own) (sym h.2) (inl refl)) in
+    let e : y.front ≡ (x.front ++ s.0) ++ own ∷ s.1 = h.1 ∙ ap (λ (z : List (Deed Body)). x.front ++ z) s.2 ∙ sym (append_assoc x.front s.0 (own ∷ s.1)) in
+    (x.front ++ s.0, l, (s.0, refl), (s.1, e ∙ sym (append_assoc (x.front ++ s.0) (own ∷ []) s.1)), all (x.front ++ s.0) s.1 x.process r d l e, refl)
 
 pub arrived_wide : (p : ℕ) (from to from' to' : List (Deed Body)) (r d : ℕ) (x : Item) → StartsWith from from' → StartsWith to' to → Arrived p from to r d x → Arrived p from' to' r d x
 arrived_wide p from to from' to' r d x before after h = (h.0, h.1, starts_more from' before h.2, starts_more (h.0 ++ (Accept p r d, h.1) ∷ []) h.3 after, h.4, h.5)
@@ -51,15 +63,10 @@ arrived_wide p from to from' to' r d x before after h = (h.0, h.1, starts_more f
 
 -- a look, as the seat says it
 pub looked : (x y : Held Body) (r word : ℕ) → HasSeen r word x y → SawAt x.shape x.front y.front r word
-looked x y r word h = (y.front, advanced [] x y h.2.1, starts_same refl, h.1)
+looked x y r word h = (y.front, (h.2.1.0, h.2.1.1), starts_same refl, h.1)
 
 pub saw_wide : (s : Shape) (from to from' to' : List (Deed Body)) (r word : ℕ) → StartsWith from from' → StartsWith to' to → SawAt s from to r word → SawAt s from' to' r word
 saw_wide s from to from' to' r word before after h = (h.0, starts_more from' before h.1, starts_more h.0 h.2 after, h.3)
-
--- the same of a step among others of the seat
-pub saw_later : (x y z w : Held Body) (shape : y.shape ≡ x.shape) (before : StartsWith y.front x.front) (after : StartsWith w.front z.front) (r word : ℕ) → SawAt y.shape y.front z.front r word
-    → SawAt x.shape x.front w.front r word
-saw_later x y z w shape before after r word h = subst (λ (s : Shape). SawAt s x.front w.front r word) shape (saw_wide y.shape y.front z.front x.front w.front r word before after h)
 
 -- what is known of a full arena with other records held, between wider fronts
 pub full_wide : (p : ℕ) (held more : List ℕ) (s : Shape) (from to from' to' : List (Deed Body)) (arena : ℕ) → ((r : ℕ) → Among held r → Among more r) → StartsWith from from' → StartsWith to' to
@@ -83,45 +90,43 @@ pub away_as : (P Q : ℕ → ℕ → Type 0) → ((r word : ℕ) → P r word �
 away_as P Q f d r h = (h.0, h.1, f r h.0 h.2)
 
 module _ (P Q : ℕ → Sight → Type 0) (f : (r : ℕ) (s : Sight) → P r s → Q r s) where
-  pub got_as : (d : ℕ) (ys : List (ℕ × Item)) (got : Got) → IsGot P d ys got → IsGot Q d ys got
-  got_as d ys (Here block) h = (h.0, h.1, h.2, f block.rec (brings d h.0) h.3)
-  got_as d ys (Missing r word) h = (h.0, h.1, f r (bears word) h.2)
-
   pub all_got_as : (d : ℕ) (ys : List (ℕ × Item)) (gots : List Got) → AreGot P d ys gots → AreGot Q d ys gots
   all_got_as d ys [] h = h
-  all_got_as d ys (got ∷ gots) h = (h.0, h.1, h.2, got_as d h.0 got h.3, all_got_as d h.1 gots h.4)
-
-  pub unpacked_as : (d : ℕ) (ms : List Message) (came : List (ℕ × Item)) → AreUnpacked P d ms came → AreUnpacked Q d ms came
-  unpacked_as d ms came h = (h.0, h.1, all_got_as d came h.0 h.2)
+  all_got_as d ys (Here block ∷ gots) h = (h.0, h.1, h.2, h.3, f block.rec (brings d h.0) h.4, all_got_as d h.1 gots h.5)
+  all_got_as d ys (Missing r word ∷ gots) h = (h.0, f r (bears word) h.1, all_got_as d ys gots h.2)
 
   pub ends_as : (c : Content) (came : List (ℕ × Item)) → EndsWith P c came → EndsWith Q c came
   ends_as (bytes xs) came h = h
-  ends_as (endpoint e) came h = (h.0, h.1, h.2, h.3, h.4, unpacked_as (toward (endpoint e)) h.0 came h.5)
+  ends_as (endpoint e) came h = (h.0, h.1, h.2, h.3, h.4, h.5, h.6, all_got_as (toward (endpoint e)) came h.3 h.7)
 
-  ended_as : (p : ℕ) (gone accepted : List (ℕ × Item)) (log : List Event) → AreEnded P p gone accepted log → AreEnded Q p gone accepted log
+  ended_as : (p : ℕ) (gone accepted : List (ℕ × Item)) (log : List (Event × Item)) → AreEnded P p gone accepted log → AreEnded Q p gone accepted log
   ended_as p [] accepted log h = h
   ended_as p (y ∷ ys) accepted log h = (h.0, h.1, h.2, h.3, h.4, ends_as y.1.content h.0 h.5, ended_as p ys h.1 h.2 h.6)
 
-  pub swept_by_as : (from count : ℕ) (old new : PlaceOf) (n : ℕ) → IsSweptBy P from count old new n → IsSweptBy Q from count old new n
-  swept_by_as from count old new n h = record {
+  pub swept_as : (from budget : ℕ) (old new : PlaceOf) (n : ℕ) (log : List (Event × Item)) → IsSwept P from budget old new n log → IsSwept Q from budget old new n log
+  swept_as from budget old new n log h = record {
+    count = h.count;
     accepted = h.accepted;
-    log = h.log;
     there = h.there;
     list = h.list;
-    events = h.events;
-    moved = h.moved;
-    ended = ended_as old.process _ h.accepted h.log h.ended;
+    ended = ended_as old.process _ h.accepted log h.ended;
     sum = h.sum;
+    within = h.within;
+    more = h.more;
   }
 
-  pub swept_as : (from budget : ℕ) (old new : PlaceOf) (n left : ℕ) → IsSwept P from budget old new n left → IsSwept Q from budget old new n left
-  swept_as from budget old new n left h = record { count = h.count; by = swept_by_as from h.count old new n h.by; within = h.within; rest = h.rest; more = h.more }
+  pub drains_as : (e : ℕ) (ys : List (ℕ × Item)) (old new : PlaceOf) → Drains P e ys old new → Drains Q e ys old new
+  drains_as e ys old new h = (h.0, h.1, h.2, h.3, h.4, all_got_as (toward_in (value_at e old.blocks)) ys h.2 h.5, h.6)
 
-  pub drains_as : (e : ℕ) (old new : PlaceOf) → Drains P e old new → Drains Q e old new
-  drains_as e old new h = (h.0, h.1, h.2, h.3, unpacked_as (toward_in (value_at e old.blocks)) h.2 h.1 h.4, h.5)
+  pub clears_as : (r : ℕ) (ys : List (ℕ × Item)) (old new : PlaceOf) → Clears P r ys old new → Clears Q r ys old new
+  clears_as r ys old new h = (h.0, h.1, h.2, h.3, ends_as h.0.content ys h.4, h.5)
 
-  pub clears_as : (r : ℕ) (old new : PlaceOf) → Clears P r old new → Clears Q r old new
-  clears_as r old new h = (h.0, h.1, h.2, h.3, h.4, ends_as h.0.content h.2 h.5, h.6)
+-- the same, where it is so at the records that are told of
+pub given_got_as : (P Q : ℕ → Sight → Type 0) (d : ℕ) (ys : List (ℕ × Item)) (gots : List Got) → ((r : ℕ) → Among (map record_of gots) r → (s : Sight) → P r s → Q r s)
+    → AreGot P d ys gots → AreGot Q d ys gots
+given_got_as P Q d ys [] f h = h
+given_got_as P Q d ys (Here block ∷ gots) f h = (h.0, h.1, h.2, h.3, f block.rec (inl refl) (brings d h.0) h.4, given_got_as P Q d h.1 gots (λ r a. f r (inr a)) h.5)
+given_got_as P Q d ys (Missing r word ∷ gots) f h = (h.0, f r (inl refl) (bears word) h.1, given_got_as P Q d ys gots (λ q a. f q (inr a)) h.2)
 
 -- ---- what is told of a lack, where the arena was full in another sense
 
@@ -154,16 +159,14 @@ module _ (seat : Held Body) {xs : List (ℕ × Item)} {state : Status} {p : Plac
   pub place_arrived : (r d : ℕ) (x : Item) → Arrived seat.process seat.front last.front r d x → Arrived p.place.process p.front last.front r d x
   place_arrived r d x h = subst (λ (z : PlaceSeen). Arrived z.place.process z.front last.front r d x) is h
 
-  pub place_gone : (d way r : ℕ) → d ≡ way → HasLeft seat.process seat.shape seat.front last.front d r → HasLeft p.place.process p.place.shape p.front last.front way r
-  place_gone d way r same h = subst (λ (z : PlaceSeen). HasLeft z.place.process z.place.shape z.front last.front way r) is
-      (subst (λ (n : ℕ). HasLeft seat.process seat.shape seat.front last.front n r) same h)
+  pub place_did : (es : ℕ → List (Event × Item)) → Did seat.process (es seat.process) seat.front last.front → Did p.place.process (es p.place.process) p.front last.front
+  place_did es h = subst (λ (z : PlaceSeen). Did z.place.process (es z.place.process) z.front last.front) is h
 
 -- ---- what a take gained, block by block
 
 module _ (saw : ℕ → Sight → Type 0) where
   pub got_both : (d : ℕ) (ys zs : List (ℕ × Item)) (gots more : List Got) → AreGot saw d ys gots → AreGot saw d zs more → AreGot saw d (ys ++ zs) (gots ++ more)
   got_both d ys zs [] more all two = subst (λ (l : List (ℕ × Item)). AreGot saw d (l ++ zs) more) (sym all) two
-  got_both d ys zs (g ∷ gots) more all two = (all.0, all.1 ++ zs, ap (λ (l : List (ℕ × Item)). l ++ zs) all.2 ∙ append_assoc all.0 all.1 zs, all.3, got_both d all.1 zs gots more all.4 two)
-
-  pub one_more : (d : ℕ) (ys zs : List (ℕ × Item)) (gots : List Got) (got : Got) → AreGot saw d ys gots → IsGot saw d zs got → AreGot saw d (ys ++ zs) (gots ++ got ∷ [])
-  one_more d ys zs gots got all one = got_both d ys zs gots (got ∷ []) all (zs, [], sym (append-nil zs), one, refl)
+  got_both d ys zs (Here block ∷ gots) more h two =
+      (h.0, h.1 ++ zs, ap (λ (l : List (ℕ × Item)). l ++ zs) h.2, h.3, h.4, got_both d h.1 zs gots more h.5 two)
+  got_both d ys zs (Missing r word ∷ gots) more h two = (h.0, h.1, got_both d ys zs gots more h.2 two)

@@ -13,7 +13,7 @@ use Rattle.xh_records.proofs.Lists.{few}
 use Rattle.xh_place.proofs.Listing.{as_shown, keys_without, shown_keys, shown_long, total_last, total_put, total_without}
 
 abbrev pub view_of : Held Body → List (ℕ × Item) → Status → PlaceOf
-view_of seat xs state = record { table = seat.table; shape = seat.shape; process = seat.process; blocks = xs; state = state; events = seat.done; moved = map item_of seat.moved }
+view_of seat xs state = record { table = seat.table; shape = seat.shape; process = seat.process; blocks = xs; state = state }
 
 -- a place of this seat and this list
 abbrev pub place_seen : Held Body → List ℕ → Status → PlaceSeen
@@ -49,11 +49,11 @@ few_records s rs all d = subst (λ (n : ℕ). n ≤ length s.names * s.records) 
     (few (length s.names * s.records) (map (index_of s.records) rs) (below_index s rs all) (distinct_index s rs all d))
 
 -- a block's length
-fit_small : (b : Body) (n : ℕ) → fits_in b n ≡ true → n ≤ 1048576
+fit_small : (b : Body) (n : ℕ) → fits_in b n ≡ true → n ≤ 134217728
 fit_small Nothing n e = search rules
 fit_small b n e = search rules
 
-pub block_small : {s : Shape} {r : ℕ} {l : LotOf Body} → IsBlock s r l → l.len ≤ 1048576
+pub block_small : {s : Shape} {r : ℕ} {l : LotOf Body} → IsBlock s r l → l.len ≤ 134217728
 block_small {s} {r} {l} is = fit_small l.body l.len is.full.1
 
 pub quiet_alive : (s : Status) (xs : List (ℕ × Item)) → (is_over s ≡ true → ⊥) → IsQuiet s xs
@@ -81,7 +81,7 @@ kept seat last xs room total state e is = record {
 pub shows : (p : PlaceOf) (seat last : Held Body) (xs ys : List (ℕ × Item)) (state : Status) (lots : List (ℕ × LotOf Body)) (f : List (ℕ × Item) → List (ℕ × Item)) → view_of seat xs state ≡ p
     → HasNow seat lots last → ys ≡ f xs → view_of last ys state ≡ with_blocks p (f p.blocks)
 shows p seat last xs ys state lots f is new blocks =
-    (λ i. record { table = (new i).table; shape = (new i).shape; process = (new i).process; blocks = blocks i; state = state; events = (new i).done; moved = map item_of (new i).moved })
+    (λ i. record { table = (new i).table; shape = (new i).shape; process = (new i).process; blocks = blocks i; state = state })
     ∙ ap (λ (q : PlaceOf). with_blocks q (f q.blocks)) is
 
 -- what a lot is as a block
@@ -126,16 +126,16 @@ module _ {seat : Held Body} {xs : List (ℕ × Item)} {room total : ℕ} {state 
       few_records seat.shape (r ∷ keys xs) (λ q a. ⊎_elim (λ e. subst (IsRecord seat.shape) (sym e) exists) (listed_record q) a) (not_listed r fresh, is.distinct) in
       omega (arith, most, length-keys xs, is.room.0)
 
-  sums : (ys : List (ℕ × Item)) → ((r : ℕ) (s : Item) → value_at r ys ≡ Some s → s.len ≤ 1048576) → Distinct (keys ys) → total_of ys ≤ length ys * 1048576
+  sums : (ys : List (ℕ × Item)) → ((r : ℕ) (s : Item) → value_at r ys ≡ Some s → s.len ≤ 134217728) → Distinct (keys ys) → total_of ys ≤ length ys * 134217728
   sums [] h d = omega arith
   sums (y ∷ ys) h d =
-      let head : y.1.len ≤ 1048576 = h y.0 y.1 (here_first y.0 y.0 (Some y.1) (value_at y.0 ys) refl) in
-      let rest : total_of ys ≤ length ys * 1048576 =
+      let head : y.1.len ≤ 134217728 = h y.0 y.1 (here_first y.0 y.0 (Some y.1) (value_at y.0 ys) refl) in
+      let rest : total_of ys ≤ length ys * 134217728 =
       sums ys (λ r s e. h r s (not_here y.0 r (Some y.1) (value_at r ys) (λ q. d.0 (subst (λ (z : ℕ). Among (keys ys) z) (sym q) (at_key r s ys e))) ∙ e)) d.1 in omega arith
 
-  pub small : total ≤ length xs * 1048576
-  small = subst (λ (z : ℕ). z ≤ length xs * 1048576) (sym is.sum)
-      (sums xs (λ r s e. let t = lot_of r s e in subst (λ (z : ℕ). z ≤ 1048576) (sym (ap (λ (z : Item). z.len) t.2)) (block_small t.3)) is.distinct)
+  pub small : total ≤ length xs * 134217728
+  small = subst (λ (z : ℕ). z ≤ length xs * 134217728) (sym is.sum)
+      (sums xs (λ r s e. let t = lot_of r s e in subst (λ (z : ℕ). z ≤ 134217728) (sym (ap (λ (z : Item). z.len) t.2)) (block_small t.3)) is.distinct)
 
   -- how many blocks there are, and their sum
   pub count_bound : length xs ≤ 2048
@@ -144,8 +144,8 @@ module _ {seat : Held Body} {xs : List (ℕ × Item)} {room total : ℕ} {state 
   pub count_room : length xs ≤ room
   count_room = omega (arith, few_records seat.shape (keys xs) listed_record is.distinct, length-keys xs, is.room.0)
 
-  pub total_bound : total ≤ 2147483648
-  total_bound = let a : length xs ≤ 2048 = count_bound in let b : total ≤ length xs * 1048576 = small in omega arith
+  pub total_bound : total ≤ 274877906944
+  total_bound = let a : length xs ≤ 2048 = count_bound in let b : total ≤ length xs * 134217728 = small in omega arith
 
   -- a record more
   module _ (last : Held Body) (r : ℕ) (l : LotOf Body) (fresh : Among (keys seat.lots) r → ⊥) (new : HasNow seat (seat.lots ++ (r, l) ∷ []) last) (good : IsBlock seat.shape r l) where

@@ -24,32 +24,32 @@ pub use Rattle.xh_model.proofs.Keyed.{last_at, last_other, last_put, last_withou
 pub use Rattle.xh_model.proofs.Keyed.{put_without, without_at, without_other}
 pub use Rattle.xh_model.specs.Keyed.{Among, Distinct, keys, put, value_at, without}
 pub use Rattle.xh_model.specs.Slots.{index_of}
-pub use Rattle.xh_model.specs.Words.{number_of, word_of}
+pub use Rattle.xh_model.specs.Words.{number_of, place_of, word_of}
 pub use Rattle.xh_model.specs.declared.event.Event.{Event}
 pub use Rattle.xh_model.specs.declared.event.Event.TheVariants.{Accept, Claim, Pass, Vacate}
 pub use Rattle.xh_model.specs.declared.event.Holder.TheVariants.{Process}
 pub use Rattle.xh_model.specs.declared.limits.TheConstants.{END_BYTES, MAX_BUDGET}
 pub use Rattle.xh_place.specs.Bodies.{Content, away, bytes, content_of, endpoint, fits_in, front, kind_of, part, patched, rest, toward}
 pub use Rattle.xh_place.specs.Desk.{IsSameDesk, IsSeatAt}
-pub use Rattle.xh_place.specs.Ending.{AreEnded, HasGivenBack, IsClosed, IsSwept, IsSweptBy, back_of, ending, last}
-pub use Rattle.xh_place.specs.Endpoints.{AreGot, AreUnpacked, EndsWith, IsDrained, IsGot, Puts, Takes, TakesEach, blocks_of, record_of}
+pub use Rattle.xh_place.specs.Ending.{AreEnded, HasGivenBack, IsClosed, IsSwept, back_of, ending, last}
+pub use Rattle.xh_place.specs.Endpoints.{AreGot, EndsWith, IsDrained, Puts, Takes, TakesEach, blocks_of, record_of}
 pub use Rattle.xh_place.specs.Ends.{EndDoes, IsTooLate, RefusedOr, away_in, end_block, ending_again, toward_in}
-pub use Rattle.xh_place.specs.Messages.{Answers, IsSent, IsTaken, IsUntaken, Unpacks, is_listed, settle, settled}
-pub use Rattle.xh_place.specs.Events.{accepted_on, let_go, passed_on}
+pub use Rattle.xh_place.specs.Messages.{Answers, IsSent, IsTaken, IsUntaken, is_listed, settle, settled}
+pub use Rattle.xh_place.specs.Events.{accepted_on, claimed, let_go, passed_on, vacated}
 pub use Rattle.xh_place.specs.Places.{AreBlocks, Fits, IsBlock, IsPlace, IsPlaceOf, IsQuiet, IsWhole, Item, Lists, PlaceOf, found as found_at, header_of, item_at, item_in, item_of, shown}
-pub use Rattle.xh_place.specs.Places.{LetsGo, alone, picked, total_of, with_blocks, with_events, with_freed, with_list, with_more}
-pub use Rattle.xh_place.specs.Seen.{FindsFull, HasLeft, IsElsewhere, IsSamePlace, IsSeen, PlaceSeen, SawFull, SawWord, Stays}
+pub use Rattle.xh_place.specs.Places.{alone, nothing, picked, total_of, with_blocks, with_list, with_more}
+pub use Rattle.xh_place.specs.Seen.{Becomes, Did, FindsFull, Frees, Gains, IsElsewhere, IsSamePlace, IsSeen, IsSeenAfter, LetsGo, PlaceSeen, SawFull, SawWord, Stays}
 pub use Rattle.xh_core.specs.Calls.{start, stop}
 pub use Rattle.xh_place.specs.Tallies.{gave, ids_of, took}
 pub use Rattle.xh_place.specs.declared.body.Body.{Body}
 pub use Rattle.xh_place.specs.declared.body.Body.TheVariants.{Data, End, Nothing}
 pub use Rattle.xh_place.specs.declared.got.Got.{Got}
 pub use Rattle.xh_place.specs.declared.got.Taken.{Taken}
-pub use Rattle.xh_place.specs.inner.Lists.{AreBack, CameBack, lens, less, less_all}
-pub use Rattle.xh_place.specs.inner.Lots.{ArePassed, Came, HasNow, IsCut, IsData, IsEnd, LotDoes, SeatFull, SeatLetsGo, bare, carrying, values, with_done}
+pub use Rattle.xh_place.specs.inner.Lists.{AreBack, CameBack, IsSeenBy, lens, less, less_all}
+pub use Rattle.xh_place.specs.inner.Lots.{Acts, HasNow, IsCut, IsData, IsEnd, LotDoes, SeatFull, SeatLetsGo, bare}
 pub use Rattle.xh_place.specs.inner.Reclaiming.{Clears, Drains, IsSweptLate}
 pub use Rattle.xh_records.specs.History.{StartsWith}
-pub use Rattle.xh_records.specs.Seats.{Advances, HasLooked, HasLost, HasSeen, Held, IsRecord, IsSeatOf, Knows, RecordsOf, SawAt, SawTaken, did, with_lots}
+pub use Rattle.xh_records.specs.Seats.{HasDone, HasGained, HasLooked, HasLost, HasSeen, Held, IsRecord, IsSeatOf, Knows, RecordsOf, SawAt, SawTaken, with_lots}
 pub use Rattle.xh_records.specs.Showing.{IsLotOf}
 pub use Rattle.xh_records.specs.declared.shape.Shape.{Shape}
 pub use mathlib.Core.Logic.{dite}

@@ -8,18 +8,19 @@ use Rattle.xh_core.specs.declared.block.Block.{Block}
 use Rattle.xh_core.specs.declared.refused.Refused.{Refused}
 use Rattle.xh_core.specs.declared.refused.Refused.TheVariants.{NoRecord, NoSpace, OutOfMemory, Worn}
 use Rattle.xh_core.specs.declared.status.Status.{Status}
-use Rattle.xh_core.specs.Calls.{alloc_tests, data_tests, end_tests, range_tests, split_tests, start, stop}
+use Rattle.xh_core.specs.Calls.{alloc_tests, data_tests, end_tests, range_tests, reclaimed, split_tests, start, stop}
 use Rattle.xh_core.specs.Headers.{len_in}
 use Rattle.xh_core.specs.Refusing.{Tested, first_refusal}
 use Rattle.xh_core.specs.Space.{rounded}
 use Rattle.xh_model.specs.declared.limits.TheConstants.{MAX_RECORDS}
-use Rattle.xh_model.specs.declared.event.Event.TheVariants.{Claim}
+use Rattle.xh_model.specs.declared.event.Event.{Event}
 use Rattle.xh_model.specs.Keyed.{put, value_at}
 use Rattle.xh_place.specs.Bodies.{Content, bytes, endpoint, part, patched}
-use Rattle.xh_place.specs.Ending.{IsClosed, IsStopped}
+use Rattle.xh_place.specs.Ending.{IsClosed, IsSwept, ending}
 use Rattle.xh_place.specs.Ends.{RefusedOr}
-use Rattle.xh_place.specs.Places.{Item, LetsGo, PlaceOf, found, with_blocks, with_events, with_freed}
-use Rattle.xh_place.specs.Seen.{FindsFull, IsSamePlace, PlaceSeen, Stays}
+use Rattle.xh_place.specs.Events.{claimed}
+use Rattle.xh_place.specs.Places.{Item, PlaceOf, found, with_blocks, with_list, with_more}
+use Rattle.xh_place.specs.Seen.{Becomes, Did, FindsFull, Frees, IsSamePlace, IsSeen, LetsGo, PlaceSeen, Stays}
 use Rattle.xh_place.specs.Splitting.{IsSplit, IsUncut}
 
 -- ---- alloc
@@ -40,21 +41,20 @@ IsLack full refuses _ = ⊥
 
 -- a new data block of at least n bytes of the arena, all of them zero, is the last of the list, and its record was claimed; or a record was claimed in vain, if any, and none where a test refused
 pub record Allocates (status : Status) (space : SpaceOf) (n arena : ℕ) (old new : PlaceSeen) (result : Result Block Refused) : Type 0 where
-  pub made : IfOk result (λ b. new.place ≡ with_events (with_blocks old.place (old.place.blocks ++ (b.rec, record { len = b.len; content = bytes (replicate b.len 0) }) ∷ []))
-      (Claim old.place.process b.rec ∷ []))
+  pub made : IfOk result (λ b. Becomes (with_more ((b.rec, record { len = b.len; content = bytes (replicate b.len 0) }) ∷ []) old.place) (claimed old.place.process (b.rec ∷ [])) old new)
   pub block : IfOk result (λ b. (b.len ≡ rounded n) × (b.rec / MAX_RECORDS ≡ arena))
-  pub refused : OnErr result (LetsGo (λ claims. length claims ≤ 1) arena old.place new.place)
+  pub refused : OnErr result (LetsGo (λ claims. length claims ≤ 1) arena old new)
   pub why : MatchOption (first_refusal (start status ++ alloc_tests arena space.arenas n space.size))
-      (IfErr result (IsLack (FindsFull 0 old new arena) (space.refuses arena (rounded n)))) (λ refused. (result ≡ Err refused) × (new.place ≡ old.place))
+      (IfErr result (IsLack (FindsFull 0 old new arena) (space.refuses arena (rounded n)))) (λ refused. (result ≡ Err refused) × Stays old new)
 
 -- ---- split
 
 -- the block is cut after its first k bytes; or a record was claimed in vain, if any, and none where a test refused
 pub record Splits (status : Status) (r k : ℕ) (old new : PlaceSeen) (result : Result (Block × Block) Refused) : Type 0 where
-  pub cut : IfOk result (λ ends. IsSplit old.place new.place r k ends.0 ends.1)
-  pub refused : OnErr result (LetsGo (λ claims. length claims ≤ 1) (r / MAX_RECORDS) old.place new.place)
+  pub cut : IfOk result (λ ends. IsSplit old new r k ends.0 ends.1)
+  pub refused : OnErr result (LetsGo (λ claims. length claims ≤ 1) (r / MAX_RECORDS) old new)
   pub why : MatchOption (first_refusal (start status ++ split_tests (found old.place r) k))
-      (IfErr result (IsUncut (FindsFull 0 old new (r / MAX_RECORDS)))) (λ refused. (result ≡ Err refused) × (new.place ≡ old.place))
+      (IfErr result (IsUncut (FindsFull 0 old new (r / MAX_RECORDS)))) (λ refused. (result ≡ Err refused) × Stays old new)
 
 -- ---- read, write
 
@@ -67,6 +67,7 @@ pub record Reads (status : Status) (r at : ℕ) (shown : List ℕ) (old new : Pl
 -- these bytes stand in the block from `at` on
 pub record Writes (status : Status) (r at : ℕ) (xs : List ℕ) (old new : PlaceSeen) (result : Result (Unit {0}) Refused) : Type 0 where
   pub place : IsSamePlace old new
+  pub quiet : Did old.place.process [] old.front new.front
   pub written : Tested (start status ++ range_tests (found old.place r) at (length xs)) result
       (λ _. (x : Item) × (value_at r old.place.blocks ≡ Some x) × (new.place ≡ with_blocks old.place (put r (record x { content = patched at xs x.content }) old.place.blocks)))
   pub refused : OnErr result (new.place ≡ old.place)
@@ -96,6 +97,7 @@ pub record Lends {F A : Type 0} (g : Mut F (Bor (List ℕ) × Unit {0}) A) (stat
 pub record LendsMut {F A : Type 0} (g : Mut F (MutBor (List ℕ) × Unit {0}) (A × (MutBor (List ℕ) × Unit {0}))) (status : Status) (r : ℕ) (f f' : F) (old new : PlaceSeen)
     (result : Result A Refused) : Type 0 where
   pub place : IsSamePlace old new
+  pub quiet : Did old.place.process [] old.front new.front
   pub lent : Tested (start status ++ range_tests (found old.place r) 0 0) result (λ a. (shown : List ℕ) × (left : List ℕ) × HasBytes r old.place shown
       × CalledAtMut g f shown a f' left × (length left ≡ length shown) × (new.place ≡ with_blocks old.place (put r (made_of left) old.place.blocks)))
   pub refused : OnErr result (new.place ≡ old.place)
@@ -105,14 +107,14 @@ pub record LendsMut {F A : Type 0} (g : Mut F (MutBor (List ℕ) × Unit {0}) (A
 
 -- the block is gone, its record was vacated, and its length is the answer
 pub record FreesBlock (status : Status) (r : ℕ) (old new : PlaceSeen) (result : Result ℕ Refused) : Type 0 where
-  pub freed : Tested (start status ++ data_tests (found old.place r)) result (λ n. (n ≡ len_in (found old.place r)) × (new.place ≡ with_freed r old.place))
-  pub refused : OnErr result (new.place ≡ old.place)
+  pub freed : Tested (start status ++ data_tests (found old.place r)) result (λ n. (n ≡ len_in (found old.place r)) × Frees r old new)
+  pub refused : OnErr result (Stays old new)
 
 -- ---- close, stop
 
 -- nothing changed, and nothing came back
 abbrev pub IsUntouched : PlaceSeen → PlaceSeen → ℕ → Type 0
-IsUntouched old new back = (new.place ≡ old.place) × (back ≡ 0)
+IsUntouched old new back = Stays old new × (back ≡ 0)
 
 -- the endpoint is gone, and what was on its way to it; so many bytes came back
 abbrev pub Closes : Status → ℕ → ℕ → PlaceSeen → PlaceSeen → Result ℕ Refused → Type 0
@@ -120,4 +122,6 @@ Closes status e back old new result = RefusedOr (start status ++ end_tests (foun
 
 -- the whole list is swept, as far as the budget goes; so many bytes came back
 abbrev pub Stops : Status → ℕ → ℕ → PlaceSeen → PlaceSeen → Result ℕ Refused → Type 0
-Stops status budget back old new result = RefusedOr (stop status) result (IsUntouched old new back) (IsStopped budget old new back result)
+Stops status budget back old new result = RefusedOr (stop status) result (IsUntouched old new back) ((log : List (Event × Item))
+    × IsSwept (IsSeen old new) 0 budget old.place new.place back log × Becomes (record (with_list old.place new.place) { state = ending (length new.place.blocks) }) log old new
+    × (result ≡ reclaimed back (length new.place.blocks)))

@@ -1,48 +1,40 @@
 -- What reclaiming does: the sweep, and the calls that end an endpoint or a process.
-use Rattle.std.specs.Prelude.{◌≡◌, ℕ, ◌+◌, ◌-◌, ◌<◌, ◌≤◌, ◌==◌, cond, List, [], ◌∷◌, ◌++◌, length, map, take, drop, Result}
+use Rattle.std.specs.Prelude.{◌≡◌, ℕ, ◌+◌, ◌-◌, ◌<◌, ◌≤◌, ◌==◌, cond, List, [], ◌∷◌, ◌++◌, length, take, drop, Result}
 use Rattle.xh_arena.specs.Views.{TallyOf}
 use Rattle.xh_core.specs.declared.refused.Refused.{Refused}
 use Rattle.xh_core.specs.declared.status.Status.{Status}
 use Rattle.xh_core.specs.declared.status.Status.TheVariants.{Ending, Ended}
 use Rattle.xh_model.specs.declared.event.Event.{Event}
-use Rattle.xh_model.specs.declared.event.Event.TheVariants.{Vacate}
-use Rattle.xh_model.specs.Keyed.{keys, value_at, without}
+use Rattle.xh_model.specs.Keyed.{value_at, without}
 use Rattle.xh_core.specs.Calls.{reclaimed}
 use Rattle.xh_model.specs.declared.limits.TheConstants.{MAX_BUDGET}
 use Rattle.xh_place.specs.Bodies.{toward}
 use Rattle.xh_place.specs.Endpoints.{EndsWith}
-use Rattle.xh_place.specs.Events.{accepted_on}
+use Rattle.xh_place.specs.Events.{accepted_on, vacated}
 use Rattle.xh_place.specs.Places.{Item, PlaceOf, alone, with_blocks, with_list, total_of}
-use Rattle.xh_place.specs.Seen.{IsSeen, PlaceSeen, Sight}
+use Rattle.xh_place.specs.Seen.{Becomes, IsSeen, PlaceSeen, Sight}
 
 -- `saw r s` says what was seen at the record r
 module _ (saw : ℕ → Sight → Type 0) where
   -- These went, one after another, each as it ends. What was accepted is what came with each, in their order, which the process accepted on the direction toward it; then it vacated the record.
-  abbrev pub AreEnded : ℕ → List (ℕ × Item) → List (ℕ × Item) → List Event → Type 0
+  abbrev pub AreEnded : ℕ → List (ℕ × Item) → List (ℕ × Item) → List (Event × Item) → Type 0
   AreEnded p [] accepted log = (accepted ≡ []) × (log ≡ [])
-  AreEnded p (y ∷ ys) accepted log = (came : List (ℕ × Item)) × (more : List (ℕ × Item)) × (later : List Event) × (accepted ≡ came ++ more)
-      × (log ≡ accepted_on p (toward y.1.content) (keys came) ++ Vacate p y.0 ∷ later) × EndsWith saw y.1.content came × AreEnded p ys more later
-
-  -- So many blocks were reclaimed: the list from `from` on is the old one from there, followed by what was accepted, without its first blocks.
-  -- Those were bytes, or endpoints that were shut and took all that they found; what was accepted came with their messages.
-  -- The bytes are those that the list had and gained, less those that it has.
-  pub record IsSweptBy (from count : ℕ) (old new : PlaceOf) (bytes : ℕ) : Type 0 where
-    pub accepted : List (ℕ × Item)
-    pub log : List Event
-    pub there : count ≤ length (drop from old.blocks ++ accepted)
-    pub list : new.blocks ≡ take from old.blocks ++ drop count (drop from old.blocks ++ accepted)
-    pub events : new.events ≡ old.events ++ log
-    pub moved : new.moved ≡ old.moved ++ map (λ x. x.1) accepted
-    pub ended : AreEnded old.process (take count (drop from old.blocks ++ accepted)) accepted log
-    pub sum : bytes + total_of new.blocks ≡ total_of old.blocks + total_of accepted
+  AreEnded p (y ∷ ys) accepted log = (came : List (ℕ × Item)) × (more : List (ℕ × Item)) × (later : List (Event × Item)) × (accepted ≡ came ++ more)
+      × (log ≡ accepted_on p (toward y.1.content) came ++ (vacated p y.0 ++ later)) × EndsWith saw y.1.content came × AreEnded p ys more later
 
   -- A sweep: no more blocks were reclaimed than the budget, and blocks are left from `from` on only where it is used up.
-  pub record IsSwept (from budget : ℕ) (old new : PlaceOf) (bytes left : ℕ) : Type 0 where
+  -- The list from `from` on is the old one from there, followed by what was accepted, without its first blocks.
+  -- Those were bytes, or endpoints that were shut and took all that they found; what was accepted came with their messages.
+  -- The bytes are those that the list had and gained, less those that it has.
+  pub record IsSwept (from budget : ℕ) (old new : PlaceOf) (bytes : ℕ) (log : List (Event × Item)) : Type 0 where
     pub count : ℕ
-    pub by : IsSweptBy from count old new bytes
+    pub accepted : List (ℕ × Item)
+    pub there : count ≤ length (drop from old.blocks ++ accepted)
+    pub list : new.blocks ≡ take from old.blocks ++ drop count (drop from old.blocks ++ accepted)
+    pub ended : AreEnded old.process (take count (drop from old.blocks ++ accepted)) accepted log
+    pub sum : bytes + total_of new.blocks ≡ total_of old.blocks + total_of accepted
     pub within : count ≤ budget
-    pub rest : left ≡ length new.blocks - from
-    pub more : 0 < left → count ≡ budget
+    pub more : from < length new.blocks → count ≡ budget
 
 -- the bytes that a worker has given back, of all arenas, and its tallies but for these bytes
 abbrev pub back_of : List TallyOf → ℕ
@@ -61,13 +53,6 @@ HasGivenBack bytes old new = (back_of new ≡ back_of old + bytes) × (but_back 
 abbrev pub ending : ℕ → Status
 ending left = cond (left == 0) Ended Ending
 
--- ---- stop
-
--- the whole list is swept
-abbrev pub IsStopped : ℕ → PlaceSeen → PlaceSeen → ℕ → Result ℕ Refused → Type 0
-IsStopped budget old new bytes result = IsSwept (IsSeen old new) 0 budget old.place new.place bytes (length new.place.blocks)
-    × (new.place ≡ record (with_list old.place new.place) { state = ending (length new.place.blocks) }) × (result ≡ reclaimed bytes (length new.place.blocks))
-
 -- ---- close
 
 -- the list with the record at its end
@@ -76,5 +61,6 @@ last r xs = without r xs ++ alone r (value_at r xs)
 
 -- the endpoint goes to the end of the list, and the list is swept from there
 abbrev pub IsClosed : ℕ → PlaceSeen → PlaceSeen → ℕ → Result ℕ Refused → Type 0
-IsClosed e old new bytes result = (left : ℕ) × IsSwept (IsSeen old new) (length (without e old.place.blocks)) MAX_BUDGET (with_blocks old.place (last e old.place.blocks)) new.place bytes left
-    × (new.place ≡ with_list old.place new.place) × (result ≡ reclaimed bytes left)
+IsClosed e old new bytes result = (log : List (Event × Item))
+    × IsSwept (IsSeen old new) (length (without e old.place.blocks)) MAX_BUDGET (with_blocks old.place (last e old.place.blocks)) new.place bytes log
+    × Becomes (with_list old.place new.place) log old new × (result ≡ reclaimed bytes (length new.place.blocks - length (without e old.place.blocks)))

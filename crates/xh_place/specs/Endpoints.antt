@@ -45,23 +45,16 @@ abbrev pub blocks_of : List Message → List ℕ
 blocks_of [] = []
 blocks_of (m ∷ ms) = m.blocks.items ++ blocks_of ms
 
--- `saw r word` says that this word was seen at the record r
+-- `saw r s` says what was seen at the record r
 module _ (saw : ℕ → Sight → Type 0) where
-  -- a block is here, and then it is what the list gained; or the word that was seen isn't "in flight on the direction"
-  abbrev pub IsGot : ℕ → List (ℕ × Item) → Got → Type 0
-  IsGot d ys (Here block) = (x : Item) × (ys ≡ (block.rec, x) ∷ []) × (x.len ≡ block.len) × saw block.rec (brings d x)
-  IsGot d ys (Missing r word) = (ys ≡ []) × (word ≢ 2 + 4 * d) × saw r (bears word)
-
-  -- of each block in turn, and the list gained them in this order
+  -- of each block in turn: it is here, and then the list gained it, in this order; or the word that was seen isn't "in flight on the direction"
   abbrev pub AreGot : ℕ → List (ℕ × Item) → List Got → Type 0
   AreGot d ys [] = ys ≡ []
-  AreGot d ys (got ∷ gots) = (here : List (ℕ × Item)) × (more : List (ℕ × Item)) × (ys ≡ here ++ more) × IsGot d here got × AreGot d more gots
+  AreGot d ys (Here block ∷ gots) = (x : Item) × (more : List (ℕ × Item)) × (ys ≡ (block.rec, x) ∷ more) × (x.len ≡ block.len) × saw block.rec (brings d x) × AreGot d more gots
+  AreGot d ys (Missing r word ∷ gots) = (word ≢ 2 + 4 * d) × saw r (bears word) × AreGot d ys gots
 
-  -- each block of the messages, in their order, came to the list or was missing
-  abbrev pub AreUnpacked : ℕ → List Message → List (ℕ × Item) → Type 0
-  AreUnpacked d ms came = (gots : List Got) × (map record_of gots ≡ blocks_of ms) × AreGot d came gots
-
-  -- bytes, with which nothing came, or an endpoint that was shut and then took all that it found, and the blocks of its messages came
+  -- bytes, with which nothing came; or an endpoint that was shut and then took all that it found, and each block of its messages, in their order, came or was missing
   abbrev pub EndsWith : Content → List (ℕ × Item) → Type 0
   EndsWith (bytes xs) came = came ≡ []
-  EndsWith (endpoint e) came = (ms : List Message) × (shut : EndpointOf) × (last : EndpointOf) × EndpointShuts e shut × IsDrained ms shut last × AreUnpacked (toward (endpoint e)) ms came
+  EndsWith (endpoint e) came = (ms : List Message) × (shut : EndpointOf) × (last : EndpointOf) × (gots : List Got) × EndpointShuts e shut × IsDrained ms shut last
+      × (map record_of gots ≡ blocks_of ms) × AreGot (toward (endpoint e)) came gots

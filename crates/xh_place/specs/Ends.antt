@@ -10,15 +10,16 @@ use Rattle.xh_core.specs.declared.status.Status.TheVariants as status
 use Rattle.xh_model.specs.declared.limits.TheConstants.{DIRECTIONS, END_BYTES, MAX_BUDGET, MAX_RECORDS}
 use Rattle.xh_core.specs.Refusing.{Tests, first_refusal}
 use Rattle.xh_core.specs.Statuses.{is_running}
-use Rattle.xh_model.specs.declared.event.Event.TheVariants.{Claim}
+use Rattle.xh_model.specs.declared.event.Event.{Event}
 use Rattle.xh_model.specs.Keyed.{put, value_at}
 use Rattle.xh_records.specs.Seats.{IsRecord}
 use Rattle.xh_place.specs.Bodies.{away, endpoint, toward}
 use Rattle.xh_arena.specs.Views.{TallyOf}
 use Rattle.xh_place.specs.declared.opening.Unopened.{Unopened}
 use Rattle.xh_place.specs.Tallies.{took}
-use Rattle.xh_place.specs.Places.{IsWhole, Item, LetsGo, PlaceOf, with_blocks, with_events, with_list, with_more}
-use Rattle.xh_place.specs.Seen.{IsElsewhere, IsSeen, PlaceSeen, SawWord, Sight, brings}
+use Rattle.xh_place.specs.Places.{IsWhole, Item, PlaceOf, with_blocks, with_list, with_more}
+use Rattle.xh_place.specs.Events.{accepted_on, claimed}
+use Rattle.xh_place.specs.Seen.{Becomes, Gains, IsElsewhere, IsSeen, LetsGo, PlaceSeen, SawWord, Stays, brings}
 use Rattle.xh_place.specs.Ending.{HasGivenBack, IsSwept}
 
 -- the call answers the first refusal whose test is true, and then these stay as they were; where none is, it does what is said
@@ -49,9 +50,9 @@ abbrev pub IsEndIn : ℕ → Block → Type 0
 IsEndIn arena b = (b.len ≡ END_BYTES) × (b.rec / MAX_RECORDS ≡ arena)
 
 -- both came to the end of the list, once their records were claimed in this order
-abbrev pub with_both : EndpointOf → EndpointOf → Block × Block → PlaceOf → PlaceOf
-with_both low high ends p = with_events (with_blocks p (p.blocks ++ (ends.0.rec, end_block low) ∷ (ends.1.rec, end_block high) ∷ []))
-    (Claim p.process ends.0.rec ∷ Claim p.process ends.1.rec ∷ [])
+abbrev pub HasBoth : EndpointOf → EndpointOf → Block × Block → PlaceSeen → PlaceSeen → Type 0
+HasBoth low high ends old new = Becomes (with_more ((ends.0.rec, end_block low) ∷ (ends.1.rec, end_block high) ∷ []) old.place)
+    (claimed old.place.process (ends.0.rec ∷ ends.1.rec ∷ [])) old new
 
 -- both are blocks of the list, and their records exist
 abbrev pub AreListed : EndpointOf → EndpointOf → PlaceOf → Block × Block → Type 0
@@ -60,10 +61,10 @@ AreListed low high p ends = (value_at ends.0.rec p.blocks ≡ Some (end_block lo
 
 -- Both ends are the last blocks of the list, side 0 first, each of 32 bytes of the arena, and their records were claimed in this order; or records were claimed in vain, if any, and the ends are
 -- handed back.
-abbrev pub Opens : ℕ → EndpointOf → EndpointOf → PlaceOf → PlaceOf → List TallyOf → List TallyOf → Result (Block × Block) Unopened → Type 0
+abbrev pub Opens : ℕ → EndpointOf → EndpointOf → PlaceSeen → PlaceSeen → List TallyOf → List TallyOf → Result (Block × Block) Unopened → Type 0
 Opens arena low high old new tallies left result = MatchResult result
-    (λ ends. (new ≡ with_both low high ends old) × IsEndIn arena ends.0 × IsEndIn arena ends.1
-    × (left ≡ took arena (2 * END_BYTES) tallies) × AreListed low high new ends)
+    (λ ends. HasBoth low high ends old new × IsEndIn arena ends.0 × IsEndIn arena ends.1
+    × (left ≡ took arena (2 * END_BYTES) tallies) × AreListed low high new.place ends)
     (λ u. (u.low ≡ low) × (u.high ≡ high) × LetsGo (λ claims. length claims ≤ 2) arena old new × (left ≡ tallies))
 
 -- the first refusal whose test is true, and then the vaults are as they were; else what there was a lack of
@@ -84,15 +85,19 @@ ending_again status.Running left = status.Running
 ending_again status.Ending left = status.Ending
 
 -- An endpoint came that nobody is here for: so it was swept, and no fewer bytes than it has were given back.
-abbrev pub IsTooLate : (ℕ → Sight → Type 0) → ℕ → ℕ → PlaceOf → PlaceOf → ℕ → Type 0
-IsTooLate saw d r old new sum = (x : Item) × (left : ℕ) × IsSwept saw (length old.blocks) MAX_BUDGET (with_more d ((r, x) ∷ []) old) new sum left
-    × (new ≡ record (with_list old new) { state = ending_again old.state (length new.blocks) }) × IsWhole x × (x.len ≤ sum) × saw r (brings d x)
+abbrev pub IsTooLate : ℕ → ℕ → PlaceSeen → PlaceSeen → ℕ → Type 0
+IsTooLate d r old new sum = (x : Item) × (log : List (Event × Item))
+    × IsSwept (IsSeen old new) (length old.place.blocks) MAX_BUDGET (with_more ((r, x) ∷ []) old.place) new.place sum log
+    × Becomes (record (with_list old.place new.place) { state = ending_again old.place.state (length new.place.blocks) })
+    (accepted_on old.place.process d ((r, x) ∷ []) ++ log) old new
+    × IsWhole x × (x.len ≤ sum) × IsSeen old new r (brings d x)
 
 -- It came on the direction to the end of the list of the process, which runs here; or the process doesn't, and then it came too late;
 -- or nothing has changed, since nobody has the place, or another word was seen than "in flight on the direction".
 pub record Accepts (process r direction : ℕ) (old new : PlaceSeen) (told tallies : List TallyOf) (result : Result Block Refused) : Type 0 where
-  pub here : IfOk result (λ b. (is_here old.place process ≡ true) × (b.rec ≡ r) × ((x : Item) × (x.len ≡ b.len) × (new.place ≡ with_more direction ((r, x) ∷ []) old.place) × IsWhole x × IsSeen old new r (brings direction x))
+  pub here : IfOk result (λ b. (is_here old.place process ≡ true) × (b.rec ≡ r)
+      × ((x : Item) × (x.len ≡ b.len) × Gains direction ((r, x) ∷ []) old new × IsWhole x × IsSeen old new r (brings direction x))
       × (tallies ≡ told))
-  pub away : IfErr result (λ e. (e ≡ Ended) × (((new.place ≡ old.place) × (tallies ≡ told) × ((old.place.state ≡ status.Vacant) ⊎ IsElsewhere (SawWord old new) direction r))
+  pub away : IfErr result (λ e. (e ≡ Ended) × ((Stays old new × (tallies ≡ told) × ((old.place.state ≡ status.Vacant) ⊎ IsElsewhere (SawWord old new) direction r))
       ⊎ ((is_here old.place process ≡ false) × (old.place.state ≢ status.Vacant)
-      × ((bytes : ℕ) × IsTooLate (IsSeen old new) direction r old.place new.place bytes × HasGivenBack bytes told tallies))))
+      × ((bytes : ℕ) × IsTooLate direction r old new bytes × HasGivenBack bytes told tallies))))

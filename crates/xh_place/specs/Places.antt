@@ -1,5 +1,5 @@
 -- What contracts see of a place, and what its type keeps.
-use Rattle.std.specs.Prelude.{◌≡◌, ℕ, ◌+◌, ◌*◌, ◌/◌, ◌<◌, ◌≤◌, List, [], ◌∷◌, ◌++◌, length, map, Option, Some, None, option_map}
+use Rattle.std.specs.Prelude.{◌≡◌, ℕ, ◌+◌, ◌*◌, ◌<◌, ◌≤◌, List, [], ◌∷◌, ◌++◌, length, Option, Some, None, option_map}
 use Rattle.atomic_table.specs.Seated.{TableId}
 use Rattle.xh_arena.specs.Views.{LotOf}
 use Rattle.xh_core.specs.declared.glance.Glance.{Glance}
@@ -7,44 +7,41 @@ use Rattle.xh_core.specs.declared.ledger.PlaceLine.{PlaceLine}
 use Rattle.xh_core.specs.declared.status.Status.{Status}
 use Rattle.xh_core.specs.declared.status.Status.TheVariants.{Vacant, Running, Ending, Ended}
 use Rattle.xh_core.specs.Glances.{line_of}
-use Rattle.xh_model.specs.declared.event.Event.{Event}
-use Rattle.xh_model.specs.declared.event.Event.TheVariants.{Pass, Vacate}
 use Rattle.xh_model.specs.declared.limits.TheConstants.{END_BYTES, MAX_ARENAS, MAX_BYTES, MAX_RECORDS, PLACES}
 use Rattle.xh_records.specs.declared.shape.Shape.{Shape}
 use Rattle.xh_records.specs.Showing.{IsLotOf, IsFull}
-use Rattle.xh_model.specs.Keyed.{Among, Distinct, keys, value_at, without}
+use Rattle.xh_model.specs.Keyed.{Distinct, keys, value_at}
 use Rattle.xh_records.specs.Seats.{RecordsOf, Held, IsRecord}
 use Rattle.xh_place.specs.declared.body.Body.{Body}
 use Rattle.xh_core.specs.declared.header.Header.{Header}
 use Rattle.xh_place.specs.Bodies.{Content, bytes, endpoint, content_of, kind_of, fits_in}
-use Rattle.xh_place.specs.Events.{accepted_on, let_go}
 
 -- a block: its length, and what it carries
 pub record Item : Type 0 where
   pub len : ℕ
   pub content : Content
 
--- A place: the table and its shape, the number of its process, the blocks by their records in the order gained, and how far the process has come;
--- the events that its processes did, in their order: what was claimed and vacated, and what left and came, each of these with its direction;
--- and the blocks that left and came by them, as they were then, in their order.
+-- nothing at a record: no bytes
+abbrev pub nothing : Item
+nothing = record { len = 0; content = bytes [] }
+
+-- a place: the table and its shape, the number of its process, the blocks by their records in the order gained, and how far the process has come
 pub record PlaceOf : Type 0 where
   pub table : TableId
   pub shape : Shape
   pub process : ℕ
   pub blocks : List (ℕ × Item)
   pub state : Status
-  pub events : List Event
-  pub moved : List Item
 
 abbrev pub with_blocks : PlaceOf → List (ℕ × Item) → PlaceOf
 with_blocks p xs = record p { blocks = xs }
 
-abbrev pub with_events : PlaceOf → List Event → PlaceOf
-with_events p es = record p { events = p.events ++ es }
+-- with these blocks too, at the end of the list, and with those of another place
+abbrev pub with_more : List (ℕ × Item) → PlaceOf → PlaceOf
+with_more ys p = with_blocks p (p.blocks ++ ys)
 
--- with the blocks of another, and what was done there
 abbrev pub with_list : PlaceOf → PlaceOf → PlaceOf
-with_list p q = record p { blocks = q.blocks; events = q.events; moved = q.moved }
+with_list p q = with_blocks p q.blocks
 
 -- a record with what stands at it, where something does; and each of these records
 abbrev pub alone : {X : Type 0} → ℕ → Option X → List (ℕ × X)
@@ -54,22 +51,6 @@ alone r (Some x) = (r, x) ∷ []
 abbrev pub picked : {X : Type 0} → List ℕ → List (ℕ × X) → List (ℕ × X)
 picked [] xs = []
 picked (r ∷ rs) xs = alone r (value_at r xs) ++ picked rs xs
-
--- these blocks came on the direction, to the end of the list
-abbrev pub with_more : ℕ → List (ℕ × Item) → PlaceOf → PlaceOf
-with_more d ys p = record p { blocks = p.blocks ++ ys; events = p.events ++ accepted_on p.process d (keys ys); moved = p.moved ++ map (λ x. x.1) ys }
-
--- the block of a record left on the direction
-abbrev pub with_less : ℕ → ℕ → PlaceOf → PlaceOf
-with_less d r p = record p { blocks = without r p.blocks; events = p.events ++ Pass p.process r d ∷ []; moved = p.moved ++ map (λ x. x.1) (alone r (value_at r p.blocks)) }
-
--- the block of a record is gone, and the record is free
-abbrev pub with_freed : ℕ → PlaceOf → PlaceOf
-with_freed r p = with_events (with_blocks p (without r p.blocks)) (Vacate p.process r ∷ [])
-
--- The process claimed some records of the arena, of which `also` holds, and let go of them again. Else the place is as it was.
-abbrev pub LetsGo : (List ℕ → Type 0) → ℕ → PlaceOf → PlaceOf → Type 0
-LetsGo also arena old new = (claims : List ℕ) × also claims × ((r : ℕ) → Among claims r → r / MAX_RECORDS ≡ arena) × (new ≡ with_events old (let_go old.process claims))
 
 -- the table gave its seat
 abbrev pub IsPlaceOf : RecordsOf → PlaceOf → Type 0
@@ -85,7 +66,7 @@ abbrev pub item_of : LotOf Body → Item
 item_of l = record { len = l.len; content = content_of l.body }
 
 abbrev pub item_in : Option (LotOf Body) → Item
-item_in None = record { len = 0; content = bytes [] }
+item_in None = nothing
 item_in (Some l) = item_of l
 
 -- the length and kind of a block

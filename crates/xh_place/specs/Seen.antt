@@ -1,30 +1,48 @@
 -- What a place has seen of the one log of all records, and what a call of it saw at a record.
-use Rattle.std.specs.Prelude.{◌≡◌, ◌≢◌, ◌⊎◌, ℕ, ◌+◌, ◌*◌, ◌/◌, ◌≤◌, ◌∷◌, ◌++◌, List, [], Some, length}
+use Rattle.std.specs.Prelude.{◌≡◌, ◌≢◌, ◌⊎◌, ℕ, ◌+◌, ◌*◌, ◌/◌, ◌≤◌, ◌∷◌, ◌++◌, List, [], Some, length, map}
 use Rattle.xh_arena.specs.Views.{LotOf}
+use Rattle.xh_model.specs.declared.event.Event.{Event}
 use Rattle.xh_model.specs.declared.event.Event.TheVariants.{Accept, Pass}
 use Rattle.xh_model.specs.declared.event.Holder.TheVariants.{Process}
 use Rattle.xh_model.specs.declared.limits.TheConstants.{MAX_RECORDS}
-use Rattle.xh_model.specs.Keyed.{Among, keys}
-use Rattle.xh_model.specs.Words.{word_of}
+use Rattle.xh_model.specs.Keyed.{Among, keys, without}
+use Rattle.xh_model.specs.Words.{place_of, word_of}
 use Rattle.xh_records.specs.declared.shape.Shape.{Shape}
-use Rattle.xh_records.specs.Deeds.{Deed, IsLeft}
+use Rattle.xh_records.specs.Deeds.{Adds, Deed, IsLeft}
 use Rattle.xh_records.specs.History.{StartsWith}
 use Rattle.xh_records.specs.Seats.{IsRecord, SawAt}
 use Rattle.xh_place.specs.declared.body.Body.{Body}
-use Rattle.xh_place.specs.Places.{Item, LetsGo, PlaceOf, item_of}
+use Rattle.xh_place.specs.Events.{accepted_on, let_go, vacated}
+use Rattle.xh_place.specs.Places.{Item, PlaceOf, item_of, with_blocks, with_more}
 
 -- a place, and its seat's front: the beginning of the one log of all deeds on records that it has seen, each an event beside the lot that was taken or given by it
 pub record PlaceSeen : Type 0 where
   pub place : PlaceOf
   pub front : List (Deed Body)
 
--- it is this place now, and what was seen stays seen
-abbrev pub Becomes : PlaceOf → PlaceSeen → PlaceSeen → Type 0
-Becomes p old new = (new.place ≡ p) × StartsWith new.front old.front
+-- what was added from the one front to the other has just these deeds of the place of the process p, in this order, each with the block of its record as it was then
+abbrev pub Did : ℕ → List (Event × Item) → List (Deed Body) → List (Deed Body) → Type 0
+Did p parts from to = (own : List (Deed Body)) × Adds (place_of p) own from to × (map (λ d. (d.0, item_of d.1)) own ≡ parts)
 
--- it is the place that it was
+-- it is this place now, and did just these deeds
+abbrev pub Becomes : PlaceOf → List (Event × Item) → PlaceSeen → PlaceSeen → Type 0
+Becomes p parts old new = (new.place ≡ p) × Did old.place.process parts old.front new.front
+
+-- it is the place that it was, and did nothing
 abbrev pub Stays : PlaceSeen → PlaceSeen → Type 0
-Stays old new = Becomes old.place old new
+Stays old new = Becomes old.place [] old new
+
+-- the block of a record is gone, and the record is free
+abbrev pub Frees : ℕ → PlaceSeen → PlaceSeen → Type 0
+Frees r old new = Becomes (with_blocks old.place (without r old.place.blocks)) (vacated old.place.process r) old new
+
+-- these blocks came on the direction, to the end of the list
+abbrev pub Gains : ℕ → List (ℕ × Item) → PlaceSeen → PlaceSeen → Type 0
+Gains d ys old new = Becomes (with_more ys old.place) (accepted_on old.place.process d ys) old new
+
+-- The process claimed some records of the arena, of which `also` holds, and let go of them again. Else the place is as it was.
+abbrev pub LetsGo : (List ℕ → Type 0) → ℕ → PlaceSeen → PlaceSeen → Type 0
+LetsGo also arena old new = (claims : List ℕ) × also claims × ((r : ℕ) → Among claims r → r / MAX_RECORDS ≡ arena) × Becomes old.place (let_go old.place.process claims) old new
 
 -- the same place, and the same process
 abbrev pub IsSamePlace : PlaceSeen → PlaceSeen → Type 0
@@ -54,9 +72,10 @@ IsSeen old new r (brings d x) = Arrived old.place.process old.front new.front r 
 abbrev pub IsElsewhere : (ℕ → ℕ → Type 0) → ℕ → ℕ → Type 0
 IsElsewhere saw d r = (word : ℕ) × (word ≢ 2 + 4 * d) × saw r word
 
--- from the one front to the other the process passed the record r on the direction, and saw after that that it was in flight there no more
-abbrev pub HasLeft : ℕ → Shape → List (Deed Body) → List (Deed Body) → ℕ → ℕ → Type 0
-HasLeft p s from to d r = (before : List (Deed Body)) × (l : LotOf Body) × StartsWith before from × IsElsewhere (SawAt s (before ++ (Pass p r d, l) ∷ []) to) d r
+-- what a give saw at a record, once the process had passed it on the direction: its word, or that it came back as this block
+abbrev pub IsSeenAfter : ℕ → ℕ → Shape → List (Deed Body) → List (Deed Body) → ℕ → Sight → Type 0
+IsSeenAfter d p s from to r (bears word) = (before : List (Deed Body)) × (l : LotOf Body) × StartsWith before from × SawAt s (before ++ (Pass p r d, l) ∷ []) to r word
+IsSeenAfter d p s from to r (brings way x) = Arrived p from to r way x
 
 -- from the one front to the other each record of the arena had, at some step, a word that says that it isn't free; and where that is the process's own word, the record is one that it held
 abbrev pub SawFull : ℕ → List ℕ → Shape → List (Deed Body) → List (Deed Body) → ℕ → Type 0
@@ -66,4 +85,4 @@ SawFull p held s from to arena = (r : ℕ) → IsRecord s r → r / MAX_RECORDS 
 -- The place claimed at most so many records of the arena and let go of them again, and saw that no other was free: none of the other words was that of its process, but for its blocks.
 abbrev pub FindsFull : ℕ → PlaceSeen → PlaceSeen → ℕ → Type 0
 FindsFull most old new arena = LetsGo (λ claims. (length claims ≤ most)
-    × SawFull old.place.process (keys old.place.blocks ++ claims) old.place.shape old.front new.front arena) arena old.place new.place
+    × SawFull old.place.process (keys old.place.blocks ++ claims) old.place.shape old.front new.front arena) arena old new

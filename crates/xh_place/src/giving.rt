@@ -1,20 +1,20 @@
 // What a give does to the seat: its blocks leave it, and some come back.
-ghost use Rattle.std.specs.Prelude.{◌++◌, ◌≡◌, ◌≢◌, ℕ, ◌+◌, ◌*◌, ◌<◌, ◌≤◌, [], length, Some, None, OnOk, OnErr};
+ghost use Rattle.std.specs.Prelude.{◌++◌, ◌≡◌, ◌≢◌, ℕ, List, map, ◌+◌, ◌*◌, ◌<◌, ◌≤◌, [], length, Some, None, OnOk, OnErr};
 ghost use Rattle.xh_arena.specs.Views.{LotOf};
 ghost use Rattle.xh_model.specs.Keyed.{Among, Distinct, value_at};
 ghost use Rattle.xh_model.specs.declared.limits.TheConstants.{DIRECTIONS, MAX_BLOCKS};
 ghost use Rattle.xh_place.specs.Bodies.{IsEndAt, away, content_of};
-ghost use Rattle.xh_place.specs.Endpoints.{Puts};
+ghost use Rattle.xh_place.specs.Endpoints.{AreGot, Puts, record_of};
 ghost use Rattle.xh_place.specs.Messages.{Answers};
-ghost use Rattle.xh_place.specs.Places.{IsBlock, item_in, item_of, picked};
-ghost use Rattle.xh_place.specs.Seen.{Arrived, HasLeft, IsElsewhere};
+ghost use Rattle.xh_place.specs.Places.{IsBlock, item_in, shown};
+ghost use Rattle.xh_place.specs.Seen.{IsSeenAfter};
+ghost use Rattle.xh_place.specs.declared.got.Got.{Got};
 ghost use Rattle.xh_place.specs.declared.body.Body.{Body};
-ghost use Rattle.xh_place.specs.inner.Lots.{ArePassed, HasNow, LotDoes, with_done, carrying, values};
-ghost use Rattle.xh_records.specs.History.{StartsWith};
-ghost use Rattle.xh_records.specs.Seats.{IsSeatOf, IsRecord, SawAt};
+ghost use Rattle.xh_place.specs.inner.Lots.{Acts, LotDoes};
+ghost use Rattle.xh_records.specs.Seats.{IsSeatOf, IsRecord};
 ghost use Rattle.arrayvec.specs.ArrayVec.{ArrayVec};
 ghost use Rattle.xh_place.specs.Events.{accepted_on, passed_on};
-ghost use Rattle.xh_place.specs.inner.Lists.{AreBack, CameBack, lens};
+ghost use Rattle.xh_place.specs.inner.Lists.{AreBack, CameBack, IsSeenBy, lens};
 
 use crate::body::Body;
 use crate::desk::Desk;
@@ -38,9 +38,7 @@ pub(crate) fn pass_all(
     requires distinct { Distinct given.now }
     requires few { length given.now ≤ MAX_BLOCKS }
     requires held { (r : ℕ) → Among given.now r → (l : LotOf Body) × (value_at r seat.old.lots ≡ Some l) × IsBlock seat.old.shape r l }
-    ensures passed { HasNow (with_done (passed_on seat.old.process direction given.now) (carrying (values (picked given.now seat.old.lots)) seat.old)) seat.new.lots seat.new }
-    ensures seen { StartsWith seat.new.front seat.old.front }
-    ensures came { ArePassed direction given.now seat.old seat.new }
+    ensures passed { Acts (passed_on seat.old.process direction (shown seat.old.lots given.now)) seat.new.lots seat.old seat.new }
     ensures gone { (r : ℕ) → Among given.now r → value_at r seat.new.lots ≡ None }
     ensures others { (r : ℕ) → (Among given.now r → ⊥) → value_at r seat.new.lots ≡ value_at r seat.old.lots }
     ensures bytes { result ≡ lens given.now (λ r. value_at r seat.old.lots) }
@@ -62,8 +60,7 @@ fn accept_into(
 ) -> u32
     requires own { IsSeatOf records.now seat.old × IsRecord records.now.shape r × (direction < DIRECTIONS) }
     requires room { length back.old.items < MAX_BLOCKS }
-    ensures came { CameBack direction r seat.old seat.new back.old.items back.new.items result }
-    ensures seen { StartsWith seat.new.front seat.old.front }
+    ensures { CameBack direction r seat.old seat.new back.old.items back.new.items result }
 {
     let Ok(header) = accept_block(records, seat, r, direction) else {
         return 0;
@@ -84,10 +81,8 @@ pub(crate) fn accept_back(
     requires distinct { Distinct given.now }
     requires gone { (r : ℕ) → Among given.now r → value_at r seat.old.lots ≡ None }
     requires records { (r : ℕ) → Among given.now r → IsRecord records.now.shape r }
-    ensures came { HasNow (with_done (accepted_on seat.old.process direction result.0.items) (carrying (values (picked result.0.items seat.new.lots)) seat.old)) seat.new.lots seat.new }
-    ensures arrived { (r : ℕ) (l : LotOf Body) → Among result.0.items r → value_at r seat.new.lots ≡ Some l → Arrived seat.old.process seat.old.front seat.new.front r direction (item_of l) }
-    ensures lost { (r : ℕ) → Among given.now r → (Among result.0.items r → ⊥) → IsElsewhere (SawAt seat.old.shape seat.old.front seat.new.front) direction r }
-    ensures seen { StartsWith seat.new.front seat.old.front }
+    ensures came { Acts (accepted_on seat.old.process direction (shown seat.new.lots result.0.items)) seat.new.lots seat.old seat.new }
+    ensures seen { (gots : List Got) × (map record_of gots ≡ given.now) × AreGot (IsSeenBy seat.old seat.new) direction (shown seat.new.lots result.0.items) gots }
     ensures back { AreBack given.now result.0.items seat.new }
     ensures others { (r : ℕ) → (Among given.now r → ⊥) → value_at r seat.new.lots ≡ value_at r seat.old.lots }
     ensures bytes { result.1 ≡ lens given.now (λ r. value_at r seat.new.lots) }
@@ -124,9 +119,7 @@ fn post<R: Wait, V, G: Gate>(
     requires distinct { Distinct given.now.items × (Among given.now.items e → ⊥) }
     requires held { (r : ℕ) → Among given.now.items r → (l : LotOf Body) × (value_at r seat.old.lots ≡ Some l) × IsBlock seat.old.shape r l }
     ensures direction { (result.1 ≡ away (item_in (value_at e seat.old.lots)).content) × (result.1 < DIRECTIONS) }
-    ensures passed { HasNow (with_done (passed_on seat.old.process result.1 given.now.items) (carrying (values (picked given.now.items seat.old.lots)) seat.old)) seat.new.lots seat.new }
-    ensures seen { StartsWith seat.new.front seat.old.front }
-    ensures came { ArePassed result.1 given.now.items seat.old seat.new }
+    ensures passed { Acts (passed_on seat.old.process result.1 (shown seat.old.lots given.now.items)) seat.new.lots seat.old seat.new }
     ensures end { (l : LotOf Body) → value_at e seat.old.lots ≡ Some l → (m : LotOf Body) × (value_at e seat.new.lots ≡ Some m)
         × LotDoes (Puts tag given.now result.0) l m × IsBlock seat.old.shape e m }
     ensures gone { (r : ℕ) → Among given.now.items r → value_at r seat.new.lots ≡ None }
@@ -154,9 +147,8 @@ pub(crate) fn give_all<R: Wait, V, G: Gate>(
     requires end { (l : LotOf Body) × (value_at e seat.old.lots ≡ Some l) × IsBlock seat.old.shape e l × IsEndAt (content_of l.body) spot.channel spot.side }
     requires distinct { Distinct given.now.items × (Among given.now.items e → ⊥) }
     requires held { (r : ℕ) → Among given.now.items r → (l : LotOf Body) × (value_at r seat.old.lots ≡ Some l) × IsBlock seat.old.shape r l }
-    ensures moved { HasNow (with_done (passed_on seat.old.process (away (item_in (value_at e seat.old.lots)).content) given.now.items
-        ++ accepted_on seat.old.process (away (item_in (value_at e seat.old.lots)).content) result.back.items)
-        (carrying (values (picked given.now.items seat.old.lots) ++ values (picked result.back.items seat.new.lots)) seat.old)) seat.new.lots seat.new }
+    ensures moved { Acts (passed_on seat.old.process (away (item_in (value_at e seat.old.lots)).content) (shown seat.old.lots given.now.items)
+        ++ accepted_on seat.old.process (away (item_in (value_at e seat.old.lots)).content) (shown seat.new.lots result.back.items)) seat.new.lots seat.old seat.new }
     ensures end { (l : LotOf Body) → value_at e seat.old.lots ≡ Some l → (m : LotOf Body) × (value_at e seat.new.lots ≡ Some m)
         × LotDoes (Puts tag given.now result.put) l m × IsBlock seat.old.shape e m }
     ensures others { (r : ℕ) → (Among given.now.items r → ⊥) → e ≢ r → value_at r seat.new.lots ≡ value_at r seat.old.lots }
@@ -164,11 +156,9 @@ pub(crate) fn give_all<R: Wait, V, G: Gate>(
     ensures lost { result.lost ≡ lens given.now.items (λ r. value_at r seat.old.lots) }
     ensures gained { result.gained ≡ lens given.now.items (λ r. value_at r seat.new.lots) }
     ensures sent { OnOk result.put (result.back.items ≡ []) }
-    ensures arrived { (r : ℕ) (l : LotOf Body) → Among result.back.items r → value_at r seat.new.lots ≡ Some l
-        → Arrived seat.old.process seat.old.front seat.new.front r (away (item_in (value_at e seat.old.lots)).content) (item_of l) }
-    ensures missed { OnErr result.put ((r : ℕ) → Among given.now.items r → (Among result.back.items r → ⊥)
-        → HasLeft seat.old.process seat.old.shape seat.old.front seat.new.front (away (item_in (value_at e seat.old.lots)).content) r) }
-    ensures seen { StartsWith seat.new.front seat.old.front }
+    ensures seen { OnErr result.put ((gots : List Got) × (map record_of gots ≡ given.now.items)
+        × AreGot (IsSeenAfter (away (item_in (value_at e seat.old.lots)).content) seat.old.process seat.old.shape seat.old.front seat.new.front)
+        (away (item_in (value_at e seat.old.lots)).content) (shown seat.new.lots result.back.items) gots) }
 {
     let (put, direction, lost) = post(desk, seat, e, spot, tag, given);
     let Err(unsent) = put else {
@@ -195,8 +185,8 @@ pub(crate) fn answer(put: Result<u64, Unsent>, back: ArrayVec<u16, 8>) -> Result
 {
     match put {
         Ok(no) => Ok(no),
-        Err(Unsent::Protocol { .. }) => Err(Refused::Protocol { back }),
-        Err(Unsent::PeerClosed { .. }) => Err(Refused::PeerClosed { back }),
-        Err(Unsent::Full { .. }) => Err(Refused::Full { back }),
+        Err(Unsent::Protocol) => Err(Refused::Protocol { back }),
+        Err(Unsent::PeerClosed) => Err(Refused::PeerClosed { back }),
+        Err(Unsent::Full) => Err(Refused::Full { back }),
     }
 }

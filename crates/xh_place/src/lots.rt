@@ -1,5 +1,5 @@
 // What a place does to the lots of its seat.
-ghost use Rattle.std.specs.Prelude.{◌≡◌, ◌≢◌, ℕ, MatchBool, ◌+◌, ◌-◌, ◌*◌, ◌%◌, ◌/◌, ◌<◌, ◌≤◌, ◌++◌, ◌∷◌, [], Some, IfOk, IfErr, IfSome, OnOk, OnErr, slice_get, length, replicate, true};
+ghost use Rattle.std.specs.Prelude.{◌≡◌, ◌≢◌, ℕ, MatchBool, ◌+◌, ◌-◌, ◌*◌, ◌%◌, ◌/◌, ◌<◌, ◌≤◌, ◌++◌, ◌∷◌, [], Some, IfOk, IfErr, IfSome, OnOk, OnErr, slice_get, length, replicate, true, vec_capacity};
 ghost use Rattle.xh_arena.specs.Views.{LotOf};
 ghost use Rattle.xh_model.specs.Arena.{IsGoodCut};
 ghost use Rattle.xh_model.specs.Keyed.{Among, keys, value_at, put, without};
@@ -12,13 +12,13 @@ ghost use Rattle.xh_place.specs.Splitting.{IsUncut};
 ghost use Rattle.xh_place.specs.Tallies.{gave, took};
 ghost use Rattle.xh_place.specs.Vaults.{IsNoBlock, IsRefusedAt};
 ghost use Rattle.xh_place.specs.declared.body.Body.{Body};
-ghost use Rattle.xh_place.specs.inner.Lots.{Came, HasNow, IsCut, IsData, SeatFull, SeatLetsGo, carrying};
+ghost use Rattle.xh_place.specs.inner.Lots.{Acts, IsCut, IsData, SeatFull, SeatLetsGo};
 ghost use Rattle.xh_records.specs.History.{StartsWith};
-ghost use Rattle.xh_records.specs.Seats.{IsSeatOf, IsRecord, SawAt, did, with_lots};
+ghost use Rattle.xh_records.specs.Seats.{IsSeatOf, IsRecord, SawAt, with_lots};
 ghost use Rattle.xh_records.specs.Showing.{IsLotOf, IsFull};
-ghost use Rattle.xh_model.specs.declared.event.Event.TheVariants.{Accept, Claim, Pass, Vacate};
+ghost use Rattle.xh_place.specs.Events.{accepted_on, claimed, passed_on, vacated};
 ghost use Rattle.xh_place.specs.inner.Answers.{reason_of};
-ghost use Rattle.xh_place.specs.declared.body.Body.TheVariants.{Data, Nothing};
+ghost use Rattle.xh_place.specs.declared.body.Body.TheVariants.{Nothing};
 ghost use Rattle.xh_core.specs.declared.header.Kind.TheVariants as kind;
 
 use crate::body::Body;
@@ -33,7 +33,18 @@ use xh_core::{Header, Kind, Refused as Reason};
 use xh_model::limits::{MAX_RECORDS, PLACES};
 use xh_records::{OwnerWord, Records, Seat};
 
-// The record's lot gets bytes and a body.
+// A buffer that has room for so many zeros, with them.
+fn zeroed(mut buffer: Vec<u8>, count: u32) -> Vec<u8>
+    requires { (buffer.items ≡ []) × (count ≤ vec_capacity buffer) }
+    ensures { result.items ≡ replicate count 0 }
+{
+    let Ok(()) = buffer.resize(count as usize, 0) else {
+        unreachable!()
+    };
+    buffer
+}
+
+// The record's lot gets bytes, and a buffer of zeros, for which the one that is handed in has room.
 fn fill<R, V: Vaults, G>(
     desk: &mut Desk<'_, R, V, G>,
     seat: &mut Seat<Body>,
@@ -44,8 +55,10 @@ fn fill<R, V: Vaults, G>(
     requires at { IsSeatAt V.names desk.old seat.old }
     requires held { (l : LotOf Body) × (value_at r seat.old.lots ≡ Some l) × (l.len ≡ 0) × IsRecord seat.old.shape r × IsLotOf seat.old.shape r l }
     requires size { (0 < n) × (n % UNIT ≡ 0) × (n ≤ V.extent desk.old.vaults.now) }
+    requires room { (buffer.items ≡ []) × (n ≤ vec_capacity buffer) }
     ensures same { IsSameDesk V.names V.extent desk.old desk.new }
-    ensures seat { OnOk result ((l : LotOf Body) → value_at r seat.old.lots ≡ Some l → seat.new ≡ with_lots seat.old (put r (record l { len = n; body = Data buffer }) seat.old.lots)) }
+    ensures seat { OnOk result ((l : LotOf Body) → value_at r seat.old.lots ≡ Some l → (m : LotOf Body) × (m ≡ record l { len = n; body = m.body })
+        × (content_of m.body ≡ bytes (replicate n 0)) × (seat.new ≡ with_lots seat.old (put r m seat.old.lots))) }
     ensures taken { OnOk result (desk.new.tallies.now ≡ took (r / MAX_RECORDS) n desk.old.tallies.now) }
     ensures refused { OnErr result ((seat.new ≡ seat.old) × (desk.new.tallies.now ≡ desk.old.tallies.now)) }
     ensures why { IfErr result (IsRefusedAt V.changes desk.old.vaults.now desk.new.vaults.now (r / MAX_RECORDS) n) }
@@ -61,15 +74,16 @@ fn fill<R, V: Vaults, G>(
             requires ids { (slice_get (V.names vaults.now) arena ≡ Some lot.old.id) × (tally.now.id ≡ lot.old.id) }
             requires empty { lot.old.len ≡ 0 }
             requires size { (0 < n) × (n % UNIT ≡ 0) × (n ≤ V.extent vaults.now) }
+            requires room { IfSome buffer (λ b. (b.items ≡ []) × (n ≤ vec_capacity b)) }
             ensures same { (V.names vaults.exit.now ≡ V.names vaults.entry.now) × (V.extent vaults.exit.now ≡ V.extent vaults.entry.now) × (tally.exit.now.id ≡ tally.entry.now.id) }
-            ensures lot { OnOk result (IfSome buffer.entry (λ bytes. lot.new ≡ record lot.old { len = n; body = Data bytes })) }
+            ensures lot { OnOk result (IfSome buffer.entry (λ b. (lot.new ≡ record lot.old { len = n; body = lot.new.body }) × (content_of lot.new.body ≡ bytes (replicate n 0)))) }
             ensures tally { OnOk result (tally.exit.now ≡ record tally.entry.now { taken = tally.entry.now.taken + n }) }
             ensures refused { OnErr result ((lot.new ≡ lot.old) × (tally.exit.now ≡ tally.entry.now)) }
             ensures why { IfErr result (IsRefusedAt V.changes vaults.entry.now vaults.exit.now arena n) }
         {
             vaults.carve(arena, lot, tally, n)?;
-            if let Some(bytes) = buffer.take() {
-                *lot.body_mut() = Body::Data(bytes);
+            if let Some(room) = buffer.take() {
+                *lot.body_mut() = Body::Data(zeroed(room, n));
             }
             Ok(())
         },
@@ -107,16 +121,6 @@ fn empty<R, V: Vaults, G>(desk: &mut Desk<'_, R, V, G>, seat: &mut Seat<Body>, r
     )
 }
 
-// A buffer of zeros.
-fn zeros(alloc: Global, count: u32) -> Option<Vec<u8>>
-    ensures { IfSome result (λ v. v.items ≡ replicate count 0) }
-{
-    let Ok(all) = vec![in alloc; 0u8; count as usize] else {
-        return None;
-    };
-    Some(all)
-}
-
 pub(crate) fn reason(refused: Refused) -> Reason
     ensures { result ≡ reason_of refused }
 {
@@ -134,7 +138,8 @@ pub(crate) fn place_of(seat: &Seat<Body>) -> u8 {
     (seat.process() % PLACES as u16) as u8
 }
 
-// Claims a record of the arena, and gives it bytes and a buffer of zeros.
+// Claims a record of the arena, and gives it bytes and a buffer of zeros. They are made only once the bytes are carved: a refusal
+// costs no more for a large block.
 pub(crate) fn make_block<R, V: Vaults, G: Gate>(
     alloc: Global,
     desk: &mut Desk<'_, R, V, G>,
@@ -148,7 +153,7 @@ pub(crate) fn make_block<R, V: Vaults, G: Gate>(
     ensures same { IsSameDesk V.names V.extent desk.old desk.new }
     ensures arena { IfOk result (λ r. r / MAX_RECORDS ≡ arena) }
     ensures block { IfOk result (λ r. (l : LotOf Body) × (Among (keys seat.old.lots) r → ⊥)
-        × HasNow (did (Claim seat.old.process r) seat.old) (seat.old.lots ++ (r, l) ∷ []) seat.new × IsBlock seat.old.shape r l
+        × Acts (claimed seat.old.process (r ∷ [])) (seat.old.lots ++ (r, l) ∷ []) seat.old seat.new × IsBlock seat.old.shape r l
         × (l.len ≡ n) × (content_of l.body ≡ bytes (replicate n 0))) }
     ensures taken { OnOk result (desk.new.tallies.now ≡ took arena n desk.old.tallies.now) }
     ensures refused { OnErr result (SeatLetsGo (λ claims. length claims ≤ 1) arena seat.old seat.new × (desk.new.tallies.now ≡ desk.old.tallies.now)) }
@@ -159,7 +164,7 @@ pub(crate) fn make_block<R, V: Vaults, G: Gate>(
         return Err(Reason::NoRecord);
     };
     desk.gate.between(place_of(seat), Point::Claimed);
-    let Some(buffer) = zeros(alloc, n) else {
+    let Ok(buffer) = Vec::with_capacity(alloc, n as usize) else {
         desk.records.vacate(seat, r);
         return Err(Reason::OutOfMemory);
     };
@@ -181,8 +186,7 @@ pub(crate) fn give_up<R, V: Vaults, G: Gate>(
     requires at { IsSeatAt V.names desk.old seat.old }
     requires held { (l : LotOf Body) × (value_at r seat.old.lots ≡ Some l) × IsBlock seat.old.shape r l }
     ensures same { IsSameDesk V.names V.extent desk.old desk.new }
-    ensures seat { HasNow (did (Vacate seat.old.process r) seat.old) (without r seat.old.lots) seat.new }
-    ensures seen { StartsWith seat.new.front seat.old.front }
+    ensures seat { Acts (vacated seat.old.process r) (without r seat.old.lots) seat.old seat.new }
     ensures back { (l : LotOf Body) → value_at r seat.old.lots ≡ Some l → (desk.new.tallies.now ≡ gave (r / MAX_RECORDS) l.len desk.old.tallies.now) × (result ≡ l.len) }
 {
     let len = empty(desk, seat, r);
@@ -195,7 +199,7 @@ pub(crate) fn give_up<R, V: Vaults, G: Gate>(
 pub(crate) fn holds(records: &Records<Body>, seat: &mut Seat<Body>, r: u16) -> bool
     requires own { IsSeatOf records.now seat.old }
     requires exist { (q : ℕ) → Among (keys seat.old.lots) q → IsRecord seat.old.shape q }
-    ensures same { HasNow seat.old seat.old.lots seat.new × StartsWith seat.new.front seat.old.front }
+    ensures same { Acts [] seat.old.lots seat.old seat.new }
     ensures holds { MatchBool result (Among (keys seat.old.lots) r) (Among (keys seat.old.lots) r → ⊥) }
 {
     if !records.has(r) {
@@ -247,10 +251,9 @@ pub(crate) fn accept_block(
 ) -> Result<Header, u64>
     requires own { IsSeatOf records.now seat.old × IsRecord records.now.shape r × (direction < DIRECTIONS) }
     ensures here { IfOk result (λ s. (l : LotOf Body) × (Among (keys seat.old.lots) r → ⊥)
-        × HasNow (did (Accept seat.old.process r direction) (carrying (l ∷ []) seat.old)) (seat.old.lots ++ (r, l) ∷ []) seat.new × IsBlock seat.old.shape r l × (s ≡ header_of (item_of l))
+        × Acts (accepted_on seat.old.process direction ((r, item_of l) ∷ [])) (seat.old.lots ++ (r, l) ∷ []) seat.old seat.new × IsBlock seat.old.shape r l × (s ≡ header_of (item_of l))
         × Arrived seat.old.process seat.old.front seat.new.front r direction (item_of l)) }
-    ensures missing { IfErr result (λ word. (word ≢ 2 + 4 * direction) × HasNow seat.old seat.old.lots seat.new × SawAt seat.old.shape seat.old.front seat.new.front r word) }
-    ensures seen { StartsWith seat.new.front seat.old.front }
+    ensures missing { IfErr result (λ word. (word ≢ 2 + 4 * direction) × Acts [] seat.old.lots seat.old seat.new × SawAt seat.old.shape seat.old.front seat.new.front r word) }
 {
     records.accept(seat, r, direction)?;
     Ok(look(records, seat, r))
@@ -265,10 +268,8 @@ pub(crate) fn pass_block(
 ) -> u32
     requires own { IsSeatOf records.now seat.old × IsRecord records.now.shape r × (direction < DIRECTIONS) }
     requires held { (l : LotOf Body) × (value_at r seat.old.lots ≡ Some l) × IsLotOf seat.old.shape r l × IsFull fits_in l }
-    ensures passed { (l : LotOf Body) → value_at r seat.old.lots ≡ Some l → HasNow (did (Pass seat.old.process r direction) (carrying (l ∷ []) seat.old)) (without r seat.old.lots) seat.new }
-    ensures seen { StartsWith seat.new.front seat.old.front }
-    ensures came { Came (Pass seat.old.process r direction) seat.old.front seat.new.front }
-    ensures bytes { (l : LotOf Body) → value_at r seat.old.lots ≡ Some l → result ≡ l.len }
+    ensures { (l : LotOf Body) × (value_at r seat.old.lots ≡ Some l) × Acts (passed_on seat.old.process direction ((r, item_of l) ∷ [])) (without r seat.old.lots) seat.old seat.new
+        × (result ≡ l.len) }
 {
     let header = look(records, seat, r);
     records.pass(seat, r, direction);
@@ -312,6 +313,7 @@ fn part<R, V: Vaults, G>(
                 unreachable!()
             };
             buffer.truncate(k as usize);
+            buffer.shrink_to_fit();
         },
     )
 }

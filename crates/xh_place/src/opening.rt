@@ -1,9 +1,9 @@
 // What opening does to the seat: two records get 32 bytes each, and the two ends of a channel.
-ghost use Rattle.std.specs.Prelude.{◌≡◌, ◌≢◌, ℕ, ◌∷◌, [], ◌+◌, ◌*◌, ◌/◌, ◌<◌, ◌≤◌, length, Some, IfOk, IfErr, OnOk, OnErr, MatchOption, slice_get};
+ghost use Rattle.std.specs.Prelude.{◌≡◌, ◌≢◌, ℕ, ◌∷◌, ◌++◌, [], ◌+◌, ◌*◌, ◌/◌, ◌<◌, ◌≤◌, length, Some, IfOk, IfErr, OnOk, OnErr, MatchOption, slice_get};
 ghost use Rattle.xh_arena.specs.Views.{LotOf};
 ghost use Rattle.xh_channel.specs.Endpoint.{EndpointOf};
 ghost use Rattle.xh_model.specs.Keyed.{Among, keys, put, value_at, without};
-ghost use Rattle.xh_model.specs.declared.event.Event.TheVariants.{Vacate};
+ghost use Rattle.xh_place.specs.Events.{vacated};
 ghost use Rattle.xh_model.specs.declared.limits.TheConstants.{END_BYTES, MAX_RECORDS};
 ghost use Rattle.xh_place.specs.Bodies.{fits_in};
 ghost use Rattle.xh_place.specs.Desk.{IsSameDesk, IsSeatAt};
@@ -12,7 +12,7 @@ ghost use Rattle.xh_place.specs.Places.{item_of};
 ghost use Rattle.xh_place.specs.Tallies.{took};
 ghost use Rattle.xh_place.specs.Vaults.{IsNoPair, IsRefusedAt};
 ghost use Rattle.xh_place.specs.declared.body.Body.{Body};
-ghost use Rattle.xh_place.specs.inner.Lots.{HasNow, SeatFull, SeatLetsGo, with_done};
+ghost use Rattle.xh_place.specs.inner.Lots.{Acts, SeatFull, SeatLetsGo};
 ghost use Rattle.xh_records.specs.History.{StartsWith};
 ghost use Rattle.xh_records.specs.Seats.{IsRecord, IsSeatOf, with_lots};
 ghost use Rattle.xh_records.specs.Showing.{IsEmpty};
@@ -113,8 +113,7 @@ fn claim_two<G: Gate>(
 fn vacate_two(records: &Records<Body>, seat: &mut Seat<Body>, r: u16, t: u16)
     requires own { IsSeatOf records.now seat.old × IsRecord records.now.shape r × IsRecord records.now.shape t × (t ≢ r) }
     requires held { (l m : LotOf Body) × (value_at r seat.old.lots ≡ Some l) × (value_at t seat.old.lots ≡ Some m) × IsEmpty fits_in l × IsEmpty fits_in m }
-    ensures free { HasNow (with_done (Vacate seat.old.process t ∷ Vacate seat.old.process r ∷ []) seat.old) (without r (without t seat.old.lots)) seat.new }
-    ensures seen { StartsWith seat.new.front seat.old.front }
+    ensures free { Acts (vacated seat.old.process t ++ vacated seat.old.process r) (without r (without t seat.old.lots)) seat.old seat.new }
 {
     records.vacate(seat, t);
     records.vacate(seat, r);

@@ -1,10 +1,10 @@
 //! A process's place.
-ghost use Rattle.std.specs.Prelude.{map, ◌≡◌, ◌⊎◌, ◌+◌, ◌*◌, ◌<◌, ◌≤◌, [], length, Some, IfOk, IfErr, true};
+ghost use Rattle.std.specs.Prelude.{◌≡◌, ◌⊎◌, ◌+◌, ◌*◌, ◌<◌, ◌≤◌, [], length, Some, IfOk, IfErr, true};
 ghost use Rattle.xh_core.specs.Statuses.{is_over};
 ghost use Rattle.xh_model.specs.Keyed.{keys, value_at};
 ghost use Rattle.xh_model.specs.declared.limits.TheConstants.{GENERATIONS, MAX_ARENAS, MAX_RECORDS};
 ghost use Rattle.xh_place.specs.Messages.{is_listed};
-ghost use Rattle.xh_place.specs.Places.{AreBlocks, IsPlaceOf, Item, Lists, found, line, line_in, started, total_of, item_of};
+ghost use Rattle.xh_place.specs.Places.{AreBlocks, IsPlaceOf, Item, Lists, found, line, line_in, started, total_of};
 ghost use Rattle.xh_place.specs.Seen.{Stays};
 ghost use Rattle.xh_model.specs.Words.{generation_of};
 ghost use Rattle.xh_core.specs.declared.status.Status.TheVariants as status;
@@ -32,8 +32,7 @@ pub struct Place {
 }
 
 impl Model for Place {
-    ghost use Rattle.std.specs.Prelude.{map};
-    ghost use Rattle.xh_place.specs.Places.{IsPlace, item_of, shown};
+    ghost use Rattle.xh_place.specs.Places.{IsPlace, shown};
     ghost use Rattle.xh_place.specs.Seen.{PlaceSeen};
 
     ghost Value = { PlaceSeen };
@@ -45,8 +44,6 @@ impl Model for Place {
         process = p.seat.process;
         blocks = shown p.seat.lots p.list.items;
         state = p.state;
-        events = p.seat.done;
-        moved = map item_of p.seat.moved;
       };
       front = p.seat.front;
     } };
@@ -62,7 +59,7 @@ impl Place {
         requires room { room ≡ length seat.shape.names * seat.shape.records }
         requires arenas { length seat.shape.names ≤ MAX_ARENAS }
         ensures place { IfOk result (λ p. p ≡ record {
-          place = record { table = seat.table; shape = seat.shape; process = seat.process; blocks = []; state = status.Vacant; events = seat.done; moved = map item_of seat.moved };
+          place = record { table = seat.table; shape = seat.shape; process = seat.process; blocks = []; state = status.Vacant };
           front = seat.front;
         }) }
         ensures refused { IfErr result (λ e. e ≡ Refused.OutOfMemory) }
@@ -76,7 +73,7 @@ impl Place {
         })
     }
 
-    /// The place is a process's from now on: its first one, or the next, of which there are at most 128.
+    /// The place is a process's from now on: its first one, or the next, of which there are at most 2,047.
     pub fn start(&mut self, records: &Records<Body>)
         requires own { IsPlaceOf records.now self.old.place }
         requires free { (self.old.place.state ≡ status.Vacant) ⊎ ((self.old.place.state ≡ status.Ended) × (generation_of self.old.place.process + 1 < GENERATIONS)) }
@@ -164,7 +161,6 @@ impl Place {
     pub fn end(self) -> (Seat<Body>, Option<PlaceLine>)
         ensures same { (result.0.table ≡ self.place.table) × (result.0.shape ≡ self.place.shape) × (result.0.process ≡ self.place.process) × (result.0.front ≡ self.front) }
         ensures lists { Lists result.0 self.place.blocks }
-        ensures events { (result.0.done ≡ self.place.events) × (map item_of result.0.moved ≡ self.place.moved) }
         ensures nothing { is_over self.place.state ≡ true → result.0.lots ≡ [] }
         ensures line { result.1 ≡ line_in self.place.state (line self.place) }
     {

@@ -11,7 +11,7 @@ use Rattle.xh_records.proofs.Cuts.{reseats}
 module _ {B : Type 0} (fits : B → ℕ → Bool) (s : Shape) where
   -- a place of the next generation, where its process holds no record
   pub renews : (o : Ownership) (ws : List ℕ) (hs : List (maybe.Option (Option (LotOf B)))) (vs : List (View B)) (id p : ℕ) (v : View B) → Shows fits s o ws hs vs → get_elem? vs id ≡ some v
-      → v.processes ≡ p ∷ [] → v.records ≡ [] → p + 32 < 4096 → Shows fits s o ws hs (set vs id (renewed v))
+      → v.processes ≡ p ∷ [] → v.records ≡ [] → p + 32 < 65504 → Shows fits s o ws hs (set vs id (renewed v))
   renews o ws hs vs id p v shown here mine bare small = reseats fits s o ws hs vs (set vs id w) shown
       (λ k x j y u is there sat same. either_way (now j y u there sat)
       (λ t. absurd (none_held k x is (sym same ∙ ap place_of t.1 ∙ sym turn)))
@@ -67,7 +67,7 @@ module _ {B : Type 0} (fits : B → ℕ → Bool) (s : Shape) where
       now j x u there sat = either_way (at_set vs id j w u there) (λ t. inl (t.0, only_now x (subst (λ (z : View B). Sits z x) (sym t.1) sat))) (λ t. inr t)
 
   -- a load, by a seat whose place has its next generation
-  pub ages : (slots id : ℕ) (me : Me (Option (LotOf B)) (View B)) (p : ℕ) → 0 < slots → me.0.processes ≡ p ∷ [] → me.0.records ≡ [] → p + 32 < 4096
+  pub ages : (slots id : ℕ) (me : Me (Option (LotOf B)) (View B)) (p : ℕ) → 0 < slots → me.0.processes ≡ p ∷ [] → me.0.records ≡ [] → p + 32 < 65504
       → Allows (Shown fits s) slots id me 0 (λ n. n) (aged (step slots 0 0 0 none) me)
   ages slots id me p some_slot mine bare small t holds long seen fit =
       let a : At fits s t holds.0 0 = at fits s t holds.0 0 slots holds.1 long some_slot in (

@@ -44,7 +44,7 @@ part_shows s o log v u part fit tells = grind (arith, nat_tests)
 pub reseats : {B : Type 0} (fits : B → ℕ → Bool) (s : Shape) (o : Ownership) (ws : List ℕ) (hs : List (maybe.Option (Option (LotOf B)))) (vs now : List (View B)) (shown : Shows fits s o ws hs vs)
     → ((k p id q : ℕ) (v : View B) → IsHeldBy o k (Some (Process p)) → get_elem? now id ≡ some v → Sits v q → place_of q ≡ place_of p → q ≡ p)
     → ((q : ℕ) → q < s.places → (id p : ℕ) × (v : View B) × (get_elem? now id ≡ some v) × Sits v p × (place_of p ≡ q))
-    → ((id p : ℕ) (v : View B) → get_elem? now id ≡ some v → Sits v p → (place_of p < s.places) × (p < 4096))
+    → ((id p : ℕ) (v : View B) → get_elem? now id ≡ some v → Sits v p → (place_of p < s.places) × (p < 65504))
     → ((i j p q : ℕ) (u v : View B) → get_elem? now i ≡ some u → get_elem? now j ≡ some v → Sits u p → Sits v q → place_of p ≡ place_of q → (i ≡ j) × (p ≡ q))
     → ((id : ℕ) (v : View B) → get_elem? now id ≡ some v → ViewFits s o v × ViewTells shown.log v) → Shows fits s o ws hs now
 reseats fits s o ws hs vs now shown latest seated inside alone each = record {

@@ -1,7 +1,7 @@
 -- The deeds of the log, as it grows.
 use Rattle.xh_records.proofs.Common.{nat_tests, ◌≡◌, ℕ, ◌≢◌, ◌⊎◌, Bool, List, [], ◌∷◌, ◌++◌, sym, refl, ap, ◌∙◌, subst, inl, inr, arith, cond, eq-eqb, ne_eqb, LotOf, Event, Accept, Pass, Among}
 use Rattle.xh_records.proofs.Common.{among_either}
-use Rattle.xh_records.proofs.Common.{append-nil, append_assoc, carried, carry, place_of, record_of, process_of, Arrives, Deed, IsLeft, deeds_by, events, tail_of}
+use Rattle.xh_records.proofs.Common.{Adds, append-nil, append_assoc, place_of, record_of, process_of, Arrives, Deed, IsLeft, deeds_by, events, tail_of}
 use Rattle.xh_records.proofs.Elements.{either_way, only_one}
 
 module _ {B : Type 0} where
@@ -22,24 +22,16 @@ module _ {B : Type 0} where
   pub deeds_same : (q : ℕ) (log : List (Deed B)) (d : Deed B) → place_of (process_of d.0) ≢ q → deeds_by q (log ++ d ∷ []) ≡ deeds_by q log
   deeds_same q log d n = deeds_append q log (d ∷ []) ∙ ap (λ (b : Bool). deeds_by q log ++ cond b (d ∷ []) []) (ne_eqb (place_of (process_of d.0)) q n) ∙ append-nil (deeds_by q log)
 
-  -- what is known after a step of the place q: what was known before, then deeds of other places, then those that the step did itself
-  abbrev pub Grows : ℕ → List (Deed B) → List (Deed B) → List (Deed B) → Type 0
-  Grows q own before after = (others : List (Deed B)) × (after ≡ before ++ (others ++ own)) × (deeds_by q others ≡ [])
+  pub own_deed : (q : ℕ) (d : Deed B) → place_of (process_of d.0) ≡ q → deeds_by q (d ∷ []) ≡ d ∷ []
+  own_deed q d at = ap (λ (b : Bool). cond b (d ∷ []) []) (eq-eqb (place_of (process_of d.0)) q at)
 
-  pub grows_twice : (q : ℕ) (own a b c : List (Deed B)) → Grows q [] a b → Grows q own b c → Grows q own a c
-  grows_twice q own a b c x y = (
-    x.0 ++ y.0,
-    y.1 ∙ ap (λ (z : List (Deed B)). z ++ (y.0 ++ own)) (x.1 ∙ ap (λ (z : List (Deed B)). a ++ z) (append-nil x.0)) ∙ append_assoc a x.0 (y.0 ++ own)
-        ∙ ap (λ (z : List (Deed B)). a ++ z) (sym (append_assoc x.0 y.0 own)),
-    deeds_append q x.0 y.0 ∙ (λ i. x.2 i ++ y.2 i),
-  )
+  -- nothing was added, or one after another
+  pub adds_none : (q : ℕ) (a b : List (Deed B)) → b ≡ a → Adds q [] a b
+  adds_none q a b e = ([], e ∙ sym (append-nil a), refl)
 
-  pub carried_more : (log : List (Deed B)) (d : Deed B) → carried (log ++ d ∷ []) ≡ carry d.0 d.1 (carried log)
-  carried_more [] d = append-nil (carry d.0 d.1 [])
-  carried_more (x ∷ xs) d = ap (λ (z : List (LotOf B)). carry x.0 x.1 [] ++ z) (carried_more xs d) ∙ carry_behind d.0 d.1 (carry x.0 x.1 []) (carried xs)
-    where
-      carry_behind : (e : Event) (l : LotOf B) (xs ys : List (LotOf B)) → xs ++ carry e l ys ≡ carry e l (xs ++ ys)
-      carry_behind e l xs ys = grind (arith, nat_tests, append_assoc)
+  pub adds_more : (q : ℕ) (own more a b c : List (Deed B)) → Adds q own a b → Adds q more b c → Adds q (own ++ more) a c
+  adds_more q own more a b c x y =
+      (x.0 ++ y.0, y.1 ∙ ap (λ (z : List (Deed B)). z ++ y.0) x.1 ∙ append_assoc a x.0 y.0, deeds_append q x.0 y.0 ∙ (λ i. x.2 i ++ y.2 i))
 
   -- what a pass left is left by it until the next deed on the record
   pub left_now : (log : List (Deed B)) (q r d : ℕ) (l : LotOf B) → IsLeft (log ++ (Pass q r d, l) ∷ []) r d l

@@ -4,7 +4,7 @@ use Rattle.xh_records.proofs.Common.{length-map, Option, Some, None, slice_get, 
 use Rattle.xh_records.proofs.Common.{Process, Direction, index_of, Ownership, IsHeldBy, word_of, place_of, number_of, index_back, Among, Distinct, keys, among_back, among_either, among_front}
 use Rattle.xh_records.proofs.Common.{at_key, Shape, View, IsLotAt, Sits, ViewFits, Shows, Shown, IsSmall, Held, indices, lot_in, view_of, Ends, EndsAs, IsAway, IsHomeLot}
 use Rattle.xh_records.proofs.Common.{spent, slot_at, or_else, IsGathered}
-use Rattle.xh_records.proofs.Common.{Did, carried, deeds_by, events}
+use Rattle.xh_records.proofs.Common.{deeds_by}
 use Rattle.std.specs.Option.{option_or, IsSome}
 use Rattle.xh_records.proofs.Elements.{either_way, in_range, is_there, only_one, elem_slice, slice_elem, nth_is, among_map}
 use Rattle.xh_records.proofs.Keeps.{home_lot, one_holder, same_place, never}
@@ -13,10 +13,10 @@ use Rattle.xh_records.proofs.Distinct.{process_in, not_twice, distinct_front, co
 
 -- one more seat is gathered
 pub gathers : {B : Type 0} (m : ℕ) (seats : List (Held B)) (x : Held B) (v v' : View B) (held held' : List (Option (LotOf B))) → get_elem? seats m ≡ some x → IsGathered (suc m) seats v held
-    → v'.processes ≡ v.processes ++ x.process ∷ [] → v'.records ≡ v.records ++ (view_of x).records → v'.fronts ≡ v.fronts ++ (view_of x).fronts → Did x
+    → v'.processes ≡ v.processes ++ x.process ∷ [] → v'.records ≡ v.records ++ (view_of x).records → v'.fronts ≡ v.fronts ++ (view_of x).fronts
     → length held' ≡ length held
     → ((r : ℕ) → Among (indices x) r → (l : LotOf B) × (lot_in r x ≡ Some l)) → ((r : ℕ) → r < length held → slot_at held' r ≡ or_else (lot_in r x) (slot_at held r)) → IsGathered m seats v' held'
-gathers {B} m seats x v v' held held' at old places records lists did long has fill = record {
+gathers {B} m seats x v v' held held' at old places records lists long has fill = record {
   each = λ p h. grind (arith, nat_tests, only_one, among_either);
   count = let c = old.count in let l = ap length places ∙ length-append v.processes (x.process ∷ []) in omega arith;
   one = λ d i j y z at_y at_z le le' e.
@@ -149,9 +149,8 @@ module _ {B : Type 0} (fits : B → ℕ → Bool) (s : Shape) (id : ℕ) (v : Vi
   some_lot k h = let there = is_there o k (let e : length o ≡ length held = count in omega arith) in let t = ended k there.0 there.1 in (t.0, t.1)
 
   -- what a seat has seen of its place's deeds is all of them
-  its_own : (j : ℕ) (x : Held B) → slice_get seats j ≡ Some x → Did x × (deeds_by (place_of x.process) x.front ≡ deeds_by (place_of x.process) shown.log)
-  its_own j x at = let f = gathered.fronts j x (slice_elem seats j x at) (omega arith) in
-      (f.1, ((shown.history.tells id v final.1.1).only (place_of x.process) x.front f.0 (mod-lt x.process (omega arith))).3)
+  its_own : (j : ℕ) (x : Held B) → slice_get seats j ≡ Some x → deeds_by (place_of x.process) x.front ≡ deeds_by (place_of x.process) shown.log
+  its_own j x at = ((shown.history.tells id v final.1.1).only (place_of x.process) x.front (gathered.fronts j x (slice_elem seats j x at) (omega arith)) (mod-lt x.process (omega arith))).3
 
   pub ends : (lots : List (LotOf B)) → length lots ≡ length xs → ((k : ℕ) (l : LotOf B) → get_elem? lots k ≡ some l → or_else (slot_at held k) (slot_at xs k) ≡ Some l) → Ends fits s seats ws lots
   ends lots size are = record {
@@ -159,9 +158,8 @@ module _ {B : Type 0} (fits : B → ℕ → Bool) (s : Shape) (id : ℕ) (v : Vi
     log = shown.log;
     leads = shown.history.leads;
     theirs = shown.history.theirs;
-    parts = λ j x at. let d = its_own j x at in d.0.0 ∙ ap events d.1;
-    moved = λ j x at. let d = its_own j x at in d.0.1 ∙ ap carried d.1;
-    fronts = λ j x at. (shown.history.tells id v final.1.1).begins (place_of x.process) x.front (gathered.fronts j x (slice_elem seats j x at) (omega arith)).0;
+    parts = its_own;
+    fronts = λ j x at. (shown.history.tells id v final.1.1).begins (place_of x.process) x.front (gathered.fronts j x (slice_elem seats j x at) (omega arith));
     arrives = shown.history.arrives;
     left = λ k d l is at. shown.left k d l is (flies k d l is (are k l (slice_elem lots k l at)));
     holders = shown.holders;

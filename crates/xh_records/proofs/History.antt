@@ -1,9 +1,9 @@
 -- The log of all events, as it grows, and the views' fronts.
 use Rattle.xh_records.proofs.Common.{nat_tests, ◌≡◌, ℕ, ◌<◌, ◌≢◌, List, [], ◌∷◌, ◌++◌, length, set, get_or, sym, refl, ap, ◌∙◌, subst, inl, inr, arith, append_assoc}
 use Rattle.xh_records.proofs.Common.{append-nil, mod-lt, some, get_elem?, at_set, Event, Ownership, IsDone, place_of, Among, among_either, Shape, View, IsInside, IsOneLog, LeadsTo}
-use Rattle.xh_records.proofs.Common.{StartsWith, None, replicate, process_of, Sits, ViewTells, IsHistory, IsOthers, IsAlone, adds, first_of, front_in, none_yet, own_of, tail_of, Accept, Deed}
+use Rattle.xh_records.proofs.Common.{StartsWith, None, replicate, process_of, Sits, ViewTells, IsHistory, IsOthers, IsAlone, adds, first_of, front_in, none_yet, tail_of, Accept, Deed}
 use Rattle.xh_records.proofs.Common.{IsLeft, deeds_by, events}
-use Rattle.xh_records.proofs.Deeds.{arrives_more, deeds_append, deeds_more, deeds_same, events_more}
+use Rattle.xh_records.proofs.Deeds.{arrives_more, deeds_append, deeds_same, events_more}
 use Rattle.xh_records.proofs.Elements.{either_way, only_one}
 use Rattle.xh_records.specs.inner.Steps.{process_in}
 
@@ -91,14 +91,6 @@ more_history s o o' views log id w d old done there long inside sits one was apa
 -- the one front of a view, and more events in it
 pub adds_one : {X : Type 0} (es : List X) (q : ℕ) (l : List (ℕ × List X)) → l ≡ (q, first_of l) ∷ [] → (first_of (adds es l) ≡ first_of l ++ es) × (adds es l ≡ (q, first_of (adds es l)) ∷ [])
 adds_one es q l one = grind (arith, nat_tests)
-
--- the place's own deeds in it, where others did more, and then the place one
-pub own_seen : {B : Type 0} (q : ℕ) (others : List (Deed B)) (l : List (ℕ × List (Deed B))) → l ≡ (q, first_of l) ∷ [] → deeds_by q others ≡ [] → own_of (adds (others ++ []) l) ≡ own_of l
-own_seen q others l one none = grind (arith, nat_tests, deeds_append, append-nil)
-
-pub own_more : {B : Type 0} (q : ℕ) (others : List (Deed B)) (d : Deed B) (l : List (ℕ × List (Deed B))) → l ≡ (q, first_of l) ∷ [] → deeds_by q others ≡ [] → place_of (process_of d.0) ≡ q
-    → own_of (adds (others ++ d ∷ []) l) ≡ own_of l ++ d ∷ []
-own_more q others d l one none at = grind (arith, nat_tests, deeds_append, deeds_more)
 
 -- of places with nothing yet
 pub lists_back : {X : Type 0} (ps : List ℕ) (q : ℕ) (es : List X) → Among (none_yet ps) (q, es) → (p : ℕ) × Among ps p × (q ≡ place_of p) × (es ≡ [])

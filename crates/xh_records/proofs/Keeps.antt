@@ -266,7 +266,7 @@ module _ {B : Type 0} (fits : B → ℕ → Bool) (s : Shape) where
       let mine : me.0.processes ≡ p ∷ [] = alone.0 in
       let o = holds.0 in let shown = holds.1 in let a : At t o r = at t o r slots shown long inside in let n : ℕ = get_or t.words r 0 in
       let new_to_it : Unseen shown.log me.0 p = unseen shown.log me.0 p (shown.history.tells id me.0 seen) alone in let sits : Sits me.0 p = new_to_it.sits in
-      let good : p < 4096 = (shown.inside id p me.0 seen sits).1 in dite (ℕ_discrete n old)
+      let good : p < 65504 = (shown.inside id p me.0 seen sits).1 in dite (ℕ_discrete n old)
       (λ hit. let same : a.holder ≡ h = word_injective a.holder h (sym a.found ∙ hit ∙ is_old) in let held : IsHeldBy o r h = subst (IsHeldBy o r) same a.held in
       let fit = shown.views_fit id me.0 seen in let x = shown.homes_are r h held in let l = home_lot r h x.0 free x.2 in let w : View B = gained me.0 r p h l.0 new_to_it.others in
       let was : (q m d : ℕ) → taking p (number_of s.records r) h ≡ Accept q m d → IsLeft shown.log m d l.0 = λ q m d e.

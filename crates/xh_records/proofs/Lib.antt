@@ -1,5 +1,5 @@
 mod Common
-mod Deeds
+pub mod Deeds
 mod History
 pub mod After
 pub mod Elements

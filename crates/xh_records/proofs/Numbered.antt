@@ -1,14 +1,14 @@
 -- A seat's lots by the numbers of their records.
 use Rattle.xh_records.proofs.Common.{nat_tests, arith, ◌≡◌, ℕ, suc, length, ◌%◌, ◌<◌, ◌≤◌, List, [], ◌∷◌, ◌++◌, map, sym, refl, ap, ◌∙◌, subst, Option, Some, None, Me, TableId, LotOf}
-use Rattle.xh_records.proofs.Common.{index_of, Deed, Event, number_of, place_of, number_inside, index_back, number_back, Among, keys, put, value_at, without, Shape, View, IsLotOf, IsLotAt, IsSmall}
-use Rattle.xh_records.proofs.Common.{Holder, Process, Direction, taking, giving, Advances, HasGained, HasLost, HasSeen, Held, seen, view_of, did, with_lots, IsRecord, adds, front_in}
-use Rattle.xh_records.proofs.Common.{IsOthers, SeesMore, TellsWord, in_slot, with_lot, numbered, AllLots, IsSeat, carried, deeds_in, events, moving}
+use Rattle.xh_records.proofs.Common.{index_of, Deed, IsLast, append_assoc, number_of, place_of, number_inside, index_back, number_back, Among, keys, put, value_at, without, Shape, View, IsLotOf, IsLotAt, IsSmall}
+use Rattle.xh_records.proofs.Common.{Holder, Process, Direction, taking, giving, HasDone, HasGained, HasLost, HasSeen, Held, view_of, with_lots, IsRecord, adds, front_in}
+use Rattle.xh_records.proofs.Common.{IsOthers, SeesMore, TellsWord, in_slot, with_lot, numbered, AllLots, IsSeat, events}
 use Rattle.xh_records.specs.inner.Steps.{process_in}
 use Rattle.xh_records.proofs.Common.{deeds_by, get_or, inl, word_of, Knows, KnowsAt}
-use Rattle.xh_records.proofs.Deeds.{Grows}
+use Rattle.xh_records.proofs.Deeds.{deeds_append}
 use Rattle.xh_records.proofs.Lists.{among_owned, among_owned_back}
 use Rattle.xh_records.proofs.Elements.{among_map, in_range, slice_elem}
-use Rattle.xh_records.proofs.History.{adds_one, own_seen}
+use Rattle.xh_records.proofs.History.{adds_one}
 
 pub index_injective : (n k j : ℕ) → 0 < n → n ≤ 256 → number_of n k ≡ number_of n j → k ≡ j
 index_injective n k j pos most e = sym (index_back n k pos most) ∙ ap (index_of n) e ∙ index_back n j pos most
@@ -66,14 +66,16 @@ module _ {B : Type 0} (s : Shape) (small : IsSmall s) where
 
 -- what a seat gained or lost, by the event of a step
 pub gained_by : {B : Type 0} (x y : Held B) (p r : ℕ) (h : Option Holder) (is : LotOf B → Type 0) (l : LotOf B) → IsLotOf x.shape r l → is l
-    → (y ≡ seen y.front (did (taking p r h) (with_lots (moving (taking p r h) l x) (x.lots ++ (r, l) ∷ [])))) × Advances ((taking p r h, l) ∷ []) x y → HasGained (taking p r h) is x y
-gained_by x y p r None is l lot good e = (l, e.0, lot, good, e.1)
-gained_by x y p r (Some (Process q)) is l lot good e = (l, e.0, lot, good, e.1)
-gained_by x y p r (Some (Direction d)) is l lot good e = (l, e.0, lot, good, e.1)
+    → HasDone ((taking p r h, l) ∷ []) (x.lots ++ (r, l) ∷ []) x y → IsLast (taking p r h, l) y.front → HasGained (taking p r h) is x y
+gained_by x y p r None is l lot good e last = (l, e, lot, good, last)
+gained_by x y p r (Some (Process q)) is l lot good e last = (l, e, lot, good, last)
+gained_by x y p r (Some (Direction d)) is l lot good e last = (l, e, lot, good, last)
 
-pub lost_by : {B : Type 0} (x y : Held B) (p r : ℕ) (h : Option Holder) (l : LotOf B)
-    → (y ≡ seen y.front (did (giving p r h) (with_lots (moving (giving p r h) l x) (without r x.lots)))) × Advances ((giving p r h, l) ∷ []) x y → HasLost (giving p r h) l x y
-lost_by x y p r h l e = grind (arith, nat_tests)
+pub lost_by : {B : Type 0} (x y : Held B) (p r : ℕ) (h : Option Holder) (l : LotOf B) → HasDone ((giving p r h, l) ∷ []) (without r x.lots) x y
+    → IsLast (giving p r h, l) y.front → HasLost (giving p r h) l x y
+lost_by x y p r None l e last = (e, last)
+lost_by x y p r (Some (Process q)) l e last = (e, last)
+lost_by x y p r (Some (Direction d)) l e last = (e, last)
 
 -- a seat as contracts see it
 abbrev pub held : {B : Type 0} → TableId → ℕ → ℕ → Me (Option (LotOf B)) (View B) → Held B
@@ -83,8 +85,6 @@ held t id process me = record {
   shape = me.0.shape;
   process = process;
   lots = numbered me.0.shape.records me.1;
-  done = events (deeds_in me.0);
-  moved = carried (deeds_in me.0);
   front = front_in me.0;
 }
 
@@ -152,44 +152,40 @@ module _ {B : Type 0} (x : Held B) (t : TableId) (id process : ℕ) (me : Me (Op
     shape = (ap (λ (v : View B). v.shape) ev ∙ ap (λ (y : Held B). y.shape) is) j;
     process = (is j).process;
     lots = el j;
-    done = (ap (λ (v : View B). events (deeds_in v)) ev ∙ ap (λ (y : Held B). y.done) is) j;
-    moved = (ap (λ (v : View B). carried (deeds_in v)) ev ∙ ap (λ (y : Held B). y.moved) is) j;
     front = (ap (λ (v : View B). front_in v) ev ∙ ap (λ (y : Held B). y.front) is) j;
   }
 
-  -- and after a step, with other lots, events of others that it saw, and its own
+  -- and after a step, with other lots, deeds of others that it saw, and its own
   pub held_as : (order : List ℕ) (capacity slots : ℕ) → IsSeat process order capacity slots me → (t' : TableId) (id' : ℕ) (me' : Me (Option (LotOf B)) (View B)) (ls : List (ℕ × LotOf B))
-      (others own : List (Deed B)) (done : List Event) (moved : List (LotOf B)) → t' ≡ t → id' ≡ id → me'.0.shape ≡ me.0.shape → numbered me'.0.shape.records me'.1 ≡ ls
-      → me'.0.fronts ≡ adds (others ++ own) me.0.fronts
-      → IsOthers me.0 others → events (deeds_in me'.0) ≡ done → carried (deeds_in me'.0) ≡ moved
-      → (held t' id' process me' ≡ seen (front_in me'.0) (record x { lots = ls; done = done; moved = moved })) × Grows (place_of x.process) own x.front (front_in me'.0)
-  held_as order capacity slots seat t' id' me' ls others own done moved et en es el ef of_others ed em = (
-    (λ j. record {
-      table = (et ∙ ap (λ (y : Held B). y.table) is) j;
-      id = (en ∙ ap (λ (y : Held B). y.id) is) j;
-      shape = (es ∙ ap (λ (y : Held B). y.shape) is) j;
-      process = (is j).process;
-      lots = el j;
-      done = ed j;
-      moved = em j;
-      front = front_in me'.0;
-    }),
-    (others, grind (arith, nat_tests, adds_one), grind (arith, nat_tests)),
-  )
+      (others own : List (Deed B)) → t' ≡ t → id' ≡ id → me'.0.shape ≡ me.0.shape → numbered me'.0.shape.records me'.1 ≡ ls → me'.0.fronts ≡ adds (others ++ own) me.0.fronts
+      → IsOthers me.0 others → deeds_by (place_of x.process) own ≡ own → HasDone own ls x (held t' id' process me')
+  held_as order capacity slots seat t' id' me' ls others own et en es el ef of_others mine =
+      let none : deeds_by (place_of x.process) others ≡ [] = grind (arith, nat_tests) in (
+        (λ j. record {
+          table = (et ∙ ap (λ (y : Held B). y.table) is) j;
+          id = (en ∙ ap (λ (y : Held B). y.id) is) j;
+          shape = (es ∙ ap (λ (y : Held B). y.shape) is) j;
+          process = (is j).process;
+          lots = el j;
+          front = front_in me'.0;
+        }),
+        (others ++ own, grind (arith, nat_tests, adds_one), deeds_append (place_of x.process) others own ∙ (λ i. none i ++ mine i)),
+      )
+
+  -- its own deed stands last
+  pub held_last : (order : List ℕ) (capacity slots : ℕ) → IsSeat process order capacity slots me → (me' : Me (Option (LotOf B)) (View B)) (others : List (Deed B)) (d : Deed B)
+      → me'.0.fronts ≡ adds (others ++ d ∷ []) me.0.fronts → IsLast d (front_in me'.0)
+  held_last order capacity slots seat me' others d ef =
+      let e : front_in me'.0 ≡ x.front ++ (others ++ d ∷ []) = grind (arith, nat_tests, adds_one) in (x.front ++ others, e ∙ sym (append_assoc x.front others (d ∷ [])))
 
   -- and after a look, which found a word
   pub held_seen : (order : List ℕ) (capacity slots : ℕ) (seat : IsSeat process order capacity slots me) (t' : TableId) (id' : ℕ) (me' : Me (Option (LotOf B)) (View B)) (slot r word : ℕ) → t' ≡ t
       → id' ≡ id → slot ≡ index_of x.shape.records r → r % 256 < x.shape.records → SeesMore slot word me me' → HasSeen r word x (held t' id' process me')
   held_seen order capacity slots seat t' id' me' slot r word et en at inside sees =
-      let own : deeds_in me'.0 ≡ deeds_in me.0 = ap (λ (m : Me (Option (LotOf B)) (View B)). deeds_in m.0) sees.2
-      ∙ own_seen (place_of process) sees.0 me.0.fronts seat.front (sym (ap (λ (p : ℕ). deeds_by (place_of p) sees.0) (alone_is process me.0 seat.processes)) ∙ sees.1) in
       let shape : me'.0.shape ≡ x.shape = ap (λ (m : Me (Option (LotOf B)) (View B)). m.0.shape) sees.2 ∙ ap (λ (y : Held B). y.shape) is in (
         known order capacity slots seat slot r at word inside sees.3.0,
         subst (λ (z : Shape × ℕ). TellsWord z.0.records (events (front_in me'.0)) z.1 word) (λ i. (shape i, at i)) sees.3.1,
-        held_as order capacity slots seat t' id' me' x.lots sees.0 [] x.done x.moved et en (ap (λ (m : Me (Option (LotOf B)) (View B)). m.0.shape) sees.2)
+        held_as order capacity slots seat t' id' me' x.lots sees.0 [] et en (ap (λ (m : Me (Option (LotOf B)) (View B)). m.0.shape) sees.2)
             (ap (λ (m : Me (Option (LotOf B)) (View B)). numbered m.0.shape.records m.1) sees.2 ∙ ap (λ (y : Held B). y.lots) is)
-            (ap (λ (m : Me (Option (LotOf B)) (View B)). m.0.fronts) sees.2)
-            sees.1
-            (ap events own ∙ ap (λ (y : Held B). y.done) is)
-            (ap carried own ∙ ap (λ (y : Held B). y.moved) is),
+            (ap (λ (m : Me (Option (LotOf B)) (View B)). m.0.fronts) sees.2) sees.1 refl,
       )

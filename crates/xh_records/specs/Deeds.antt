@@ -2,7 +2,7 @@
 use Rattle.std.specs.Prelude.{◌≡◌, ◌≢◌, ℕ, List, [], ◌∷◌, ◌++◌, ◌==◌, cond, map}
 use Rattle.xh_arena.specs.Views.{LotOf}
 use Rattle.xh_model.specs.declared.event.Event.{Event}
-use Rattle.xh_model.specs.declared.event.Event.TheVariants.{Claim, Carve, Cut, GiveBack, Vacate, Pass, Accept}
+use Rattle.xh_model.specs.declared.event.Event.TheVariants.{Pass, Accept}
 use Rattle.xh_model.specs.Keyed.{Among}
 use Rattle.xh_model.specs.Words.{place_of, record_of}
 use Rattle.xh_records.specs.History.{process_of}
@@ -11,29 +11,22 @@ use Rattle.xh_records.specs.History.{process_of}
 abbrev pub Deed : Type 0 → Type 0
 Deed B = Event × LotOf B
 
--- a list of what was carried, with the lot of one more event
-abbrev pub carry : {X : Type 0} → Event → X → List X → List X
-carry (Claim p r) x xs = xs
-carry (Carve p r n) x xs = xs
-carry (Cut p r t k) x xs = xs
-carry (GiveBack p r) x xs = xs
-carry (Vacate p r) x xs = xs
-carry (Pass p r d) x xs = xs ++ x ∷ []
-carry (Accept p r d) x xs = xs ++ x ∷ []
-
 module _ {B : Type 0} where
   abbrev pub events : List (Deed B) → List Event
   events = map (λ d. d.0)
-
-  -- the lots of the passes and accepts among them, as they were then
-  abbrev pub carried : List (Deed B) → List (LotOf B)
-  carried [] = []
-  carried (d ∷ ds) = carry d.0 d.1 [] ++ carried ds
 
   -- those of the processes at the place q, in their order
   abbrev pub deeds_by : ℕ → List (Deed B) → List (Deed B)
   deeds_by q [] = []
   deeds_by q (d ∷ ds) = cond (place_of (process_of d.0) == q) (d ∷ deeds_by q ds) (deeds_by q ds)
+
+  -- what was added from the one front to the other has just these deeds of the place q, in this order
+  abbrev pub Adds : ℕ → List (Deed B) → List (Deed B) → List (Deed B) → Type 0
+  Adds q own from to = (more : List (Deed B)) × (to ≡ from ++ more) × (deeds_by q more ≡ own)
+
+  -- this deed stands last
+  abbrev pub IsLast : Deed B → List (Deed B) → Type 0
+  IsLast d all = (before : List (Deed B)) × (all ≡ before ++ d ∷ [])
 
   -- the last of the deeds on the record r passed it to the direction d, and left this lot
   abbrev pub IsLeft : List (Deed B) → ℕ → ℕ → LotOf B → Type 0

@@ -11,7 +11,7 @@ use Rattle.xh_model.specs.Words.{Ownership, IsHeldBy, IsHolder, IsWord, record_o
 use Rattle.xh_model.specs.Keyed.{Among, keys, value_at, without}
 use Rattle.xh_records.specs.declared.shape.Shape.{Shape}
 use Rattle.xh_records.specs.Showing.{IsLotOf, IsLotAt, IsEmpty, IsFull}
-use Rattle.xh_records.specs.Deeds.{Arrives, Deed, IsLeft, carried, carry, deeds_by, events}
+use Rattle.xh_records.specs.Deeds.{Adds, Arrives, Deed, IsLast, IsLeft, deeds_by, events}
 use Rattle.xh_records.specs.History.{LeadsTo, StartsWith, TellsWord, process_of}
 
 -- the table of all records
@@ -19,16 +19,14 @@ pub record RecordsOf : Type 0 where
   pub table : TableId
   pub shape : Shape
 
--- a seat: its table, its number there, the process that it stands for, the lots of the records that the process owns, each beside its record's number, in the order gained, the events that the
--- seat did, in their order, the lots that it passed or accepted by them, as they were then, and its front: the beginning of the one log of all deeds that it has seen
+-- a seat: its table, its number there, the process that it stands for, the lots of the records that the process owns, each beside its record's number, in the order gained, and its front: the
+-- beginning of the one log of all deeds that it has seen, with all deeds of its own place
 pub record Held (B : Type 0) : Type 0 where
   pub table : TableId
   pub id : ℕ
   pub shape : Shape
   pub process : ℕ
   pub lots : List (ℕ × LotOf B)
-  pub done : List Event
-  pub moved : List (LotOf B)
   pub front : List (Deed B)
 
 -- the table gave this seat
@@ -47,26 +45,21 @@ IsRecord s r = (r / MAX_RECORDS < length s.names) × (r % MAX_RECORDS < s.record
 abbrev pub with_lots : {B : Type 0} → Held B → List (ℕ × LotOf B) → Held B
 with_lots x l = record x { lots = l }
 
--- the seat that did the event e, too
-abbrev pub did : {B : Type 0} → Event → Held B → Held B
-did e x = record x { done = x.done ++ e ∷ [] }
+-- the seat has these lots now, and its place did just these deeds since, in what it has seen; else it is as it was
+abbrev pub HasDone : {B : Type 0} → List (Deed B) → List (ℕ × LotOf B) → Held B → Held B → Type 0
+HasDone own lots x y = (y ≡ record x { lots = lots; front = y.front }) × Adds (place_of x.process) own x.front y.front
 
--- the seat did these deeds, and what else it has seen since is of other places
-abbrev pub Advances : {B : Type 0} → List (Deed B) → Held B → Held B → Type 0
-Advances {B} own x y = (others : List (Deed B)) × (y.front ≡ x.front ++ (others ++ own)) × (deeds_by (place_of x.process) others ≡ [])
-
--- by the event e the seat gained the lot of its record, behind its others, and of that lot this holds
+-- by the event e, the last that it has seen, the seat gained the lot of its record, behind its others, and of that lot this holds
 abbrev pub HasGained : {B : Type 0} → Event → (LotOf B → Type 0) → Held B → Held B → Type 0
-HasGained {B} e is x y = (l : LotOf B) × (y ≡ record x { lots = x.lots ++ (record_of e, l) ∷ []; done = x.done ++ e ∷ []; moved = carry e l x.moved; front = y.front })
-    × IsLotOf x.shape (record_of e) l × is l × Advances ((e, l) ∷ []) x y
+HasGained {B} e is x y = (l : LotOf B) × HasDone ((e, l) ∷ []) (x.lots ++ (record_of e, l) ∷ []) x y × IsLotOf x.shape (record_of e) l × is l × IsLast (e, l) y.front
 
--- by the event e the seat lost this lot of its record
+-- by the event e, the last that it has seen, the seat lost this lot of its record
 abbrev pub HasLost : {B : Type 0} → Event → LotOf B → Held B → Held B → Type 0
-HasLost e l x y = (y ≡ record x { lots = without (record_of e) x.lots; done = x.done ++ e ∷ []; moved = carry e l x.moved; front = y.front }) × Advances ((e, l) ∷ []) x y
+HasLost e l x y = HasDone ((e, l) ∷ []) (without (record_of e) x.lots) x y × IsLast (e, l) y.front
 
 -- the seat has seen more of the others, and else is as it was
 abbrev pub HasLooked : {B : Type 0} → Held B → Held B → Type 0
-HasLooked x y = (y ≡ record x { front = y.front }) × Advances [] x y
+HasLooked x y = HasDone [] x.lots x y
 
 -- a seat's lot of the record at an index
 abbrev pub lot_in : {B : Type 0} → ℕ → Held B → Option (LotOf B)
@@ -96,15 +89,14 @@ module _ {B : Type 0} (fits : B → ℕ → Bool) (s : Shape) (seats : List (Hel
   EndsAs k (Some (Process p)) l = (j : ℕ) × (x : Held B) × (slice_get seats j ≡ Some x) × (x.process ≡ p) × (lot_in k x ≡ Some l)
   EndsAs k (Some (Direction d)) l = IsLotAt s k l × IsFull fits l
 
-  -- these words and lots show, with the views of the seats, one ownership, and one log of all events, of which each seat did its place's part and has seen a beginning, leads to it;
+  -- these words and lots show, with the views of the seats, one ownership, and one log of all events, of which each seat has seen a beginning, with all that its place did, leads to it;
   -- whatever was accepted, or is in flight, is as the last pass of its record left it
   pub record Ends (words : List ℕ) (lots : List (LotOf B)) : Type 0 where
     pub owners : Ownership
     pub log : List (Deed B)
     pub leads : LeadsTo s.records (replicate (length owners) None) (events log) owners
     pub theirs : (e : Event) → Among (events log) e → place_of (process_of e) < s.places
-    pub parts : (j : ℕ) (x : Held B) → slice_get seats j ≡ Some x → x.done ≡ events (deeds_by (place_of x.process) log)
-    pub moved : (j : ℕ) (x : Held B) → slice_get seats j ≡ Some x → x.moved ≡ carried (deeds_by (place_of x.process) log)
+    pub parts : (j : ℕ) (x : Held B) → slice_get seats j ≡ Some x → deeds_by (place_of x.process) x.front ≡ deeds_by (place_of x.process) log
     pub fronts : (j : ℕ) (x : Held B) → slice_get seats j ≡ Some x → StartsWith log x.front
     pub arrives : Arrives log
     pub left : (k d : ℕ) (l : LotOf B) → IsHeldBy owners k (Some (Direction d)) → slice_get lots k ≡ Some l → IsLeft log (number_of s.records k) d l

@@ -7,7 +7,7 @@ ghost use Rattle.xh_arena.specs.Views.{LotOf};
 ghost use Rattle.xh_model.specs.Keyed.{Among};
 ghost use Rattle.xh_records.specs.Seats.{Ends, Held, IsSeatOf, lot_in};
 ghost use Rattle.xh_records.specs.inner.Views.{indices, view_of};
-ghost use Rattle.xh_records.specs.inner.Gathering.{Did, slot_at, or_else, IsGathered};
+ghost use Rattle.xh_records.specs.inner.Gathering.{slot_at, or_else, IsGathered};
 
 use crate::plays::Whole;
 use crate::records::Records;
@@ -93,7 +93,6 @@ fn empty_out<B: Fits + Drop>(
     requires own { (seat.table ≡ board.now.table_id) × (0 < board.now.table_id.words) }
     requires long { vec_len held.old ≡ board.now.table_id.slots }
     ensures token { (result.table_id ≡ seat.table) × (result.me ≡ (view_of seat, [])) }
-    ensures did { Did seat }
     ensures long { vec_len held.new ≡ vec_len held.old }
     ensures full { (k : ℕ) → Among (indices seat) k → (l : LotOf B) × (lot_in k seat ≡ Some l) }
     ensures lots { (k : ℕ) → k < vec_len held.old → slot_at held.new.items k ≡ or_else (lot_in k seat) (slot_at held.old.items k) }

@@ -64,7 +64,7 @@ pub(crate) fn seats_of<B: Fits>(
     requires small { IsSmall board.now.key }
     ensures long { IfOk result (λ seats. length seats.items ≡ places) }
     ensures seats { IfOk result (λ seats. (k : ℕ) (x : Held B) → get_elem? seats.items k ≡ some x → (x.table ≡ board.now.table_id) × (x.shape ≡ board.now.key) × (x.process ≡ k)
-        × (x.lots ≡ []) × (x.done ≡ []) × (x.moved ≡ []) × (x.front ≡ [])) }
+        × (x.lots ≡ []) × (x.front ≡ [])) }
 {
     let mut seats = Vec::with_capacity(alloc, usize::from(places))?;
     for place in 0..places {

@@ -76,7 +76,7 @@ impl<B: Fits + Drop> Records<B> {
         ensures shape { IfOk result (λ r. r.0.shape ≡ record { records = records; places = places; names = names }) }
         ensures slots { IfOk result (λ r. r.0.table.slots ≡ length lots.items) }
         ensures seats { IfOk result (λ r. (length r.1.items ≡ places) × ((k : ℕ) (x : Held B) → slice_get r.1.items k ≡ Some x → IsSeatOf r.0 x
-            × (x.process ≡ k) × (x.lots ≡ []) × (x.done ≡ []) × (x.moved ≡ []) × (x.front ≡ []))) }
+            × (x.process ≡ k) × (x.lots ≡ []) × (x.front ≡ []))) }
     {
         let count = lots.len();
         let arenas = names.len();
@@ -254,7 +254,7 @@ impl<B: Fits + Drop> Records<B> {
         requires own { IsSeatOf self.now seat.old }
         requires exists { IsRecord self.now.shape number × (direction < DIRECTIONS) }
         requires held { (l : LotOf B) × (value_at number seat.old.lots ≡ Some l) × IsFull B.is_fit l }
-        ensures passed { (l : LotOf B) → value_at number seat.old.lots ≡ Some l → HasLost (Pass seat.old.process number direction) l seat.old seat.new }
+        ensures passed { (l : LotOf B) × (value_at number seat.old.lots ≡ Some l) × HasLost (Pass seat.old.process number direction) l seat.old seat.new }
     {
         self.give(seat, number, OwnerWord::InFlight(direction));
     }
@@ -293,7 +293,7 @@ impl<B: Fits + Drop> Records<B> {
         self.word_at(seat, slot, number)
     }
 
-    /// The seat, which holds no record, stands for the next generation of its place, at most 127. The
+    /// The seat, which holds no record, stands for the next generation of its place, at most 2,046. The
     /// answer is the new process number.
     pub fn renew(&self, seat: &mut Seat<B>) -> u16
         requires own { IsSeatOf self.now seat.old }

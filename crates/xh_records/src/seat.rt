@@ -20,9 +20,8 @@ pub struct Seat<B> {
 }
 
 impl<B> Model for Seat<B> {
-    ghost use Rattle.xh_records.specs.Deeds.{carried, events};
     ghost use Rattle.xh_records.specs.Seats.{Held};
-    ghost use Rattle.xh_records.specs.inner.Views.{deeds_in, front_in};
+    ghost use Rattle.xh_records.specs.inner.Views.{front_in};
     ghost use Rattle.xh_records.specs.inner.Tokens.{IsSeat, numbered};
 
     ghost Value = { Held B };
@@ -33,8 +32,6 @@ impl<B> Model for Seat<B> {
       shape = s.token.me.0.shape;
       process = s.process;
       lots = numbered s.token.me.0.shape.records s.token.me.1;
-      done = events (deeds_in s.token.me.0);
-      moved = carried (deeds_in s.token.me.0);
       front = front_in s.token.me.0;
     } };
 

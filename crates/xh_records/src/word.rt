@@ -9,7 +9,7 @@ use xh_model::limits::{DIRECTIONS, PROCESSES};
 pub enum OwnerWord {
     /// Nobody holds it.
     Free,
-    /// The process of this number does, 0 to 4,095.
+    /// The process of this number does, 0 to 65,503.
     Owned(u16),
     /// It is in flight on this direction, 0 to 127.
     InFlight(u8),

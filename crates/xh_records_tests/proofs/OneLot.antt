@@ -2,11 +2,10 @@
 use Rattle.std.proofs.Common.{◌≡◌, ℕ, List, [], ◌∷◌, ◌++◌, refl, sym, ap, ◌∙◌, subst}
 use Rattle.std.specs.Prelude.{Some}
 use Rattle.xh_arena.specs.Views.{LotOf}
-use Rattle.xh_model.specs.declared.event.Event.{Event}
 use Rattle.xh_model.specs.Keyed.{put, value_at, without}
 use Rattle.xh_model.proofs.Keyed.{here_first}
 use Rattle.xh_records.specs.Deeds.{Deed}
-use Rattle.xh_records.specs.Seats.{Held, RecordsOf, IsSeatOf, did, with_lots}
+use Rattle.xh_records.specs.Seats.{Held, RecordsOf, IsSeatOf, with_lots}
 
 -- the seat that has seen so much
 abbrev pub seen : {B : Type 0} → List (Deed B) → Held B → Held B
@@ -22,8 +21,8 @@ module _ {B : Type 0} (x y z : Held B) (r : ℕ) (l l' : LotOf B) where
   pub changes_one : y ≡ with_lots x ((r, l) ∷ []) → z ≡ with_lots y (put r l' y.lots) → z ≡ with_lots x ((r, l') ∷ [])
   changes_one one changed = changed ∙ ap (λ (h : Held B). with_lots h (put r l' h.lots)) one ∙ ap (with_lots x) (here_first r r ((r, l') ∷ []) _ refl)
 
-  pub loses_one : (e : Event) → y ≡ with_lots x ((r, l) ∷ []) → z ≡ seen z.front (did e (with_lots y (without r y.lots))) → z ≡ with_lots (seen z.front (did e x)) []
-  loses_one e one lost = lost ∙ ap (λ (h : Held B). seen z.front (did e (with_lots h (without r h.lots)))) one ∙ ap (with_lots (seen z.front (did e x))) (here_first r r [] _ refl)
+  pub loses_one : y ≡ with_lots x ((r, l) ∷ []) → z ≡ record y { lots = without r y.lots; front = z.front } → z ≡ with_lots (seen z.front x) []
+  loses_one one lost = lost ∙ ap (λ (h : Held B). record h { lots = without r h.lots; front = z.front }) one ∙ ap (with_lots (seen z.front x)) (here_first r r [] _ refl)
 
 -- it is of the same table
 pub still_of : {B : Type 0} (all : RecordsOf) (x y : Held B) (ls : List (ℕ × LotOf B)) → IsSeatOf all x → y ≡ with_lots x ls → IsSeatOf all y

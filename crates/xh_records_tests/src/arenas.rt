@@ -2,7 +2,7 @@
 mod calls;
 
 use crate::answers::Answer;
-use crate::answers::Answer::{At, Bytes, Nothing, Number, Run};
+use crate::answers::Answer::{At, Bytes, No, Nothing, Number, Run};
 use calls::Call::{Books, Carve, Cut, Extent, GiveBack, Hole, Records, Size};
 use calls::{Call, assert_answers, assert_on};
 use std::alloc::Global;
@@ -46,6 +46,29 @@ fn a_record_is_cut(rt: HostRuntime) {
         (Extent(1), Run(16, 32)),
     ];
     assert_on(&rt, rt.alloc(), 64, 2, 48, CALLS);
+}
+
+/// The largest arena is carved to its last byte, and no larger one is made.
+#[test]
+fn the_largest_is_carved_whole(rt: HostRuntime) {
+    const MOST: u32 = 134_217_728;
+    const CALLS: &[(Call, Answer)] = &[
+        (Size, Number(134_217_728)),
+        (Carve(0, 134_217_712), At(0)),
+        (Carve(1, 32), No(Refused::NoSpace)),
+        (Carve(1, 16), At(134_217_712)),
+        (Hole(0), Nothing),
+        (GiveBack(0), Nothing),
+        (GiveBack(1), Nothing),
+        (Hole(0), Run(0, 134_217_728)),
+        (Carve(1, 134_217_728), At(0)),
+        (Books, Bytes(268_435_456, 134_217_728)),
+    ];
+    assert_on(&rt, rt.alloc(), MOST, 2, 268_435_456, CALLS);
+    assert_eq!(rt;
+        Arena::new(rt.alloc(), MOST + 16, 2, 0).err(),
+        Some(Refused::BadSize)
+    );
 }
 
 /// Makes an arena and looks at it, unless a growth was refused.

@@ -142,14 +142,14 @@ fn words_say_what_they_are(rt: HostRuntime) {
         (1, OwnerWord::Owned(0)),
         (5, OwnerWord::Owned(1)),
         (129, OwnerWord::Owned(32)),
-        (16_381, OwnerWord::Owned(4_095)),
+        (262_013, OwnerWord::Owned(65_503)),
         (22, OwnerWord::InFlight(5)),
         (510, OwnerWord::InFlight(127)),
     ] {
         assert_same(&rt, owner.encode(), word);
         assert_same(&rt, OwnerWord::decode(word), Some(owner));
     }
-    for word in [3, 4, 7, 16_385, 514] {
+    for word in [3, 4, 7, 262_017, 514] {
         assert_same(&rt, OwnerWord::decode(word), None);
     }
 }

@@ -1,1 +1,4 @@
+mod Common
+mod Plays
+mod Wholes
 pub mod Workers

@@ -3,16 +3,12 @@ use Rattle.std.proofs.Common.{◌≡◌, ◌++◌, ◌∙◌, IfErr, List, [], �
 use Rattle.std.specs.Prelude.{◌≢◌, Result, Ok, Err}
 use Rattle.std.proofs.lemmas.List.{append-nil, map_push, nil_from_length}
 use Rattle.xh_calls.specs.Leading.{Leading}
-use Rattle.xh_calls.specs.Places.{status_at}
-use Rattle.xh_place.specs.Messages.{TakesAt}
 use Rattle.xh_calls.specs.Parts.{PartsOf}
-use Rattle.xh_calls.specs.declared.call.Call.TheVariants as call
 use Rattle.xh_core.specs.declared.refused.Refused.{Refused}
 use Rattle.xh_core.specs.declared.refused.Refused.TheVariants.{Empty}
 use Rattle.xh_kernel.specs.Accounts.{AccountOf}
-use Rattle.xh_kernel.specs.Histories.{DidCall}
+use Rattle.xh_kernel.specs.Did.{DidTake}
 use Rattle.xh_kernel.specs.Waits.{AtLast}
-use Rattle.xh_model.specs.Words.{place_of}
 use Rattle.xh_place.specs.declared.got.Taken.{Taken}
 use Rattle.xh_runner.specs.Workers.{Asked, gotten_answer}
 use Rattle.xh_session.specs.declared.machine.Received.{Received}
@@ -38,10 +34,10 @@ not_empty (Ok message) waits is = absurd (cc)
 not_empty (Err why) waits is = waits (cc)
 
 pub took : (parts : PartsOf) (leads : Leading) (p e : ℕ) (t : Result Taken Refused) (a : Result Received Refused) (old new : AccountOf) → a ≡ gotten_answer t
-    → DidCall parts leads p (call.Take p e t) old new → Asked parts leads (Take p e false) a old new
+    → DidTake leads p e t old new → Asked parts leads (Take p e false) a old new
 took parts leads p e t a old new is did = (t, is, did)
 
 pub waited : (parts : PartsOf) (leads : Leading) (p e : ℕ) (t : Result Taken Refused) (a : Result Received Refused) (old new : AccountOf) → a ≡ gotten_answer t
-    → IfErr t (λ why. why ≢ Empty) → AtLast leads (place_of p) (call.Take p e) (λ answer from to. TakesAt (status_at p from.place) e from to answer) (Err Empty) t old new
+    → IfErr t (λ why. why ≢ Empty) → AtLast (DidTake leads p e) (Err Empty) t old new
     → Asked parts leads (Take p e true) a old new
 waited parts leads p e t a old new is waits did = (t, is, (λ empty. not_empty t waits (sym is ∙ empty)), did)

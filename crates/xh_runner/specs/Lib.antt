@@ -1,2 +1,4 @@
+pub mod Plays
 pub mod Workers
 pub mod Runs
+pub mod inner

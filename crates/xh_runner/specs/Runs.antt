@@ -12,8 +12,8 @@ use Rattle.xh_history.specs.Histories.{LookOf, fresh_look}
 use Rattle.xh_kernel.specs.Accounts.{AccountOf, AreFresh}
 use Rattle.xh_kernel.specs.Histories.{LeadsToPlace}
 use Rattle.xh_model.specs.declared.config.Config.{Config}
-use Rattle.xh_model.specs.declared.limits.TheConstants.{MAX_WORKERS, PLACES}
-use Rattle.xh_crew.specs.Plays.{AreAnswersTo, ArePlayed, HasNames}
+use Rattle.xh_model.specs.declared.limits.TheConstants.{MAX_WORKERS, PLACES, USUAL_GENERATIONS}
+use Rattle.xh_runner.specs.Plays.{AreAnswersTo, ArePlayed, HasNames}
 use Rattle.xh_runner.specs.Workers.{WorkerState, did}
 use Rattle.xh_script.specs.declared.replies.Answered.{Answered}
 use Rattle.xh_script.specs.Scripts.{Listing}
@@ -44,7 +44,7 @@ pub record HasPlayed (parts : PartsOf) (leads : Leading) (script : Listing) (ans
 -- A report tells a run of a script by a kernel of these parts: it was made by the configuration, its workers played the script's lines with the report's replies, in histories that lead
 -- so; and the report's ledger and its lines of what is in flight are those with which the books of this kernel were closed, over what these workers left.
 pub record RanOn (parts : PartsOf) (leads : Leading) (config : Config) (script : Listing) (report : Report) : Type 0 where
-  pub made : AreMadeBy config MAX_WORKERS parts
+  pub made : AreMadeBy config MAX_WORKERS USUAL_GENERATIONS parts
   pub accounts : List AccountOf
   pub looks : List (LookOf Entry)
   pub played : HasPlayed parts leads script report.answers.items accounts looks

@@ -4,21 +4,16 @@ use Rattle.xh_calls.specs.Parts.{PartsOf}
 use Rattle.xh_core.specs.declared.block.Block.{Block}
 use Rattle.xh_core.specs.declared.refused.Refused.{Refused}
 use Rattle.xh_core.specs.declared.refused.Refused.TheVariants.{Empty, NoProcess}
-use Rattle.xh_core.specs.Space.{rounded}
 use Rattle.xh_calls.specs.declared.call.Entry.{Entry}
 use Rattle.xh_history.specs.Histories.{LookOf}
 use Rattle.xh_kernel.specs.Looks.{HasGlanced}
-use Rattle.xh_kernel.specs.Accounts.{AccountOf, VaultRefuses}
-use Rattle.xh_calls.specs.declared.call.Call.TheVariants as call
+use Rattle.xh_kernel.specs.Accounts.{AccountOf}
 use Rattle.xh_calls.specs.Leading.{Leading}
-use Rattle.xh_calls.specs.Places.{status_at}
-use Rattle.xh_place.specs.Messages.{TakesAt}
 use Rattle.xh_kernel.specs.Endings.{Exits, Kills}
-use Rattle.xh_kernel.specs.Histories.{DidCall}
+use Rattle.xh_kernel.specs.Did.{DidAlloc, DidClose, DidFree, DidGive, DidRead, DidSplit, DidTake, DidWrite}
 use Rattle.xh_kernel.specs.Waits.{AtLast, SpawnsAt}
 use Rattle.xh_kernel.specs.Wires.{OpensBoth, Wires}
 use Rattle.xh_model.specs.declared.limits.TheConstants.{MAX_BUDGET, PLACES}
-use Rattle.xh_model.specs.Words.{place_of}
 use Rattle.xh_place.specs.declared.got.Got.{Got}
 use Rattle.xh_place.specs.declared.got.Got.TheVariants.{Here, Missing}
 use Rattle.xh_place.specs.declared.got.Taken.{Taken}
@@ -51,19 +46,18 @@ gotten_answer (Err refused) = Err refused
 module _ (parts : PartsOf) (leads : Leading) where
   -- at each question the call of the kernel was made, in the histories and in the account, and this is what it answered
   abbrev pub Asked : (q : Question) → AnswerTo q → AccountOf → AccountOf → Type 0
-  Asked Spawn a old new = SpawnsAt leads old new a
+  Asked Spawn a old new = SpawnsAt parts leads old new a
   Asked (Open p arena contract) a old new = OpensBoth parts leads p arena contract old new a
   Asked (Wire p q arena contract) a old new = Wires parts leads p q arena contract old new a
-  Asked (Alloc p n arena) a old new = DidCall parts leads p (call.Alloc p n arena a) old new × VaultRefuses parts arena (rounded n) old new a
-  Asked (Split p r at) a old new = DidCall parts leads p (call.Split p r at a) old new
-  Asked (Read p r at len) a old new = (room : List ℕ) × (done : Result (Unit {0}) Refused) × (length room ≡ len) × (a ≡ filled room done) × DidCall parts leads p (call.Read p r at room done) old new
-  Asked (Write p r at bytes) a old new = DidCall parts leads p (call.Write p r at bytes a) old new
-  Asked (Give p e tag blocks) a old new = DidCall parts leads p (call.Give p e tag blocks a) old new
-  Asked (Take p e false) a old new = (t : Result Taken Refused) × (a ≡ gotten_answer t) × DidCall parts leads p (call.Take p e t) old new
-  Asked (Take p e true) a old new = (t : Result Taken Refused) × (a ≡ gotten_answer t) × (a ≢ Err Empty)
-      × AtLast leads (place_of p) (call.Take p e) (λ answer from to. TakesAt (status_at p from.place) e from to answer) (Err Empty) t old new
-  Asked (Free p r) a old new = DidCall parts leads p (call.Free p r a) old new
-  Asked (Close p e) a old new = (bytes : ℕ) × DidCall parts leads p (call.Close p e bytes a) old new
+  Asked (Alloc p n arena) a old new = DidAlloc parts leads p n arena a old new
+  Asked (Split p r at) a old new = DidSplit leads p r at a old new
+  Asked (Read p r at len) a old new = (room : List ℕ) × (done : Result (Unit {0}) Refused) × (length room ≡ len) × (a ≡ filled room done) × DidRead leads p r at room done old new
+  Asked (Write p r at bytes) a old new = DidWrite leads p r at bytes a old new
+  Asked (Give p e tag blocks) a old new = DidGive leads p e tag blocks a old new
+  Asked (Take p e false) a old new = (t : Result Taken Refused) × (a ≡ gotten_answer t) × DidTake leads p e t old new
+  Asked (Take p e true) a old new = (t : Result Taken Refused) × (a ≡ gotten_answer t) × (a ≢ Err Empty) × AtLast (DidTake leads p e) (Err Empty) t old new
+  Asked (Free p r) a old new = DidFree leads p r a old new
+  Asked (Close p e) a old new = DidClose leads p e a old new
   Asked (Exit p budget) a old new = Exits leads p (min budget MAX_BUDGET) old new a
   Asked (Kill by victim budget) a old new = Kills leads by victim (min budget MAX_BUDGET) old new a
   Asked (Glance place) a old new = new ≡ old

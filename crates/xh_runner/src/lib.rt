@@ -1,6 +1,11 @@
 //! Runs of whole scripts: bytes in, bytes out.
 #![tactic(auto)]
 
+mod crew;
+mod job;
+mod play;
+mod replies;
+mod run;
 mod threads;
 mod worker;
 

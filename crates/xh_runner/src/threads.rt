@@ -1,18 +1,19 @@
 //! A run of a script on threads, over a kernel that is made, used and settled here; and from bytes to bytes.
 ghost use Rattle.std.specs.Prelude.{◌≡◌, ◌+◌, ◌⊎◌, All, Err, IfErr, IfOk, OnOk, vec_len};
 ghost use Rattle.xh_calls.specs.Parts.{AreMadeBy};
-ghost use Rattle.xh_crew.specs.Plays.{MayStop};
+ghost use Rattle.xh_runner.specs.Plays.{MayStop};
 ghost use Rattle.xh_history.specs.Histories.{fresh_look};
 ghost use Rattle.xh_kernel.specs.Accounts.{AreFresh};
 ghost use Rattle.xh_kernel.specs.Histories.{IsLaw};
-ghost use Rattle.xh_model.specs.Config.{IsConfig};
-ghost use Rattle.xh_model.specs.declared.limits.TheConstants.{MAX_WORKERS};
+ghost use Rattle.xh_model.specs.declared.limits.TheConstants.{MAX_WORKERS, USUAL_GENERATIONS};
 ghost use Rattle.xh_runner.specs.Runs.{AnswersScript, HasPlayed, HasRun, IsLedgerOf, IsReportTold, RanOn};
+ghost use Rattle.xh_script.specs.Config.{IsScriptConfig};
 ghost use Rattle.xh_script.specs.Scripts.{listing_of};
 ghost use Rattle.xh_script.specs.declared.limits.TheConstants.{MAX_SCRIPT};
 ghost use Rattle.xh_session.specs.Ends.{Done, Stopped};
 ghost use Rattle.xh_session.specs.Reading.{ReadsAtMost};
 
+use crate::run::{Outcome, run_on};
 use crate::worker::{hire, leave_all};
 use std::alloc::Global;
 use std::io::{Read, Write};
@@ -21,10 +22,10 @@ use std::sync::Wait;
 use std::thread::Threads;
 use xh_books::close_kernel;
 use xh_core::Config;
-use xh_crew::{Outcome, run_on};
 use xh_kernel::{Account, Kernel, Look, Names, Parts};
 use xh_model::limits::MAX_WORKERS;
 use xh_place::{Gate, OpenGate};
+use xh_script::limits::is_in_script_limits;
 use xh_script::{Answered, Fault, Name, Script, Watched};
 use xh_session::{Report, Run, read_input, write_report};
 
@@ -69,7 +70,7 @@ fn run_named<N: Names + Send + Sync, R: Threads + Wait + Sync, G: Gate + Sync>(
     gate: &G,
 ) -> Result<Report, Fault>
     requires names { parts ≡ N.parts }
-    requires made { AreMadeBy config MAX_WORKERS parts }
+    requires made { AreMadeBy config MAX_WORKERS USUAL_GENERATIONS parts }
     requires law { IsLaw N.parts N.leads }
     ensures run { IfOk result (RanOn N.parts N.leads config (listing_of script.now)) }
     ensures answers { IfOk result (λ r. AnswersScript (listing_of script.now) r.answers.items r.names.items) }
@@ -108,10 +109,10 @@ pub fn run_threads<R: Threads + Wait + Sync, G: Gate + Sync>(
     ensures run { IfOk result (HasRun config (listing_of script.now)) }
     ensures answers { IfOk result (λ r. AnswersScript (listing_of script.now) r.answers.items r.names.items) }
     ensures ledger { IfOk result (λ r. IsLedgerOf config r.ledger r.flight.items) }
-    ensures config { ¬ IsConfig config → result ≡ Err Fault.BadConfig }
-    ensures refused { IfErr result (λ e. ((e ≡ Fault.BadConfig) × ¬ IsConfig config) ⊎ MayStop G.always e) }
+    ensures config { ¬ IsScriptConfig config → result ≡ Err Fault.BadConfig }
+    ensures refused { IfErr result (λ e. ((e ≡ Fault.BadConfig) × ¬ IsScriptConfig config) ⊎ MayStop G.always e) }
 {
-    if !config.is_in_limits() {
+    if !is_in_script_limits(&config) {
         return Err(Fault::BadConfig);
     }
     match Parts::new(alloc, config, MAX_WORKERS) {
@@ -134,7 +135,7 @@ pub fn run_parallel<T: Threads + Wait + Sync, R: Read, W: Write>(
 ) -> Result<(), Fault>
     ensures ok { OnOk result (Done R.remaining W.contents (IsReportTold run.flight run.config) reader.old reader.new writer.old writer.new) }
     ensures err { IfErr result (Stopped R.remaining W.contents (IsReportTold run.flight run.config) run.config reader.old reader.new writer.old writer.new) }
-    ensures config { ¬ IsConfig run.config → result ≡ Err Fault.BadConfig }
+    ensures config { ¬ IsScriptConfig run.config → result ≡ Err Fault.BadConfig }
     ensures limit { ReadsAtMost R.remaining (MAX_SCRIPT + 1) reader.old reader.new }
 {
     let input = read_input(alloc, run.config, reader)?;

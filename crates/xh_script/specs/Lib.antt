@@ -9,6 +9,7 @@ pub mod SoFar
 pub mod Numbering
 pub mod Operands
 pub mod Scripts
+pub mod Config
 pub mod Watching
 pub mod Texts
 pub mod inner

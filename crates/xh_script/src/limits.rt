@@ -1,5 +1,14 @@
 //! The limits of the language, each once. Contracts and code cite these.
-use xh_model::limits::{MAX_BLOCKS, MAX_ROWS};
+ghost use Rattle.std.specs.Prelude.{◌↔◌, IsTrue};
+ghost use Rattle.xh_script.specs.Config.{IsScriptConfig};
+
+use xh_core::Config;
+use xh_model::limits::{MAX_BLOCKS, MAX_BYTES, MAX_ROWS};
+
+/// The bytes of an arena of a script's heap: a multiple of 16, up to this many.
+pub const MAX_ARENA_BYTES: u32 = 1_048_576;
+
+const _: () = prove!(MAX_ARENA_BYTES <= MAX_BYTES);
 
 /// The bytes of a script.
 pub const MAX_SCRIPT: usize = 1_048_576;
@@ -50,3 +59,10 @@ const _: () = prove!(MAX_LEN as usize == MAX_HEX);
 const _: () = prove!(MAX_ROWS < MAX_WORDS);
 
 const _: () = prove!(MAX_BLOCKS < MAX_GIVEN);
+
+/// Whether a script can be run with these limits: those of a machine, with arenas that a script may have.
+pub fn is_in_script_limits(config: &Config) -> bool
+    ensures { IsTrue result ↔ IsScriptConfig config.now }
+{
+    config.is_in_limits() && config.bytes <= MAX_ARENA_BYTES
+}

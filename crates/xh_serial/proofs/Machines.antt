@@ -46,7 +46,7 @@ current_blocks m p h = rw h refl
 pub place_there : (m : Machine) (p : ℕ) → IsWhole m → p % 32 < length m.places
 place_there m p w = let e = w.places.long in omega (arith, e)
 
-pub current_range : (m : Machine) (p : ℕ) → IsWhole m → is_current m p ≡ true → p < 4096
+pub current_range : (m : Machine) (p : ℕ) → IsWhole m → is_current m p ≡ true → p < 65504
 current_range m p w h = let e : (place m.places p).generation ≡ p / 32 = current_generation m p h in let g : (place m.places p).generation < 128 = w.places.generations p in omega (arith, e, g)
 
 -- a place whose list may be what it is

@@ -101,7 +101,7 @@ module _ (from : Option Holder) (h : Holder) (rs : List ℕ) (m n : Machine) (w 
 -- ---- a store in which no byte moved
 
 abbrev pub IsHolder : Holder → Type 0
-IsHolder (Process p) = p < 4096
+IsHolder (Process p) = p < 65504
 IsHolder (Direction d) = d < 128
 
 holder_is : (o : Option Holder) (h : Holder) → is_held_by o h ≡ true → o ≡ Some h
@@ -166,7 +166,7 @@ latest_below m k w l =
     let small : k % 32 ≡ k = omega (arith, l) in
     let g : (slice_index_or m.places k no_place).generation < 128 = rw small at (w.places.generations k) in omega (arith, g, l)
 
-process_bytes : (m : Machine) (a b : ℕ) → a ≡ 4096 → b ≡ 32 → IsWhole m → sum_by (λ p. total m.store (blocks m p)) (range_with_len 0 a) ≡ sum_by (λ place. total m.store place.blocks.items) m.places
+process_bytes : (m : Machine) (a b : ℕ) → a ≡ 65504 → b ≡ 32 → IsWhole m → sum_by (λ p. total m.store (blocks m p)) (range_with_len 0 a) ≡ sum_by (λ place. total m.store place.blocks.items) m.places
 process_bytes m a b e f w =
     let split : (p : ℕ) → total m.store (blocks m p) ≡ sum_by (λ k. cond (latest m k == p) (place_bytes m k) 0) (range_with_len 0 b) = λ p.
     sym (same_range (λ k. cond (latest m k == p) (place_bytes m k) 0) (λ k. cond ((p % 32) == k) (total m.store (blocks m p)) 0) 0 b (λ k l u. at_place m p k (omega (arith, u, f)))
@@ -186,7 +186,7 @@ map_processes a = map (λ p. Process p) (range_with_len 0 a)
 abbrev map_directions : ℕ → List Holder
 map_directions b = map (λ d. Direction d) (range_with_len 0 b)
 
-holder_bytes : (m : Machine) (a b : ℕ) → a ≡ 4096 → b ≡ 128 → IsWhole m →
+holder_bytes : (m : Machine) (a b : ℕ) → a ≡ 65504 → b ≡ 128 → IsWhole m →
     sum_by (bytes_of m.store) (holders a b) ≡ sum_by (λ place. total m.store place.blocks.items) m.places + sum_by (λ line. total m.store (carried line.waiting.items)) m.lines
 holder_bytes m a b e f w =
     let processes : sum_by (bytes_of m.store) (map_processes a) ≡ sum_by (λ place. total m.store place.blocks.items) m.places =
@@ -198,11 +198,11 @@ holder_bytes m a b e f w =
     ∙ indexed (λ (line : Line). total m.store (carried line.waiting.items)) m.lines no_line b (w.channels.long ∙ sym f)) in
     sum_by-append (bytes_of m.store) (map_processes a) (map_directions b) ∙ rw (processes, directions) refl
 
-all_are : (f : Holder → ℕ) → sum_by f all_holders ≡ sum_by f (holders 4096 128)
+all_are : (f : Holder → ℕ) → sum_by f all_holders ≡ sum_by f (holders 65504 128)
 unfolding all_holders
 all_are f = refl
 
 -- what is handed out is owned or in flight
 pub out_is : (m : Machine) → IsWhole m →
     all_out m.store ≡ sum_by (λ place. total m.store place.blocks.items) m.places + sum_by (λ line. total m.store (carried line.waiting.items)) m.lines
-out_is m w = total_bytes m.store w.store ∙ (all_are (bytes_of m.store) ∙ holder_bytes m 4096 128 refl refl w)
+out_is m w = total_bytes m.store w.store ∙ (all_are (bytes_of m.store) ∙ holder_bytes m 65504 128 refl refl w)

@@ -50,7 +50,7 @@ entry_room m p from o w l = grind (arith, nat_tests, current_blocks, lists_curre
 abbrev accepted_store : ℕ → ℕ → Machine → Store
 accepted_store p r m = accept_from p (end_of m r) (arriving m r) m.store
 
-came_from : (m : Machine) (p : ℕ) (e : Option ℕ) → IsWhole m → p < 4096 → Accepted p (on_way_to m e) m.store (accept_from p e (on_way_to m e) m.store)
+came_from : (m : Machine) (p : ℕ) (e : Option ℕ) → IsWhole m → p < 65504 → Accepted p (on_way_to m e) m.store (accept_from p e (on_way_to m e) m.store)
 came_from m p None w l = record { owners = λ q. refl; many = refl; arenas = refl }
 came_from m p (Some d) w l = accepted_all p d (on_way m d) m.store l (λ q. let e = w.once (Direction d) q in omega arith)
 

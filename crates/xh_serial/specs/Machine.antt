@@ -1,6 +1,6 @@
 -- The serial machine as a value, and what always holds of it.
 use Rattle.std.specs.Prelude.{◌≡◌, ℕ, ◌*◌, ◌/◌, ◌%◌, ◌<◌, ◌≤◌, ◌==◌, Bool, true, false, cond, List, [], Option, Some, None, is_some, length, slice_set, slice_index_or}
-use Rattle.xh_model.specs.declared.limits.TheConstants.{CHANNELS, DIRECTIONS, GENERATIONS, MAX_DEPTH, PLACES}
+use Rattle.xh_model.specs.declared.limits.TheConstants.{CHANNELS, DIRECTIONS, MAX_DEPTH, PLACES, USUAL_GENERATIONS}
 use Rattle.xh_model.specs.declared.event.Holder.{Holder}
 use Rattle.xh_model.specs.declared.event.Holder.TheVariants.{Process, Direction}
 use Rattle.xh_model.specs.declared.row.Row.{Row}
@@ -99,7 +99,7 @@ pub record IsEnd (m : Machine) (r d : ℕ) : Type 0 where
 -- a place is used no more often than it can be, and one that is vacant or whose process has ended lists nothing
 pub record ArePlaces (places : List Place) : Type 0 where
   pub long : length places ≡ PLACES
-  pub generations : (p : ℕ) → (place places p).generation < GENERATIONS
+  pub generations : (p : ℕ) → (place places p).generation < USUAL_GENERATIONS
   pub idle : (p : ℕ) → is_over (place places p).status ≡ true → (place places p).blocks.items ≡ []
 
 -- a channel that was not opened is as new; waiting messages have consecutive numbers; under a contract both ends are in step

@@ -1,7 +1,7 @@
 -- A new machine, the commands spawn, glance and ledger, and what is in flight.
 use Rattle.std.specs.Prelude.{ℕ, ◌+◌, ◌*◌, ◌==◌, Bool, cond, List, [], ◌∷◌, Option, Some, None, length, map, ok_or, replicate, nat_le, slice_set, slice_index_or, Result, Ok, Err}
 use Rattle.std.specs.List.{position, sum_by}
-use Rattle.xh_model.specs.declared.limits.TheConstants.{CHANNELS, DIRECTIONS, MAX_RECORDS, PLACES}
+use Rattle.xh_model.specs.declared.limits.TheConstants.{CHANNELS, DIRECTIONS, MAX_RECORDS, PLACES, USUAL_GENERATIONS}
 use Rattle.xh_model.specs.declared.config.Config.{Config}
 use Rattle.xh_model.specs.Store.{Store, len, all_out, new_store}
 use Rattle.xh_core.specs.declared.flight.FlightLine.{FlightLine}
@@ -36,7 +36,7 @@ new_machine c = record {
 -- ---- spawn
 
 abbrev pub is_ready : Place → Bool
-is_ready place = can_start place.status place.generation
+is_ready place = can_start USUAL_GENERATIONS place.status place.generation
 
 -- the place with its next process
 abbrev pub started : Place → Place

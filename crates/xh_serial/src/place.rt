@@ -5,7 +5,7 @@ ghost use Rattle.xh_model.specs.declared.limits.TheConstants.{PLACES};
 
 use arrayvec::ArrayVec;
 use xh_core::Status;
-use xh_model::limits::{GENERATIONS, MAX_HELD, PLACES};
+use xh_model::limits::{MAX_HELD, PLACES, USUAL_GENERATIONS};
 
 /// From a process's number to that of the next one at its place.
 pub(crate) const STRIDE: u16 = PLACES as u16;
@@ -25,7 +25,7 @@ pub(crate) fn is_ready(place: &Place) -> bool
 {
     match place.status {
         Status::Vacant => true,
-        Status::Ended => u16::from(place.generation) + 1 < GENERATIONS,
+        Status::Ended => u16::from(place.generation) + 1 < USUAL_GENERATIONS,
         _ => false,
     }
 }

@@ -2,7 +2,7 @@
 use Rattle.std.specs.Prelude.{◌≡◌, ◌≢◌, ◌≤◌, ℕ, List, length, Option, Ok, Err, ⊤}
 use Rattle.std.specs.Io.KnownBytes.{Consumes, IsAtEnd}
 use Rattle.xh_model.specs.declared.config.Config.{Config}
-use Rattle.xh_model.specs.Config.{IsConfig}
+use Rattle.xh_script.specs.Config.{IsScriptConfig}
 use Rattle.xh_script.specs.declared.fault.Fault.{Fault}
 use Rattle.xh_script.specs.declared.fault.Fault.TheVariants.{Script, Memory, Read, Write, Gate, BadConfig}
 use Rattle.xh_script.specs.declared.limits.TheConstants.{MAX_SCRIPT}
@@ -27,7 +27,7 @@ module _ {R : Type 0} (remaining : R → Option (List ℕ)) where
 
   -- what a fault says that comes before a script is there: a config outside its limits is found before anything is read, and Read comes only where a call failed in this run
   abbrev pub Unread : Config → Watched R → Watched R → Fault → Type 0
-  Unread config old new BadConfig = ¬ IsConfig config × (new ≡ old)
+  Unread config old new BadConfig = ¬ IsScriptConfig config × (new ≡ old)
   Unread config old new Memory = ⊤
   Unread config old new Read = failures new ≢ failures old
   Unread config old new (Script n kind) = (text : List ℕ) × ReadsScript old new text × (script_of text ≡ Err (Script n kind))

@@ -1,7 +1,7 @@
 //! The bytes of a script, read once from the front.
 ghost use Rattle.std.specs.Prelude.{◌≡◌, ◌≢◌, ◌<◌, ◌≤◌, ◌+◌, ◌⊎◌, ℕ, List, ◌++◌, length, IfOk, IfErr, OnOk, Err};
 ghost use Rattle.std.specs.Io.KnownBytes.{IsAtEnd};
-ghost use Rattle.xh_model.specs.Config.{IsConfig};
+ghost use Rattle.xh_script.specs.Config.{IsScriptConfig};
 ghost use Rattle.xh_script.specs.declared.limits.TheConstants.{MAX_SCRIPT};
 ghost use Rattle.xh_script.specs.Scripts.{listing_of};
 ghost use Rattle.xh_script.specs.Watching.{failures, inner_of, Reads};
@@ -10,7 +10,7 @@ ghost use Rattle.xh_session.specs.Reading.{GivesScript, ReadsAtMost, ReadsScript
 use std::alloc::Global;
 use std::io::Read;
 use xh_core::Config;
-use xh_script::limits::MAX_SCRIPT;
+use xh_script::limits::{MAX_SCRIPT, is_in_script_limits};
 use xh_script::{Fault, Script, Watched, read_script};
 
 /// A whole script, and the text that says it.
@@ -72,12 +72,12 @@ pub fn read_input<R: Read>(
     reader: &mut Watched<R>,
 ) -> Result<Input, Fault>
     ensures ok { IfOk result (λ input. GivesScript R.remaining reader.old reader.new input.text.items (listing_of input.script)) }
-    ensures within { OnOk result (IsConfig config) }
+    ensures within { OnOk result (IsScriptConfig config) }
     ensures err { IfErr result (Unread R.remaining config reader.old reader.new) }
-    ensures config { ¬ IsConfig config → result ≡ Err Fault.BadConfig }
+    ensures config { ¬ IsScriptConfig config → result ≡ Err Fault.BadConfig }
     ensures limit { ReadsAtMost R.remaining (MAX_SCRIPT + 1) reader.old reader.new }
 {
-    if !config.is_in_limits() {
+    if !is_in_script_limits(&config) {
         return Err(Fault::BadConfig);
     }
     let text = read_text(alloc, reader)?;

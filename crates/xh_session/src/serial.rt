@@ -1,8 +1,8 @@
 //! A script from its bytes to its replies and its ledger, on the serial machine.
 ghost use Rattle.std.specs.Prelude.{◌≡◌, ◌+◌, ◌<◌, Bool, false, length, IfOk, IfErr, OnOk, Err};
 ghost use Rattle.std.specs.List.{All};
-ghost use Rattle.xh_model.specs.Config.{IsConfig};
 ghost use Rattle.xh_model.specs.declared.limits.TheConstants.{PLACES};
+ghost use Rattle.xh_script.specs.Config.{IsScriptConfig};
 ghost use Rattle.xh_script.specs.declared.limits.TheConstants.{MAX_SCRIPT};
 ghost use Rattle.xh_script.specs.Scripts.{listing_of};
 ghost use Rattle.xh_session.specs.Ends.{Done, Stopped};
@@ -20,7 +20,7 @@ use xh_script::{Fault, Script, Watched};
 // Runs a script on a new machine.
 #[tactic(auto, using(crate::proofs::Ends::told))]
 fn report_of(alloc: Global, config: Config, script: &Script) -> Result<Report, Fault>
-    requires { IsConfig config }
+    requires { IsScriptConfig config }
     ensures told { IfOk result (λ r. (flight : Bool) → IsTold flight config (listing_of script.now) (told_text flight r)) }
     ensures places { IfOk result (λ r. (length r.names.items ≡ PLACES) × All (λ line. line.place < PLACES) r.ledger.places.items) }
     ensures memory { IfErr result (λ e. e ≡ Fault.Memory) }
@@ -49,7 +49,7 @@ pub fn run_serial_as<R: Read, W: Write>(
 ) -> Result<(), Fault>
     ensures ok { OnOk result (Done R.remaining W.contents (IsTold run.flight run.config) reader.old reader.new writer.old writer.new) }
     ensures err { IfErr result (Stopped R.remaining W.contents (IsTold run.flight run.config) run.config reader.old reader.new writer.old writer.new) }
-    ensures config { ¬ IsConfig run.config → result ≡ Err Fault.BadConfig }
+    ensures config { ¬ IsScriptConfig run.config → result ≡ Err Fault.BadConfig }
     ensures limit { ReadsAtMost R.remaining (MAX_SCRIPT + 1) reader.old reader.new }
 {
     let input = read_input(alloc, run.config, reader)?;
@@ -68,7 +68,7 @@ pub fn run_serial<R: Read, W: Write>(
 ) -> Result<(), Fault>
     ensures ok { OnOk result (Done R.remaining W.contents (IsMeaning config) reader.old reader.new writer.old writer.new) }
     ensures err { IfErr result (Stopped R.remaining W.contents (IsMeaning config) config reader.old reader.new writer.old writer.new) }
-    ensures config { ¬ IsConfig config → result ≡ Err Fault.BadConfig }
+    ensures config { ¬ IsScriptConfig config → result ≡ Err Fault.BadConfig }
     ensures limit { ReadsAtMost R.remaining (MAX_SCRIPT + 1) reader.old reader.new }
 {
     let run = Run {

@@ -1,9 +1,9 @@
 //! What is left at the end of a round, by calls and by the ledger.
-use crate::board::{Board, HELD, OWNED, STARTED};
+use crate::board::{Board, HELD, OWNED, PROCESSES, STARTED};
 use crate::caller::{Call, Caller, Told};
 use crate::worker::Worker;
 use xh_core::{Ledger, State};
-use xh_model::limits::{PLACES, PROCESSES};
+use xh_model::limits::PLACES;
 
 impl<'a, C: Caller, R> Worker<'a, C, R> {
     // Counts what a process holds that runs, by a read of each record. None is another's too.

@@ -2,6 +2,7 @@
 use std::alloc::{AllocError, Global};
 use std::sync::atomic::AtomicU64;
 use std::sync::atomic::Ordering::SeqCst;
+use xh_model::limits::{PLACES, USUAL_GENERATIONS};
 
 /// So many places of blocks and of ends are known to all workers.
 pub(crate) const HINTS: u16 = 64;
@@ -23,6 +24,9 @@ pub(crate) const ENDS: u16 = 128;
 pub(crate) const HELD: u16 = 192;
 
 pub(crate) const OWNED: u16 = 256;
+
+/// The processes that a kernel of the soak can start: each place is used 128 times.
+pub(crate) const PROCESSES: u16 = PLACES as u16 * USUAL_GENERATIONS;
 
 /// Which processes have started, and which of them somebody meant to end.
 pub(crate) const STARTED: u16 = 4096;

@@ -1,12 +1,14 @@
 //! A worker: random commands of any process on any record.
-use crate::board::{AIMED_AT, BLOCKS, Board, ENDS, HINTS, IS_THERE, MESSAGES, OWN, STARTED, WAITS};
+use crate::board::{
+    AIMED_AT, BLOCKS, Board, ENDS, HINTS, IS_THERE, MESSAGES, OWN, PROCESSES, STARTED, WAITS,
+};
 use crate::caller::{Call, Caller, Told};
 use crate::plan::{Chance, Plan};
 use arrayvec::ArrayVec;
 use std::sync::Wait;
 use std::time::{Clock, Duration, Instant};
 use xh_kernel::Got;
-use xh_model::limits::{MAX_WEAR, PROCESSES};
+use xh_model::limits::MAX_WEAR;
 
 // What a message is known by, with one block more.
 fn joined(sum: u64, r: &u16) -> u64 {

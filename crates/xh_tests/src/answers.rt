@@ -6,13 +6,13 @@ use xh_core::{Block, Glance, Refused, Status};
 use xh_runner::{Machine, Received};
 
 /// A call, by the numbers of processes, records and arenas. A wire's ends are of arena 0. `Spawns` starts so many processes; `Lives` starts and ends
-/// 4,096 in turn, each place's generations one after the other and then the next place's. A read is of at most six bytes.
+/// so many at each place in turn, each place's generations one after the other and then the next place's. A read is of at most six bytes.
 /// `Moved` asks what was taken of an arena and given back.
 #[derive(Clone, Copy)]
 pub enum Call<'a> {
     Spawn,
     Spawns(u16),
-    Lives,
+    Lives(u16),
     Alloc(u16, u32, u32),
     Split(u16, u16, u32),
     Read(u16, u16, u32, usize),
@@ -112,10 +112,10 @@ fn last_of<M: Machine>(machine: &mut M, count: u16) -> Answer {
     last
 }
 
-fn lives_of<M: Machine>(machine: &mut M) -> Answer {
+fn lives_of<M: Machine>(machine: &mut M, generations: u16) -> Answer {
     for place in 0..32u16 {
-        for generation in 0..128u16 {
-            let process = place + 32 * generation;
+        for generation in 0..generations {
+            let process = generation.wrapping_mul(32).wrapping_add(place);
             if machine.spawn().ok() != Some(process) || machine.exit(process, 1).ok() != Some(0) {
                 return Answer::Number(u64::from(process));
             }
@@ -129,7 +129,7 @@ pub fn answer_of<M: Booked>(machine: &mut M, alloc: Global, call: Call) -> Answe
     match call {
         Call::Spawn => last_of(machine, 1),
         Call::Spawns(count) => last_of(machine, count),
-        Call::Lives => lives_of(machine),
+        Call::Lives(generations) => lives_of(machine, generations),
         Call::Alloc(p, n, arena) => {
             let made = machine.alloc(alloc, p, n, arena);
             made.map_or_else(of_refused, of_block)

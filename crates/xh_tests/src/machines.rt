@@ -286,6 +286,17 @@ pub fn on_kernel<R: Threads + Wait + Clock + Abort + Sync>(
     on_gated(rt, alloc, config, workers, &OpenGate, case)
 }
 
+/// The case on a new kernel for one worker, which uses each place 2,047 times; its ledger.
+pub fn on_long_kernel<R: Threads + Wait + Clock + Abort + Sync>(
+    rt: &R,
+    alloc: Global,
+    config: Config,
+    case: Case,
+) -> Result<Ledger, Refused> {
+    let parts = Parts::new(alloc, config, 1)?.with_all_numbers();
+    on_parts::<Brand, R, OpenGate>(rt, alloc, parts, &OpenGate, case)
+}
+
 /// What a line of an arena tells.
 fn of_arena(line: &ArenaLine) -> (u32, u32, u32, u64, u64) {
     (line.size, line.out, line.holes, line.taken, line.back)

@@ -3,7 +3,7 @@ use crate::answers::Answer::{self, Block, Bytes, Done, Moved, No, Number, Place,
 use crate::answers::Call::{
     self, Alloc, Exit, Free, Glance, Kill, Lives, Moved as Count, Read, Spawn, Spawns, Split, Write,
 };
-use crate::machines::{Case, Trial, arenas_of, assert_on, on_kernel};
+use crate::machines::{Case, Trial, arenas_of, assert_on, on_kernel, on_long_kernel};
 use xh_core::{Refused, Status};
 
 /// A look sees each change of a place once the call that made it has answered.
@@ -63,11 +63,24 @@ fn places_by_generation(rt: HostRuntime) {
 #[test]
 fn every_process_number(rt: HostRuntime) {
     const CALLS: &[(Call, Answer)] = &[
-        (Lives, Done),
+        (Lives(128), Done),
         (Spawn, No("NoPlace")),
         (Glance(31), Place(4_095, Status::Ended, 0, 0)),
     ];
     assert_on(&rt, rt.alloc(), arenas_of(1, 16, 1), CALLS);
+}
+
+/// So they do where a kernel uses each place as often as there are numbers: 65,504 processes, and then none.
+#[test]
+fn every_number_of_a_long_run(rt: HostRuntime) {
+    const CALLS: &[(Call, Answer)] = &[
+        (Lives(2_047), Done),
+        (Spawn, No("NoPlace")),
+        (Glance(31), Place(65_503, Status::Ended, 0, 0)),
+    ];
+    let case = Case::Alone(Trial::Answers(CALLS));
+    let ledger = on_long_kernel(&rt, rt.alloc(), arenas_of(1, 16, 1), case);
+    assert!(rt; ledger.is_ok());
 }
 
 /// A block is cut, written, read and given back, and the account tells what was taken and given back.

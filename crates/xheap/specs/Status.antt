@@ -3,7 +3,7 @@ use Rattle.std.specs.Prelude.{◌≡◌, ◌⊎◌, ℕ, Bool, true, false, List
 use Rattle.xh_command_line.specs.Unasked.{IsUnasked}
 use Rattle.xh_command_line.specs.Status.{status_of}
 use Rattle.xh_command_line.specs.declared.options.Options.{Options}
-use Rattle.xh_model.specs.Config.{IsConfig}
+use Rattle.xh_script.specs.Config.{IsScriptConfig}
 use Rattle.xh_model.specs.declared.config.Config.{Config}
 use Rattle.xh_script.specs.declared.streams.Watched.{Watched}
 use Rattle.xh_session.specs.Ends.{EndsWith}
@@ -18,5 +18,5 @@ module _ {R W : Type 0} (remaining : R → Option (List ℕ)) (contents : W → 
 
   -- a script is run with options whose limits a machine can be made with; else nothing is read
   abbrev pub Ended : Watched R → Watched R → Watched W → Watched W → ℕ → Type 0
-  Ended reader reader' out out' status = ((options : Options) × IsConfig options.config × RanBy options.serial options.flight options.config reader reader' out out' status)
+  Ended reader reader' out out' status = ((options : Options) × IsScriptConfig options.config × RanBy options.serial options.flight options.config reader reader' out out' status)
       ⊎ ((reader' ≡ reader) × IsUnasked out out' status)

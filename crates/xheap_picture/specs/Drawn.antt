@@ -2,7 +2,7 @@
 use Rattle.std.specs.Prelude.{◌≡◌, ◌⊎◌, ℕ, List, Option}
 use Rattle.xh_command_line.specs.Unasked.{IsUnasked}
 use Rattle.xh_command_line.specs.Status.{status_of}
-use Rattle.xh_model.specs.Config.{IsConfig}
+use Rattle.xh_script.specs.Config.{IsScriptConfig}
 use Rattle.xh_model.specs.declared.config.Config.{Config}
 use Rattle.xh_picture.specs.Pictures.{IsPicture}
 use Rattle.xh_session.specs.Ends.{EndsWith}
@@ -16,5 +16,5 @@ IsDrawn script bytes = IsPicture bytes
 module _ {R W : Type 0} (remaining : R → Option (List ℕ)) (contents : W → Option (List ℕ)) where
   -- a script is drawn with limits that a machine can be made with; else nothing is read
   abbrev pub Ended : Watched R → Watched R → Watched W → Watched W → ℕ → Type 0
-  Ended reader reader' out out' status = ((config : Config) × IsConfig config × EndsWith remaining contents IsDrawn status_of config reader reader' out out' status)
+  Ended reader reader' out out' status = ((config : Config) × IsScriptConfig config × EndsWith remaining contents IsDrawn status_of config reader reader' out out' status)
       ⊎ ((reader' ≡ reader) × IsUnasked out out' status)

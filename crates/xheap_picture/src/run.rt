@@ -16,7 +16,7 @@ const PROGRAM: Program<'static> = Program {
     name: NAME,
     about: "Draws what a script of processes that pass blocks of memory to each other does to the heap.",
     detail: "Reads a script from standard input, does its commands one by one on an exchange heap, and writes \
-a picture (SVG): a row for each command with its reply and its message, in it each arena as a strip of its bytes, holes white, \
+a picture (SVG) to standard output: a row for each command with its reply and its message, in it each arena as a strip of its bytes, holes white, \
 each block in the colour of its holder, endpoints narrow and grey, what is in flight hatched, and below the sums.",
     serial: "Says nothing: the commands are always done one by one",
     flight: "Says nothing: what is in flight at the end is always shown",

@@ -14,7 +14,7 @@ use Rattle.xh_model.specs.Arena.{lengths_of}
 use Rattle.xh_model.specs.Cover.{bytes_out}
 use Rattle.xh_model.specs.Keyed.{value_at}
 use Rattle.xh_place.specs.declared.body.Body.{Body}
-use Rattle.xh_place.specs.Places.{Item, Lists, PlaceOf, item_of}
+use Rattle.xh_place.specs.Places.{Item, Lists, PlaceOf}
 use Rattle.xh_place.specs.Seen.{PlaceSeen}
 use Rattle.xh_records.specs.Seats.{Held}
 use Rattle.xh_records.specs.declared.shape.Shape.{Shape}
@@ -54,7 +54,6 @@ pub record AreGathered (records : ℕ) (accounts : List AccountOf) (old new : Li
 pub record IsSeatOfPlace (x : Held Body) (p : PlaceOf) : Type 0 where
   pub same : (x.table ≡ p.table) × (x.shape ≡ p.shape) × (x.process ≡ p.process)
   pub lists : Lists x p.blocks
-  pub events : (x.done ≡ p.events) × (map item_of x.moved ≡ p.moved)
   pub whole : (r : ℕ) (b : Item) → value_at r p.blocks ≡ Some b → 0 < b.len
 
 -- those of all places, in their order, each of which had seen what its place had

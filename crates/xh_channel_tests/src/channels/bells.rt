@@ -142,6 +142,21 @@ pub(super) fn assert_deadlines<R: Clock + Wait + Abort>(
     assert_same(rt, 0, seen, (1, 1));
 }
 
+/// Who listened or waited for room at the channel before isn't rung by what is put and taken there now. It does both then.
+pub(super) fn assert_unheard<R: Clock + Wait + Abort>(
+    rt: &R,
+    channels: &Channels,
+    ends: &mut Ends,
+) {
+    let heard = channels.bell(rt, 31);
+    let _sent = by_end(rt, channels, &mut ends.low, Put(1, None));
+    let _taken = by_end(rt, channels, &mut ends.high, Take);
+    assert_same(rt, 0, channels.bell(rt, 31), heard);
+    channels.listen(rt, ends.low.spot(), 31);
+    channels.listen(rt, ends.high.spot(), 31);
+    channels.await_room(rt, ends.low.spot(), 31);
+}
+
 #[test]
 fn no_ring_is_slept_through(rt: HostRuntime) {
     for call in [Put(1, None), Shut, Rouse, Ring] {

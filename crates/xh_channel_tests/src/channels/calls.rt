@@ -37,18 +37,18 @@ pub(super) enum Manner {
 /// Microseconds: longer than a thread takes to fall asleep at a turn.
 pub(super) const REST: u64 = 200;
 
-/// The number of a message that was put; its number, tag and block; the number of a refusal and the block handed back; the turn,
+/// The number of a message that was put; its number, tag and block; the number of a refusal; the turn,
 /// or how many messages were put or taken; nothing.
 #[derive(Clone, Copy, PartialEq)]
 pub(super) enum Answer {
     Sent(u64),
     Taken(u64, u16, Option<u16>),
-    Refused(u8, Option<u16>),
+    Refused(u8),
     Count(u64),
     Done,
 }
 
-const NONE_WAITS: Answer = Answer::Refused(16, None);
+const NONE_WAITS: Answer = Answer::Refused(16);
 
 fn blocks_of(block: Option<u16>) -> ArrayVec<u16, MAX_BLOCKS> {
     let mut blocks = ArrayVec::new();
@@ -75,17 +75,16 @@ fn put<R: Wait>(
 ) -> Answer {
     match channels.put(rt, end, tag, blocks_of(block)) {
         Ok(no) => Answer::Sent(no),
-        Err(Unsent::Full { back }) => Answer::Refused(14, first(&back)),
-        Err(Unsent::PeerClosed { back }) => Answer::Refused(15, first(&back)),
-        Err(Unsent::Protocol { back }) => Answer::Refused(22, first(&back)),
+        Err(Unsent::Full) => Answer::Refused(14),
+        Err(Unsent::PeerClosed) => Answer::Refused(15),
+        Err(Unsent::Protocol) => Answer::Refused(22),
     }
 }
 
 fn take<R: Wait>(rt: &R, channels: &Channels, end: &mut Endpoint) -> Answer {
     match channels.take(rt, end) {
         Ok(Message { no, tag, blocks }) => Answer::Taken(no, tag, first(&blocks)),
-        Err(Refused::PeerClosed { back }) => Answer::Refused(15, first(&back)),
-        Err(refused) => Answer::Refused(xh_core::Refused::from(refused).number(), None),
+        Err(refused) => Answer::Refused(xh_core::Refused::from(refused).number()),
     }
 }
 
@@ -129,7 +128,7 @@ pub(super) fn put_all<R: Clock + Wait>(
         let answered = put(rt, channels, end, 1, block_of(next));
         if answered == Answer::Sent(next) {
             sent = next;
-        } else if manner != Manner::Once && answered == Answer::Refused(14, block_of(next)) {
+        } else if manner != Manner::Once && answered == Answer::Refused(14) {
             thread::yield_now();
         } else {
             break;

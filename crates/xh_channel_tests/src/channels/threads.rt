@@ -89,7 +89,7 @@ const SHUT: &[Row] = &[
     (0, Shut, Done),
     (0, Turn, Count(1)),
     (1, Follow(1), Done),
-    (1, Take, No(15, None)),
+    (1, Take, No(15)),
 ];
 
 // The turn rises after the step that it tells of. A thread sleeps at the turn meanwhile, so that a rouse takes long: a step that
@@ -127,9 +127,9 @@ fn a_shut_wakes_all_that_wait(rt: HostRuntime) {
     const ROWS: &[Row] = &[
         (0, Rest(LONG), Done),
         (0, Shut, Done),
-        (1, Take, No(16, None)),
+        (1, Take, No(16)),
         (1, WaitAt(0), Done),
-        (1, Take, No(15, None)),
+        (1, Take, No(15)),
         (1, Turn, Count(1)),
     ];
     let act = Act::SideBySide(1, ROWS);
@@ -141,7 +141,7 @@ fn a_put_wakes_who_waits(rt: HostRuntime) {
     const ROWS: &[Row] = &[
         (0, Rest(LONG), Done),
         (0, Put(1, None), Sent(1)),
-        (1, Take, No(16, None)),
+        (1, Take, No(16)),
         (1, WaitAt(0), Done),
         (1, Take, Taken(1, 1, None)),
         (1, Turn, Count(1)),
@@ -155,9 +155,9 @@ fn a_rouse_wakes_who_waits(rt: HostRuntime) {
     const ROWS: &[Row] = &[
         (0, Rest(LONG), Done),
         (0, Rouse, Done),
-        (1, Take, No(16, None)),
+        (1, Take, No(16)),
         (1, WaitAt(0), Done),
-        (1, Take, No(16, None)),
+        (1, Take, No(16)),
         (1, Turn, Count(1)),
     ];
     let act = Act::SideBySide(1, ROWS);

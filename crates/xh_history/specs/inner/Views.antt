@@ -1,6 +1,6 @@
 -- What a seat knows, and the rule: there is one history a place, which the seat that writes it knows whole, of which each seat has seen a beginning, a worker one that has all of its own calls, and
 -- of which the place's word shows the last call.
-use Rattle.std.specs.Prelude.{◌≡◌, ℕ, suc, ◌*◌, ◌/◌, ◌<◌, ◌≤◌, List, [], ◌∷◌, ◌++◌, length, map, replicate, slice_index, slice_set}
+use Rattle.std.specs.Prelude.{◌≡◌, ℕ, suc, ◌-◌, ◌*◌, ◌/◌, ◌<◌, ◌≤◌, List, [], ◌∷◌, ◌++◌, length, map, replicate, slice_index, slice_set}
 use mathlib.Core.Option.{some}
 use lib.ListN.{get_elem?}
 use Rattle.atomic_table.specs.Table.{State, Step, Me}
@@ -13,13 +13,13 @@ use Rattle.atomic_table.specs.Seated.{TableId}
 abbrev pub stride : ℕ
 stride = 8
 
--- how many words there are, of which those between the places' stay 0
+-- how many words there are, of which those before and between the places' stay 0
 abbrev pub all_words : ℕ
-all_words = 256
+all_words = 264
 
 -- the place that a word belongs to
 abbrev pub place_of : ℕ → ℕ
-place_of w = w / stride
+place_of w = w / stride - 1
 
 module _ {E : Type 0} where
   -- the seat writes the history of the place
@@ -43,7 +43,7 @@ module _ {E : Type 0} where
 
   -- each place's word shows the last call of its history
   abbrev pub AreShown : (ℕ → ℕ → E → Type 0) → (ℕ → History E) → List ℕ → Type 0
-  AreShown shows h words = (length words ≡ all_words) × ((p : ℕ) → p < PLACES → Shown shows p (h p) (slice_index words (stride * p)))
+  AreShown shows h words = (length words ≡ all_words) × ((p : ℕ) → p < PLACES → Shown shows p (h p) (slice_index words (stride * suc p)))
 
   abbrev pub IsKept : (ℕ → ℕ → E → Type 0) → {S : Type 0} → State S (View E) → Type 0
   IsKept shows s = (h : ℕ → History E) × (writer_of : ℕ → ℕ) × (server_of : ℕ → ℕ) × AreShown shows h s.words × AllFit h writer_of server_of s.views

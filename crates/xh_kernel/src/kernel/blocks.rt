@@ -1,14 +1,7 @@
 //! The calls of a process on its data blocks.
 ghost use Rattle.std.specs.Prelude.{◌≡◌, OnErr};
-ghost use Rattle.xh_calls.specs.Calls.{space_of};
-ghost use Rattle.xh_calls.specs.Places.{status_at};
-ghost use Rattle.xh_core.specs.Space.{rounded};
-ghost use Rattle.xh_calls.specs.declared.call.Call.TheVariants as call;
-ghost use Rattle.xh_kernel.specs.Accounts.{VaultRefuses};
-ghost use Rattle.xh_kernel.specs.Calls.{Calls};
+ghost use Rattle.xh_kernel.specs.Did.{DidAlloc, DidFree, DidRead, DidSplit, DidWrite};
 ghost use Rattle.xh_kernel.specs.Lends.{LendsAll, LendsAllMut};
-ghost use Rattle.xh_model.specs.Words.{place_of};
-ghost use Rattle.xh_place.specs.Calls.{Allocates, FreesBlock, Reads, Splits, Writes};
 
 use crate::account::Account;
 use crate::held::Held;
@@ -34,8 +27,7 @@ impl<N: Names> Kernel<N> {
         account: &mut Account<N>,
         gate: &G,
     ) -> Result<Block, Refused>
-        ensures call { Calls N.leads (place_of p) (call.Alloc p n arena result) (λ old new. Allocates (status_at p old.place) (space_of N.parts) n arena old new result) account.old account.new }
-        ensures vault { VaultRefuses N.parts arena (rounded n) account.old account.new result }
+        ensures { DidAlloc N.parts N.leads p n arena result account.old account.new }
     {
         let mut guard = self.held(rt, p);
         let held: &mut Held<N> = &mut guard;
@@ -62,7 +54,7 @@ impl<N: Names> Kernel<N> {
         account: &mut Account<N>,
         gate: &G,
     ) -> Result<(Block, Block), Refused>
-        ensures { Calls N.leads (place_of p) (call.Split p r k result) (λ old new. Splits (status_at p old.place) r k old new result) account.old account.new }
+        ensures { DidSplit N.leads p r k result account.old account.new }
     {
         let mut guard = self.held(rt, p);
         let held: &mut Held<N> = &mut guard;
@@ -87,7 +79,7 @@ impl<N: Names> Kernel<N> {
         account: &mut Account<N>,
         _gate: &G,
     ) -> Result<(), Refused>
-        ensures call { Calls N.leads (place_of p) (call.Read p r at out.new result) (λ old new. Reads (status_at p old.place) r at out.new old new result) account.old account.new }
+        ensures call { DidRead N.leads p r at out.new result account.old account.new }
         ensures refused { OnErr result (out.new ≡ out.old) }
     {
         let mut guard = self.held(rt, p);
@@ -111,7 +103,7 @@ impl<N: Names> Kernel<N> {
         account: &mut Account<N>,
         _gate: &G,
     ) -> Result<(), Refused>
-        ensures { Calls N.leads (place_of p) (call.Write p r at bytes.now result) (λ old new. Writes (status_at p old.place) r at bytes.now old new result) account.old account.new }
+        ensures { DidWrite N.leads p r at bytes.now result account.old account.new }
     {
         let mut guard = self.held(rt, p);
         let held: &mut Held<N> = &mut guard;
@@ -135,7 +127,7 @@ impl<N: Names> Kernel<N> {
         _gate: &G,
     ) -> Result<A, Refused>
         requires { F.IsAlwaysCallable f.old }
-        ensures { LendsAll N.parts N.leads F.FnMut p r f.old f.new account.old account.new result }
+        ensures { LendsAll N.leads F.FnMut p r f.old f.new account.old account.new result }
     {
         let mut guard = self.held(rt, p);
         let held: &mut Held<N> = &mut guard;
@@ -145,8 +137,7 @@ impl<N: Names> Kernel<N> {
         answer
     }
 
-    /// As `with_bytes`; `f` may change the bytes where they stand. To the histories it is a read of them all and then a
-    /// write of what `f` left.
+    /// As `with_bytes`; `f` may change the bytes where they stand. To the histories it is a write of what `f` left.
     pub fn with_bytes_mut<R: Wait, G: Gate, A, F: FnMut(&mut [u8]) -> A>(
         &self,
         rt: &R,
@@ -157,23 +148,14 @@ impl<N: Names> Kernel<N> {
         _gate: &G,
     ) -> Result<A, Refused>
         requires { F.IsAlwaysCallable f.old }
-        ensures { LendsAllMut N.parts N.leads F.FnMut p r f.old f.new account.old account.new result }
+        ensures { LendsAllMut N.leads F.FnMut p r f.old f.new account.old account.new result }
     {
         let mut guard = self.held(rt, p);
         let held: &mut Held<N> = &mut guard;
-        let heap = &self.shared.heap;
-        let read = heap.with_bytes(&mut held.place, p, r, &mut |_: &[u8]| ());
-        let about = (p, r, &read);
-        held.scribe.note(&self.shared, &held.place, &mut account.front, &about, true);
-        match read {
-            Ok(()) => {
-                let answer = heap.with_bytes_mut(&mut held.place, p, r, f);
-                let about = (p, r, &answer);
-                held.scribe.note(&self.shared, &held.place, &mut account.front, &about, false);
-                answer
-            }
-            Err(refused) => Err(refused),
-        }
+        let answer = self.shared.heap.with_bytes_mut(&mut held.place, p, r, f);
+        let about = (p, r, &answer);
+        held.scribe.note(&self.shared, &held.place, &mut account.front, &about, false);
+        answer
     }
 
     /// A data block's bytes go back, and its record is free. It answers the bytes.
@@ -187,7 +169,7 @@ impl<N: Names> Kernel<N> {
         account: &mut Account<N>,
         gate: &G,
     ) -> Result<u32, Refused>
-        ensures { Calls N.leads (place_of p) (call.Free p r result) (λ old new. FreesBlock (status_at p old.place) r old new result) account.old account.new }
+        ensures { DidFree N.leads p r result account.old account.new }
     {
         let mut guard = self.held(rt, p);
         let held: &mut Held<N> = &mut guard;

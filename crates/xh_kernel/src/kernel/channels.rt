@@ -1,5 +1,5 @@
 //! Channels are opened, for one process or between two.
-ghost use Rattle.std.specs.Prelude.{◌≡◌, ◌*◌, ◌<◌, IfOk, None, Option, Some, List, ℕ};
+ghost use Rattle.std.specs.Prelude.{◌*◌, ◌<◌, IfOk, None, Some, ℕ};
 ghost use Rattle.xh_calls.specs.declared.call.Call.TheVariants as call;
 ghost use Rattle.xh_calls.specs.Wires.{ClosesAgain, OpensToward, ReceivesOr, toward_high};
 ghost use Rattle.xh_kernel.specs.Accounts.{VaultRefuses};
@@ -7,13 +7,12 @@ ghost use Rattle.xh_kernel.specs.Calls.{Calls};
 ghost use Rattle.xh_kernel.specs.Wires.{HandsOver, OpensBoth, Wires};
 ghost use Rattle.xh_model.specs.Words.{place_of};
 ghost use Rattle.xh_model.specs.declared.limits.TheConstants.{CHANNELS, END_BYTES};
-ghost use Rattle.xh_model.specs.declared.row.Row.{Row};
-ghost use Rattle.xh_place.specs.Ending.{back_of};
 ghost use Rattle.xh_records.specs.Seats.{IsRecord};
 
 use crate::account::Account;
 use crate::held::Held;
 use crate::kernel::Kernel;
+use std::snapshot::Snapshot;
 use std::sync::Wait;
 use xh_calls::{Names, Wired};
 use xh_core::{Block, Contract, Refused};
@@ -96,16 +95,15 @@ impl<N: Names> Kernel<N> {
         account: &mut Account<N>,
         gate: &G,
     ) -> Result<(Block, Block), Refused>
-        ghost by: { Option (List Row) }
-        requires { contract ≡ by }
-        ensures { OpensBoth N.parts N.leads p arena by account.old account.new result }
+        ensures { OpensBoth N.parts N.leads p arena contract account.old account.new result }
     {
         let mut guard = self.held(rt, p);
         let held: &mut Held<N> = &mut guard;
         let heap = &self.shared.heap;
         let till = &mut account.till;
+        let by = Snapshot::of(&contract);
         let answer = heap.open(rt, &mut held.place, p, arena, contract, till, gate);
-        let about = (p, arena, &answer);
+        let about = (p, arena, &by, &answer);
         held.scribe.note(&self.shared, &held.place, &mut account.front, &about, false);
         answer
     }
@@ -142,9 +140,7 @@ impl<N: Names> Kernel<N> {
         account: &mut Account<N>,
         gate: &G,
     ) -> Result<Wired, Refused>
-        ghost by: { Option (List Row) }
-        requires { contract ≡ by }
-        ensures call { Calls N.leads (place_of p) (call.OpenToward p arena by result) (λ old new. OpensToward N.parts p arena by old new result) account.old account.new }
+        ensures call { Calls N.leads (place_of p) (call.OpenToward p arena contract result) (λ old new. OpensToward N.parts p arena contract old new result) account.old account.new }
         ensures vault { VaultRefuses N.parts arena (2 * END_BYTES) account.old account.new result }
         ensures exists { IfOk result (λ w. IsRecord N.parts.records.shape w.high.rec) }
     {
@@ -152,8 +148,9 @@ impl<N: Names> Kernel<N> {
         let held: &mut Held<N> = &mut guard;
         let heap = &self.shared.heap;
         let till = &mut account.till;
+        let by = Snapshot::of(&contract);
         let answer = heap.open_toward(rt, &mut held.place, p, arena, contract, till, gate);
-        let about = (p, arena, &answer);
+        let about = (p, arena, &by, &answer);
         held.scribe.note(&self.shared, &held.place, &mut account.front, &about, false);
         answer
     }
@@ -171,11 +168,10 @@ impl<N: Names> Kernel<N> {
         requires { IsRecord N.parts.records.shape wired.high.rec }
         ensures { HandsOver N.leads p q wired account.old account.new result }
     {
-        let Wired { low, high, channel } = wired;
-        let Err(_ended) = self.receive(rt, q, high.rec, channel, account, gate) else {
-            return Ok((low, high));
+        let Err(_ended) = self.receive(rt, q, wired.high.rec, wired.channel, account, gate) else {
+            return Ok((wired.low, wired.high));
         };
-        self.close_again(rt, p, low.rec, channel, account, gate);
+        self.close_again(rt, p, &wired, account, gate);
         Err(Refused::Ended)
     }
 
@@ -189,16 +185,15 @@ impl<N: Names> Kernel<N> {
         account: &mut Account<N>,
         gate: &G,
     ) -> Result<Block, Refused>
-        ghost before: { ℕ }
-        requires there { IsRecord N.parts.records.shape r × (channel < CHANNELS) }
-        requires before { before ≡ back_of account.old.tallies }
+        requires { IsRecord N.parts.records.shape r × (channel < CHANNELS) }
         ensures { (bytes : ℕ) × Calls N.leads (place_of q) (call.Receive q r channel bytes result) (λ old new. ReceivesOr q (toward_high channel) r bytes old new result) account.old account.new }
     {
         let mut guard = self.held(rt, q);
         let held: &mut Held<N> = &mut guard;
         let heap = &self.shared.heap;
+        let before = Snapshot::of(&account.till.tallies);
         let answer = heap.receive(rt, &mut held.place, q, r, channel, &mut account.till, gate);
-        let about = (q, r, channel, &account.till.tallies, &answer);
+        let about = (q, r, channel, &before, &account.till.tallies, &answer);
         held.scribe.note(&self.shared, &held.place, &mut account.front, &about, false);
         answer
     }
@@ -208,20 +203,19 @@ impl<N: Names> Kernel<N> {
         &self,
         rt: &R,
         p: u16,
-        r: u16,
-        channel: u8,
+        wired: &Wired,
         account: &mut Account<N>,
         gate: &G,
     )
-        ghost before: { ℕ }
-        requires { before ≡ back_of account.old.tallies }
-        ensures { (bytes : ℕ) × Calls N.leads (place_of p) (call.CloseAgain p r channel bytes) (λ old new. ClosesAgain p channel r old new bytes) account.old account.new }
+        ensures { (bytes : ℕ) × Calls N.leads (place_of p) (call.CloseAgain p wired.now.low.rec wired.now.channel bytes)
+            (λ old new. ClosesAgain p wired.now.channel wired.now.low.rec old new bytes) account.old account.new }
     {
         let mut guard = self.held(rt, p);
         let held: &mut Held<N> = &mut guard;
         let heap = &self.shared.heap;
-        heap.close_again(rt, &mut held.place, p, r, channel, &mut account.till, gate);
-        let about = (p, r, channel, &account.till.tallies);
+        let before = Snapshot::of(&account.till.tallies);
+        heap.close_again(rt, &mut held.place, p, wired, &mut account.till, gate);
+        let about = (p, wired, &before, &account.till.tallies);
         held.scribe.note(&self.shared, &held.place, &mut account.front, &about, false);
     }
 }

@@ -1,17 +1,15 @@
 //! The ends of endpoints and of processes.
-ghost use Rattle.std.specs.Prelude.{◌≡◌, ℕ};
 ghost use Rattle.xh_calls.specs.declared.call.Call.TheVariants as call;
 ghost use Rattle.xh_calls.specs.Calls.{Looks};
-ghost use Rattle.xh_calls.specs.Places.{status_at};
 ghost use Rattle.xh_kernel.specs.Calls.{Calls};
+ghost use Rattle.xh_kernel.specs.Did.{DidClose};
 ghost use Rattle.xh_kernel.specs.Endings.{Exits, Kills};
 ghost use Rattle.xh_model.specs.Words.{place_of};
-ghost use Rattle.xh_place.specs.Calls.{Closes};
-ghost use Rattle.xh_place.specs.Ending.{back_of};
 
 use crate::account::Account;
 use crate::held::Held;
 use crate::kernel::Kernel;
+use std::snapshot::Snapshot;
 use std::sync::Wait;
 use xh_calls::{Names, check_start};
 use xh_core::Refused;
@@ -30,29 +28,14 @@ impl<N: Names> Kernel<N> {
         account: &mut Account<N>,
         gate: &G,
     ) -> Result<u64, Refused>
-        ensures { (bytes : ℕ) × Calls N.leads (place_of p) (call.Close p e bytes result) (λ old new. Closes (status_at p old.place) e bytes old new result) account.old account.new }
-    {
-        self.close_with(rt, p, e, account, gate)
-    }
-
-    // The same, with what the worker had given back before.
-    fn close_with<R: Wait, G: Gate>(
-        &self,
-        rt: &R,
-        p: u16,
-        e: u16,
-        account: &mut Account<N>,
-        gate: &G,
-    ) -> Result<u64, Refused>
-        ghost before: { ℕ }
-        requires { before ≡ back_of account.old.tallies }
-        ensures { (bytes : ℕ) × Calls N.leads (place_of p) (call.Close p e bytes result) (λ old new. Closes (status_at p old.place) e bytes old new result) account.old account.new }
+        ensures { DidClose N.leads p e result account.old account.new }
     {
         let mut guard = self.held(rt, p);
         let held: &mut Held<N> = &mut guard;
         let heap = &self.shared.heap;
+        let before = Snapshot::of(&account.till.tallies);
         let answer = heap.close(rt, &mut held.place, p, e, &mut account.till, gate);
-        let about = (p, e, &account.till.tallies, &answer);
+        let about = (p, e, &before, &account.till.tallies, &answer);
         held.scribe.note(&self.shared, &held.place, &mut account.front, &about, false);
         answer
     }
@@ -72,7 +55,15 @@ impl<N: Names> Kernel<N> {
     ) -> Result<u64, Refused>
         ensures { Exits N.leads p budget account.old account.new result }
     {
-        self.stop(rt, p, budget, account, gate)
+        let mut guard = self.held(rt, p);
+        let held: &mut Held<N> = &mut guard;
+        let heap = &self.shared.heap;
+        let before = Snapshot::of(&account.till.tallies);
+        let answer = heap.stop(rt, &mut held.place, p, budget, &mut account.till, gate);
+        let about = (p, budget, &before, &account.till.tallies, &answer);
+        held.scribe.note(&self.shared, &held.place, &mut account.front, &about, false);
+        held.wake(rt, &self.shared);
+        answer
     }
 
     /// The process `by` ends the process `victim`, as `exit` does.
@@ -93,37 +84,15 @@ impl<N: Names> Kernel<N> {
         self.exit(rt, victim, budget, account, gate)
     }
 
-    // An exit, with what the worker had given back before.
-    fn stop<R: Wait, G: Gate>(
-        &self,
-        rt: &R,
-        p: u16,
-        budget: u16,
-        account: &mut Account<N>,
-        gate: &G,
-    ) -> Result<u64, Refused>
-        ghost before: { ℕ }
-        requires { before ≡ back_of account.old.tallies }
-        ensures { Exits N.leads p budget account.old account.new result }
-    {
-        let mut guard = self.held(rt, p);
-        let held: &mut Held<N> = &mut guard;
-        let heap = &self.shared.heap;
-        let answer = heap.stop(rt, &mut held.place, p, budget, &mut account.till, gate);
-        let about = (p, budget, &account.till.tallies, &answer);
-        held.scribe.note(&self.shared, &held.place, &mut account.front, &about, false);
-        held.wake(rt, &self.shared);
-        answer
-    }
-
     // Whether the process runs.
+    #[tactic(auto, using(xh_place::proofs::Events::stays_itself))]
     pub(super) fn look_at<R: Wait>(
         &self,
         rt: &R,
         p: u16,
         account: &mut Account<N>,
     ) -> Result<(), Refused>
-        ensures { Calls N.leads (place_of p) (call.Look p result) (λ old new. Looks p old.place new.place result) account.old account.new }
+        ensures { Calls N.leads (place_of p) (call.Look p result) (λ old new. Looks p old new result) account.old account.new }
     {
         let mut guard = self.held(rt, p);
         let held: &mut Held<N> = &mut guard;

@@ -1,27 +1,18 @@
 //! Messages of a process: what it gives and takes, at once, once it can, or until a time.
-ghost use Rattle.std.specs.Prelude.{◌≡◌, ◌≢◌, [], Err, IfErr};
-ghost use Rattle.xh_calls.specs.Places.{status_at};
-ghost use Rattle.xh_place.specs.Messages.{Gives, TakesAt};
-ghost use Rattle.xh_calls.specs.Several.{TakesAny};
+ghost use Rattle.std.specs.Prelude.{◌≡◌, ◌≢◌, [], Err, IfErr, true};
 ghost use Rattle.xh_core.specs.declared.refused.Refused.TheVariants as refused;
-ghost use Rattle.xh_calls.specs.declared.call.Call.TheVariants as call;
-ghost use Rattle.xh_kernel.specs.Calls.{Calls};
-ghost use Rattle.xh_kernel.specs.Waits.{AtLast, IsLastGive, no_room};
-ghost use Rattle.xh_model.specs.Words.{place_of};
+ghost use Rattle.xh_kernel.specs.Did.{DidGive, DidTake, DidTakeAny};
+ghost use Rattle.xh_kernel.specs.Waits.{AtLast, no_room};
 
 use crate::account::Account;
 use crate::kernel::Kernel;
 use crate::looking::bell_of;
+use crate::until::{Never, Until};
 use std::sync::Wait;
 use std::time::{Clock, Instant};
 use xh_calls::{Answered, Names};
 use xh_core::Refused;
 use xh_place::{Gate, Taken};
-
-// Whether the time is past, or the clock can't be read.
-fn is_past<R: Clock>(rt: &R, deadline: Instant) -> bool {
-    !matches!(Instant::now(rt), Ok(now) if now < deadline)
-}
 
 impl<N: Names> Kernel<N> {
     /// Gives blocks of the process, by its endpoint `e`, in a message with a tag. It answers the
@@ -40,7 +31,7 @@ impl<N: Names> Kernel<N> {
         account: &mut Account<N>,
         gate: &G,
     ) -> Result<u64, Refused>
-        ensures { Calls N.leads (place_of p) (call.Give p e tag blocks.now result) (λ old new. Gives (status_at p old.place) e tag blocks.now old new result) account.old account.new }
+        ensures { DidGive N.leads p e tag blocks.now result account.old account.new }
     {
         let mut held = self.held(rt, p);
         let answer = held.give(rt, &self.shared, p, e, tag, blocks, account, gate);
@@ -62,7 +53,7 @@ impl<N: Names> Kernel<N> {
         account: &mut Account<N>,
         gate: &G,
     ) -> Result<Taken, Refused>
-        ensures { Calls N.leads (place_of p) (call.Take p e result) (λ old new. TakesAt (status_at p old.place) e old new result) account.old account.new }
+        ensures { DidTake N.leads p e result account.old account.new }
     {
         let mut held = self.held(rt, p);
         held.take(rt, &self.shared, p, e, account, gate)
@@ -80,19 +71,10 @@ impl<N: Names> Kernel<N> {
         account: &mut Account<N>,
         gate: &G,
     ) -> Result<Taken, Refused>
-        ensures calls { AtLast N.leads (place_of p) (call.Take p e) (λ answer old new. TakesAt (status_at p old.place) e old new answer) (Err refused.Empty) result account.old account.new }
+        ensures calls { AtLast (DidTake N.leads p e) (Err refused.Empty) result account.old account.new }
         ensures waits { IfErr result (λ why. why ≢ refused.Empty) }
     {
-        for _ in rt.forever() {
-            let mut held = self.held(rt, p);
-            let (answer, turn) = held.look_for(rt, &self.shared, p, e, account, gate);
-            drop(held);
-            let Some((spot, seen)) = turn else {
-                return answer;
-            };
-            self.shared.heap.channels.wait(rt, spot, seen);
-        }
-        unreachable!()
+        self.take_until(rt, p, e, &Never, account, gate)
     }
 
     /// As `take_wait`; where no message waits once the time is past, it answers Empty. A clock that can't be
@@ -108,23 +90,9 @@ impl<N: Names> Kernel<N> {
         account: &mut Account<N>,
         gate: &G,
     ) -> Result<Taken, Refused>
-        ensures { AtLast N.leads (place_of p) (call.Take p e) (λ answer old new. TakesAt (status_at p old.place) e old new answer) (Err refused.Empty) result account.old account.new }
+        ensures { AtLast (DidTake N.leads p e) (Err refused.Empty) result account.old account.new }
     {
-        for _ in rt.forever() {
-            let past = is_past(rt, deadline);
-            let mut held = self.held(rt, p);
-            let (answer, turn) = held.look_for(rt, &self.shared, p, e, account, gate);
-            drop(held);
-            let Some((spot, seen)) = turn else {
-                return answer;
-            };
-            if past {
-                return answer;
-            }
-            let channels = &self.shared.heap.channels;
-            channels.wait_until(rt, spot, seen, deadline);
-        }
-        unreachable!()
+        self.take_until(rt, p, e, &deadline, account, gate)
     }
 
     /// Looks at the endpoints in the order given, takes at the first that has a message, and answers its
@@ -141,7 +109,7 @@ impl<N: Names> Kernel<N> {
         account: &mut Account<N>,
         gate: &G,
     ) -> Result<Answered, Refused>
-        ensures { Calls N.leads (place_of p) (call.TakeAny p ends.now result) (λ old new. TakesAny p ends.now old new result) account.old account.new }
+        ensures { DidTakeAny N.leads p ends.now result account.old account.new }
     {
         let mut held = self.held(rt, p);
         held.take_any(rt, &self.shared, p, ends, account, gate)
@@ -160,19 +128,10 @@ impl<N: Names> Kernel<N> {
         account: &mut Account<N>,
         gate: &G,
     ) -> Result<Answered, Refused>
-        ensures calls { AtLast N.leads (place_of p) (call.TakeAny p ends.now) (λ answer old new. TakesAny p ends.now old new answer) (Err refused.Empty) result account.old account.new }
+        ensures calls { AtLast (DidTakeAny N.leads p ends.now) (Err refused.Empty) result account.old account.new }
         ensures waits { IfErr result (λ why. why ≡ refused.Empty → ends.now ≡ []) }
     {
-        for _ in rt.forever() {
-            let mut held = self.held(rt, p);
-            let (answer, bell) = held.search(rt, &self.shared, p, ends, account, gate);
-            drop(held);
-            let Some(seen) = bell else {
-                return answer;
-            };
-            self.shared.heap.channels.wait_at(rt, bell_of(p), seen);
-        }
-        unreachable!()
+        self.take_any_until(rt, p, ends, &Never, account, gate)
     }
 
     /// As `take_any_wait`; where no message waits once the time is past, it answers Empty. A clock that can't
@@ -188,23 +147,9 @@ impl<N: Names> Kernel<N> {
         account: &mut Account<N>,
         gate: &G,
     ) -> Result<Answered, Refused>
-        ensures { AtLast N.leads (place_of p) (call.TakeAny p ends.now) (λ answer old new. TakesAny p ends.now old new answer) (Err refused.Empty) result account.old account.new }
+        ensures { AtLast (DidTakeAny N.leads p ends.now) (Err refused.Empty) result account.old account.new }
     {
-        for _ in rt.forever() {
-            let past = is_past(rt, deadline);
-            let mut held = self.held(rt, p);
-            let (answer, bell) = held.search(rt, &self.shared, p, ends, account, gate);
-            drop(held);
-            let Some(seen) = bell else {
-                return answer;
-            };
-            if past {
-                return answer;
-            }
-            let channels = &self.shared.heap.channels;
-            channels.wait_at_until(rt, bell_of(p), seen, deadline);
-        }
-        unreachable!()
+        self.take_any_until(rt, p, ends, &deadline, account, gate)
     }
 
     /// As `give`; where the direction is full and all blocks came back, it waits until the receiver takes, without a lock, and
@@ -212,7 +157,7 @@ impl<N: Names> Kernel<N> {
     /// PeerClosed comes once the peer is closed.
     ///
     /// NoProcess, Ended, NotOwned, NotEndpoint, TooMany, NotOwned, Twice, Protocol, PeerClosed; Full where a block didn't come
-    /// back, with those that did, and where the direction has carried its last message, 2^62 - 1.
+    /// back, with those that did. In a direction that has carried its last message, 2^62 - 1, it waits on.
     pub fn give_wait<R: Wait, G: Gate>(
         &self,
         rt: &R,
@@ -223,26 +168,10 @@ impl<N: Names> Kernel<N> {
         account: &mut Account<N>,
         gate: &G,
     ) -> Result<u64, Refused>
-        ensures calls { AtLast N.leads (place_of p) (call.Give p e tag blocks.now) (λ answer old new. Gives (status_at p old.place) e tag blocks.now old new answer)
-            (no_room blocks.now) result account.old account.new }
-        ensures waits { result ≡ no_room blocks.now → IsLastGive N.leads p e tag blocks.now result account.new }
+        ensures calls { AtLast (DidGive N.leads p e tag blocks.now) (no_room blocks.now) result account.old account.new }
+        ensures waits { result ≢ no_room blocks.now }
     {
-        let shared = &self.shared;
-        // whether the take that makes room is to ring: a give that finds room at once asks for nothing
-        let mut asks = false;
-        for _ in rt.forever() {
-            let mut held = self.held(rt, p);
-            let (answer, seen) = held.send(rt, shared, p, e, tag, blocks, asks, account, gate);
-            drop(held);
-            let Some(seen) = seen else {
-                return answer;
-            };
-            if asks {
-                shared.heap.channels.wait_at(rt, bell_of(p), seen);
-            }
-            asks = !asks;
-        }
-        unreachable!()
+        self.give_until(rt, p, e, tag, blocks, &Never, account, gate)
     }
 
     /// As `give_wait`; where there is no room once the time is past, it answers Full with all blocks. A clock that can't be read
@@ -260,25 +189,100 @@ impl<N: Names> Kernel<N> {
         account: &mut Account<N>,
         gate: &G,
     ) -> Result<u64, Refused>
-        ensures { AtLast N.leads (place_of p) (call.Give p e tag blocks.now) (λ answer old new. Gives (status_at p old.place) e tag blocks.now old new answer)
-            (no_room blocks.now) result account.old account.new }
+        ensures { AtLast (DidGive N.leads p e tag blocks.now) (no_room blocks.now) result account.old account.new }
+    {
+        self.give_until(rt, p, e, tag, blocks, &deadline, account, gate)
+    }
+
+    // Looks for a message until one is there or the time is past.
+    fn take_until<R: Wait, G: Gate, U: Until<R>>(
+        &self,
+        rt: &R,
+        p: u16,
+        e: u16,
+        until: &U,
+        account: &mut Account<N>,
+        gate: &G,
+    ) -> Result<Taken, Refused>
+        ensures calls { AtLast (DidTake N.leads p e) (Err refused.Empty) result account.old account.new }
+        ensures waits { U.never ≡ true → IfErr result (λ why. why ≢ refused.Empty) }
+    {
+        for _ in rt.forever() {
+            let past = until.is_past(rt);
+            let mut held = self.held(rt, p);
+            let (answer, turn) = held.look_for(rt, &self.shared, p, e, account, gate);
+            drop(held);
+            let Some((spot, seen)) = turn else {
+                return answer;
+            };
+            if past {
+                return answer;
+            }
+            until.sleep(rt, &self.shared.heap.channels, spot, seen);
+        }
+        unreachable!()
+    }
+
+    // Looks at several endpoints for a message until one is there or the time is past.
+    fn take_any_until<R: Wait, G: Gate, U: Until<R>>(
+        &self,
+        rt: &R,
+        p: u16,
+        ends: &[u16],
+        until: &U,
+        account: &mut Account<N>,
+        gate: &G,
+    ) -> Result<Answered, Refused>
+        ensures calls { AtLast (DidTakeAny N.leads p ends.now) (Err refused.Empty) result account.old account.new }
+        ensures waits { U.never ≡ true → IfErr result (λ why. why ≡ refused.Empty → ends.now ≡ []) }
+    {
+        for _ in rt.forever() {
+            let past = until.is_past(rt);
+            let mut held = self.held(rt, p);
+            let (answer, bell) = held.search(rt, &self.shared, p, ends, account, gate);
+            drop(held);
+            let Some(seen) = bell else {
+                return answer;
+            };
+            if past {
+                return answer;
+            }
+            until.sleep_at(rt, &self.shared.heap.channels, bell_of(p), seen);
+        }
+        unreachable!()
+    }
+
+    // Gives until there is room or the time is past.
+    fn give_until<R: Wait, G: Gate, U: Until<R>>(
+        &self,
+        rt: &R,
+        p: u16,
+        e: u16,
+        tag: u16,
+        blocks: &[u16],
+        until: &U,
+        account: &mut Account<N>,
+        gate: &G,
+    ) -> Result<u64, Refused>
+        ensures calls { AtLast (DidGive N.leads p e tag blocks.now) (no_room blocks.now) result account.old account.new }
+        ensures waits { U.never ≡ true → result ≢ no_room blocks.now }
     {
         let shared = &self.shared;
+        // whether the take that makes room is to ring: a give that finds room at once asks for nothing
         let mut asks = false;
         for _ in rt.forever() {
-            let past = is_past(rt, deadline);
+            let past = until.is_past(rt);
             let mut held = self.held(rt, p);
-            let (answer, seen) = held.send(rt, shared, p, e, tag, blocks, asks, account, gate);
+            let (answer, bell) = held.send(rt, shared, p, e, tag, blocks, asks, account, gate);
             drop(held);
-            let Some(seen) = seen else {
+            let Some(seen) = bell else {
                 return answer;
             };
             if past {
                 return answer;
             }
             if asks {
-                let channels = &shared.heap.channels;
-                channels.wait_at_until(rt, bell_of(p), seen, deadline);
+                until.sleep_at(rt, &shared.heap.channels, bell_of(p), seen);
             }
             asks = !asks;
         }

@@ -2,13 +2,13 @@
 use Rattle.std.specs.Prelude.{◌≡◌, ◌⊎◌, ℕ, ◌+◌, ◌==◌, Bool, cond, List, [], ◌∷◌, ◌++◌, Option, Some, is_some}
 use Rattle.std.specs.List.{list_any}
 use Rattle.xh_arena.specs.Views.{LotOf}
-use Rattle.xh_model.specs.declared.event.Event.TheVariants.{Accept}
 use Rattle.xh_model.specs.Keyed.{Among, keys, value_at}
-use Rattle.xh_records.specs.Seats.{Held, SawAt, did}
+use Rattle.xh_records.specs.Seats.{Held, SawAt}
 use Rattle.xh_place.specs.declared.body.Body.{Body}
-use Rattle.xh_place.specs.inner.Lots.{HasNow, carrying}
+use Rattle.xh_place.specs.inner.Lots.{Acts}
+use Rattle.xh_place.specs.Events.{accepted_on}
 use Rattle.xh_place.specs.Places.{IsBlock, item_in, item_of}
-use Rattle.xh_place.specs.Seen.{Arrived, IsElsewhere}
+use Rattle.xh_place.specs.Seen.{Arrived, IsElsewhere, Sight, bears, brings}
 
 -- the list without a number
 abbrev pub less : ℕ → List ℕ → List ℕ
@@ -27,9 +27,14 @@ lens (r ∷ rs) lot = (item_in (lot r)).len + lens rs lot
 
 -- a record did not come back, since the seat saw another word, and nothing changed but what it has seen; or it was accepted on the direction, with so many bytes
 abbrev pub CameBack : ℕ → ℕ → Held Body → Held Body → List ℕ → List ℕ → ℕ → Type 0
-CameBack d r old new had back bytes = ((back ≡ had) × HasNow old old.lots new × (bytes ≡ 0) × IsElsewhere (SawAt old.shape old.front new.front) d r)
+CameBack d r old new had back bytes = ((back ≡ had) × Acts [] old.lots old new × (bytes ≡ 0) × IsElsewhere (SawAt old.shape old.front new.front) d r)
     ⊎ ((l : LotOf Body) × (back ≡ had ++ r ∷ []) × (Among (keys old.lots) r → ⊥)
-    × HasNow (did (Accept old.process r d) (carrying (l ∷ []) old)) (old.lots ++ (r, l) ∷ []) new × IsBlock old.shape r l × Arrived old.process old.front new.front r d (item_of l) × (bytes ≡ l.len))
+    × Acts (accepted_on old.process d ((r, item_of l) ∷ [])) (old.lots ++ (r, l) ∷ []) old new × IsBlock old.shape r l × Arrived old.process old.front new.front r d (item_of l) × (bytes ≡ l.len))
+
+-- what a seat saw at a record, from the one front to the other
+abbrev pub IsSeenBy : Held Body → Held Body → ℕ → Sight → Type 0
+IsSeenBy old new r (bears word) = SawAt old.shape old.front new.front r word
+IsSeenBy old new r (brings d x) = Arrived old.process old.front new.front r d x
 
 -- of the given records the seat has those that came back, all well formed
 pub record AreBack (given back : List ℕ) (seat : Held Body) : Type 0 where

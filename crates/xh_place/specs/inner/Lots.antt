@@ -1,53 +1,34 @@
 -- What the private steps of a place do to its seat.
-use Rattle.std.specs.Prelude.{◌≡◌, ℕ, ◌+◌, ◌/◌, ◌<◌, ◌≤◌, List, [], ◌∷◌, ◌++◌, length, true, map}
+use Rattle.std.specs.Prelude.{◌≡◌, ℕ, ◌+◌, ◌/◌, ◌<◌, ◌≤◌, List, [], ◌∷◌, ◌++◌, length, true}
 use Rattle.xh_arena.specs.Views.{LotOf}
 use Rattle.xh_model.specs.declared.limits.TheConstants.{MAX_RECORDS}
 use Rattle.xh_model.specs.declared.event.Event.{Event}
-use Rattle.xh_model.specs.declared.event.Event.TheVariants.{Claim, Pass}
 use Rattle.xh_model.specs.Keyed.{Among, keys, put}
-use Rattle.xh_records.specs.Deeds.{Deed}
-use Rattle.xh_records.specs.History.{StartsWith}
-use Rattle.xh_records.specs.Seats.{Held, did, with_lots}
+use Rattle.xh_records.specs.Seats.{Held, with_lots}
 use Rattle.xh_channel.specs.Endpoint.{EndpointOf}
 use Rattle.xh_place.specs.declared.body.Body.{Body}
 use Rattle.xh_place.specs.declared.body.Body.TheVariants.{End}
 use Rattle.xh_core.specs.declared.header.Kind.TheVariants as kind
 use Rattle.xh_place.specs.Bodies.{content_of, fits_in, front, kind_of, rest}
-use Rattle.xh_place.specs.Events.{let_go}
-use Rattle.xh_place.specs.Places.{IsBlock}
-use Rattle.xh_place.specs.Seen.{SawFull}
+use Rattle.xh_place.specs.Events.{claimed, let_go}
+use Rattle.xh_place.specs.Places.{IsBlock, Item}
+use Rattle.xh_place.specs.Seen.{Did, SawFull}
 
 -- a seat, of which it doesn't count what it has seen
 abbrev pub bare : Held Body → Held Body
 bare seat = record seat { front = [] }
 
--- the seat that did these too
-abbrev pub with_done : List Event → Held Body → Held Body
-with_done es seat = record seat { done = seat.done ++ es }
-
--- what stands beside the numbers
-abbrev pub values : {X : Type 0} → List (ℕ × X) → List X
-values = map (λ x. x.1)
-
--- the seat that passed or accepted these lots, too
-abbrev pub carrying : List (LotOf Body) → Held Body → Held Body
-carrying ls seat = record seat { moved = seat.moved ++ ls }
-
 -- the seat has these lots now, and all else but what it has seen is as it was
 abbrev pub HasNow : Held Body → List (ℕ × LotOf Body) → Held Body → Type 0
 HasNow old lots new = bare new ≡ with_lots (bare old) lots
 
--- from the one front to the other this event came
-abbrev pub Came : Event → List (Deed Body) → List (Deed Body) → Type 0
-Came e from to = (before : List (Deed Body)) × (l : LotOf Body) × StartsWith before from × StartsWith to (before ++ (e, l) ∷ [])
-
--- of these records each was passed on the direction in the call
-abbrev pub ArePassed : ℕ → List ℕ → Held Body → Held Body → Type 0
-ArePassed d given old new = (r : ℕ) → Among given r → Came (Pass old.process r d) old.front new.front
+-- the same of one that did just these deeds
+abbrev pub Acts : List (Event × Item) → List (ℕ × LotOf Body) → Held Body → Held Body → Type 0
+Acts parts lots old new = HasNow old lots new × Did old.process parts old.front new.front
 
 -- as LetsGo and FindsFull, of a seat
 abbrev pub SeatLetsGo : (List ℕ → Type 0) → ℕ → Held Body → Held Body → Type 0
-SeatLetsGo also arena old new = (claims : List ℕ) × also claims × ((r : ℕ) → Among claims r → r / MAX_RECORDS ≡ arena) × HasNow (with_done (let_go old.process claims) old) old.lots new
+SeatLetsGo also arena old new = (claims : List ℕ) × also claims × ((r : ℕ) → Among claims r → r / MAX_RECORDS ≡ arena) × Acts (let_go old.process claims) old.lots old new
 
 abbrev pub SeatFull : ℕ → Held Body → Held Body → ℕ → Type 0
 SeatFull most old new arena = SeatLetsGo (λ claims. (length claims ≤ most) × SawFull old.process (keys old.lots ++ claims) old.shape old.front new.front arena) arena old new
@@ -58,7 +39,7 @@ IsData l = (kind_of (content_of l.body) ≡ kind.Data) × (fits_in l.body l.len 
 
 -- the lot l of the record r keeps its first k bytes, and those past them are in a record t of the same arena that the seat didn't hold
 abbrev pub IsCut : Held Body → Held Body → ℕ → ℕ → LotOf Body → ℕ → Type 0
-IsCut old new r k l t = (h m : LotOf Body) × (Among (keys old.lots) t → ⊥) × HasNow (did (Claim old.process t) old) (put r h old.lots ++ (t, m) ∷ []) new
+IsCut old new r k l t = (h m : LotOf Body) × (Among (keys old.lots) t → ⊥) × Acts (claimed old.process (t ∷ [])) (put r h old.lots ++ (t, m) ∷ []) old new
     × IsBlock old.shape r h × IsBlock old.shape t m × (h.len ≡ k) × (h.len + m.len ≡ l.len)
     × (content_of h.body ≡ front k (content_of l.body)) × (content_of m.body ≡ rest k (content_of l.body)) × (t / MAX_RECORDS ≡ r / MAX_RECORDS)
 

@@ -2,18 +2,18 @@
 use Rattle.std.specs.Prelude.{◌≡◌, ◌≢◌, ℕ, ◌/◌, [], ◌∷◌, ◌++◌, Some}
 use Rattle.xh_arena.specs.Views.{LotOf}
 use Rattle.xh_model.specs.declared.limits.TheConstants.{MAX_RECORDS}
-use Rattle.xh_model.specs.declared.event.Event.TheVariants.{Claim}
 use Rattle.xh_model.specs.Keyed.{Among, keys, value_at}
 use Rattle.xh_records.specs.Showing.{IsEmpty, IsLotOf}
 use Rattle.xh_records.specs.Seats.{Held, IsRecord}
 use Rattle.xh_place.specs.declared.body.Body.{Body}
 use Rattle.xh_place.specs.Bodies.{fits_in}
-use Rattle.xh_place.specs.inner.Lots.{HasNow, with_done}
+use Rattle.xh_place.specs.inner.Lots.{Acts}
+use Rattle.xh_place.specs.Events.{claimed}
 use Rattle.xh_place.specs.Places.{IsBlock}
 
 -- two more records of the arena, neither of which it had, claimed in this order
 pub record HasTwoMore (arena : ℕ) (old new : Held Body) (r t : ℕ) (l m : LotOf Body) : Type 0 where
-  pub lots : HasNow (with_done (Claim old.process r ∷ Claim old.process t ∷ []) old) (old.lots ++ (r, l) ∷ (t, m) ∷ []) new
+  pub lots : Acts (claimed old.process (r ∷ t ∷ [])) (old.lots ++ (r, l) ∷ (t, m) ∷ []) old new
   pub first_fresh : Among (keys old.lots) r → ⊥
   pub second_fresh : Among (keys old.lots) t → ⊥
   pub apart : r ≢ t

@@ -9,8 +9,8 @@ ghost use Rattle.xh_model.specs.declared.limits.TheConstants.{MAX_BYTES, MAX_REC
 ghost use Rattle.xh_place.specs.Bodies.{bytes, kind_of};
 ghost use Rattle.xh_place.specs.Desk.{HasVaults, IsAt, IsSameDesk, StaysAt};
 ghost use Rattle.xh_place.specs.Ending.{HasGivenBack};
-ghost use Rattle.xh_place.specs.Places.{Item, IsPlaceOf, found, total_of, with_freed};
-ghost use Rattle.xh_place.specs.Seen.{Becomes, Stays};
+ghost use Rattle.xh_place.specs.Places.{Item, IsPlaceOf, found, total_of};
+ghost use Rattle.xh_place.specs.Seen.{Frees, Stays};
 ghost use Rattle.xh_place.specs.Tallies.{gave, took};
 ghost use Rattle.xh_place.specs.Vaults.{IsRefusedAt};
 ghost use Rattle.xh_core.specs.Headers.{len_in};
@@ -85,7 +85,7 @@ impl Place {
         requires at { IsAt V.names desk.old self.old.place }
         requires listed { (x : Item) × (value_at r self.old.place.blocks ≡ Some x) }
         ensures same { IsSameDesk V.names V.extent desk.old desk.new }
-        ensures list { Becomes (with_freed r self.old.place) self.old self.new }
+        ensures list { Frees r self.old self.new }
         ensures once { Distinct (keys self.old.place.blocks) }
         ensures bytes { (result ≡ len_in (found self.old.place r)) × (result + total_of self.new.place.blocks ≡ total_of self.old.place.blocks) }
         ensures back { (desk.new.tallies.now ≡ gave (r / MAX_RECORDS) result desk.old.tallies.now) × HasGivenBack result desk.old.tallies.now desk.new.tallies.now }

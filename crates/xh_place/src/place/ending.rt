@@ -4,13 +4,14 @@ ghost use Rattle.xh_core.specs.Calls.{reclaimed, stop};
 ghost use Rattle.xh_core.specs.Refusing.{first_refusal};
 ghost use Rattle.xh_core.specs.Statuses.{is_over};
 ghost use Rattle.xh_model.specs.Keyed.{value_at};
+ghost use Rattle.xh_model.specs.declared.event.Event.{Event};
 ghost use Rattle.xh_model.specs.declared.limits.TheConstants.{DIRECTIONS};
 ghost use Rattle.xh_place.specs.Calls.{Stops};
 ghost use Rattle.xh_place.specs.Desk.{IsAt, IsSameDesk, StaysAt};
-ghost use Rattle.xh_place.specs.Ending.{HasGivenBack, IsSwept, IsSweptBy, ending};
+ghost use Rattle.xh_place.specs.Ending.{HasGivenBack, IsSwept, ending};
 ghost use Rattle.xh_place.specs.Ends.{IsTooLate, ending_again};
 ghost use Rattle.xh_place.specs.Places.{Item, with_list};
-ghost use Rattle.xh_place.specs.Seen.{Becomes, IsElsewhere, IsSamePlace, IsSeen, SawWord};
+ghost use Rattle.xh_place.specs.Seen.{Becomes, IsElsewhere, IsSamePlace, IsSeen, SawWord, Stays};
 ghost use Rattle.xh_records.specs.Seats.{IsRecord};
 ghost use Rattle.xh_place.specs.inner.Reclaiming.{IsSweptLate};
 ghost use Rattle.xh_core.specs.declared.status.Status.TheVariants as status;
@@ -75,7 +76,7 @@ impl Place {
     // The place is in another state. One that is over has no block.
     fn set_state(&mut self, state: Status)
         requires { is_over state ≡ true → self.old.place.blocks ≡ [] }
-        ensures state { Becomes (record self.old.place { state = state }) self.old self.new }
+        ensures state { self.new ≡ record self.old { place = record self.old.place { state = state } } }
         ensures quiet { is_over self.old.place.state ≡ true → self.old.place.blocks ≡ [] }
     {
         self.state = state;
@@ -92,8 +93,8 @@ impl Place {
         requires alive { is_over self.old.place.state ≢ true }
         requires some { from < length self.old.place.blocks }
         ensures same { IsSameDesk V.names V.extent desk.old desk.new }
-        ensures list { Becomes (with_list self.old.place self.new.place) self.old self.new }
-        ensures swept { IsSweptBy (IsSeen self.old self.new) from 1 self.old.place self.new.place result }
+        ensures swept { (log : List (Event × Item)) × IsSwept (IsSeen self.old self.new) from 1 self.old.place self.new.place result log
+            × Becomes (with_list self.old.place self.new.place) log self.old self.new }
         ensures back { HasGivenBack result desk.old.tallies.now desk.new.tallies.now }
     {
         let r = self.at(from);
@@ -109,11 +110,12 @@ impl Place {
         desk: &mut Desk<'_, R, V, G>,
         from: usize,
         budget: u16,
-    ) -> (u64, usize)
+    ) -> (u64, u16)
         requires at { IsAt V.names desk.old self.old.place }
         ensures same { IsSameDesk V.names V.extent desk.old desk.new }
-        ensures list { Becomes (with_list self.old.place self.new.place) self.old self.new }
-        ensures swept { IsSwept (IsSeen self.old self.new) from budget self.old.place self.new.place result.0 result.1 }
+        ensures swept { (log : List (Event × Item)) × IsSwept (IsSeen self.old self.new) from budget self.old.place self.new.place result.0 log
+            × Becomes (with_list self.old.place self.new.place) log self.old self.new }
+        ensures left { result.1 ≡ length self.new.place.blocks - from }
         ensures back { HasGivenBack result.0 desk.old.tallies.now desk.new.tallies.now }
     {
         let mut bytes = 0;
@@ -122,7 +124,7 @@ impl Place {
             bytes += u64::from(self.reclaim(desk, from));
             used += 1;
         }
-        (bytes, usize::from(self.left(from)))
+        (bytes, self.left(from))
     }
 
     /// The process ends, or goes on ending: its blocks go, as far as the budget goes, with what was on its way to its endpoints. It answers the bytes reclaimed.
@@ -139,8 +141,7 @@ impl Place {
     {
         self.state().check_stop()?;
         self.set_state(Status::Ending);
-        let (bytes, _left) = self.sweep(desk, 0, budget);
-        let left = self.left(0);
+        let (bytes, left) = self.sweep(desk, 0, budget);
         self.set_state(ending(left));
         reclaimed(bytes, left)
     }
@@ -156,8 +157,8 @@ impl Place {
         requires taken { self.old.place.state ≢ status.Vacant }
         ensures same { IsSameDesk V.names V.extent desk.old desk.new }
         ensures place { IsSamePlace self.old self.new }
-        ensures swept { ((self.new.place ≡ self.old.place) × (desk.new.tallies.now ≡ desk.old.tallies.now) × IsElsewhere (SawWord self.old self.new) direction r)
-            ⊎ ((bytes : ℕ) × IsTooLate (IsSeen self.old self.new) direction r self.old.place self.new.place bytes × HasGivenBack bytes desk.old.tallies.now desk.new.tallies.now) }
+        ensures swept { (Stays self.old self.new × (desk.new.tallies.now ≡ desk.old.tallies.now) × IsElsewhere (SawWord self.old self.new) direction r)
+            ⊎ ((bytes : ℕ) × IsTooLate direction r self.old self.new bytes × HasGivenBack bytes desk.old.tallies.now desk.new.tallies.now) }
     {
         let state = self.state();
         self.set_state(Status::Ending);
@@ -176,8 +177,8 @@ impl Place {
         requires alive { is_over self.old.place.state ≢ true }
         ensures same { IsSameDesk V.names V.extent desk.old desk.new }
         ensures place { IsSamePlace self.old self.new }
-        ensures swept { ((self.new.place ≡ self.old.place) × (desk.new.tallies.now ≡ desk.old.tallies.now) × IsElsewhere (SawWord self.old self.new) direction r)
-            ⊎ ((bytes : ℕ) × IsSweptLate (IsSeen self.old self.new) direction r self.old.place self.new.place bytes × HasGivenBack bytes desk.old.tallies.now desk.new.tallies.now) }
+        ensures swept { (Stays self.old self.new × (desk.new.tallies.now ≡ desk.old.tallies.now) × IsElsewhere (SawWord self.old self.new) direction r)
+            ⊎ ((bytes : ℕ) × IsSweptLate direction r self.old self.new bytes × HasGivenBack bytes desk.old.tallies.now desk.new.tallies.now) }
     {
         let from = self.count();
         match self.accept(desk.records, r, direction) {

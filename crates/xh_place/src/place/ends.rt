@@ -1,20 +1,20 @@
 //! Endpoints of a place.
-ghost use Rattle.std.specs.Prelude.{◌≡◌, ◌≢◌, ℕ, ◌+◌, ◌*◌, ◌<◌, ◌++◌, is_some, length, IsSome, Some, MatchOption, true, false};
+ghost use Rattle.std.specs.Prelude.{◌≡◌, ◌≢◌, ℕ, ◌+◌, ◌*◌, ◌<◌, ◌++◌, List, is_some, length, IsSome, Some, MatchOption, true, false};
 ghost use Rattle.xh_channel.specs.Calls.{EndpointShuts};
 ghost use Rattle.xh_channel.specs.Endpoint.{EndpointOf};
 ghost use Rattle.xh_core.specs.Calls.{arena_tests, end_tests, start};
 ghost use Rattle.xh_core.specs.Refusing.{Tested, first_refusal};
 ghost use Rattle.xh_core.specs.Statuses.{is_over};
-ghost use Rattle.xh_model.specs.Keyed.{value_at};
+ghost use Rattle.xh_model.specs.Keyed.{value_at, without};
 ghost use Rattle.xh_model.specs.declared.limits.TheConstants.{DIRECTIONS, END_BYTES};
 ghost use Rattle.xh_place.specs.Bodies.{IsEndAt, kind_of};
 ghost use Rattle.xh_place.specs.Calls.{Closes};
 ghost use Rattle.xh_place.specs.Desk.{IsAt, StaysAt};
 ghost use Rattle.xh_place.specs.Ending.{HasGivenBack, last};
-ghost use Rattle.xh_place.specs.Ends.{Accepts, EndDoes, IsUnopened, Opens, end_block, is_here};
-ghost use Rattle.xh_place.specs.Places.{Item, IsPlaceOf, found, with_blocks, with_less};
-ghost use Rattle.xh_place.specs.Seen.{Becomes, FindsFull, IsSeen, Stays};
-ghost use Rattle.xh_records.specs.History.{StartsWith};
+ghost use Rattle.xh_place.specs.Ends.{Accepts, EndDoes, IsUnopened, Opens, end_block, is_here, toward_in};
+ghost use Rattle.xh_place.specs.Places.{Item, IsPlaceOf, alone, found, with_blocks};
+ghost use Rattle.xh_place.specs.Seen.{Becomes, Did, FindsFull, IsSeen, Stays};
+ghost use Rattle.xh_place.specs.Events.{accepted_on, passed_on};
 ghost use Rattle.xh_place.specs.Vaults.{IsNoPair};
 ghost use Rattle.xh_records.specs.Seats.{IsRecord};
 ghost use Rattle.xh_channel.specs.Pairs.{IsPair};
@@ -92,9 +92,9 @@ impl Place {
         requires at { IsAt V.names desk.old self.old.place }
         requires fresh { IsPair low high }
         ensures same { StaysAt V.names V.extent desk.old desk.new self.old self.new }
-        ensures opened { Opens arena low high self.old.place self.new.place desk.old.tallies.now desk.new.tallies.now result }
+        ensures opened { Opens arena low high self.old self.new desk.old.tallies.now desk.new.tallies.now result }
         ensures why { IsUnopened (start self.old.place.state ++ arena_tests arena (length self.old.place.shape.names)) ((desk.new.vaults.now ≡ desk.old.vaults.now)
-            × (self.new.place ≡ self.old.place))
+            × Stays self.old self.new)
             (IsNoPair V.changes desk.old.vaults.now desk.new.vaults.now arena (2 * END_BYTES) (FindsFull 1 self.old self.new arena) (V.extent desk.old.vaults.now)) result }
     {
         if let Err(why) = self.state.check_start() {
@@ -124,9 +124,9 @@ impl Place {
         requires at { IsAt V.names desk.old self.old.place }
         requires fresh { IsPair low high × (is_some low.contract ≡ true) }
         ensures same { StaysAt V.names V.extent desk.old desk.new self.old self.new }
-        ensures opened { Opens arena low high self.old.place self.new.place desk.old.tallies.now desk.new.tallies.now result }
+        ensures opened { Opens arena low high self.old self.new desk.old.tallies.now desk.new.tallies.now result }
         ensures why { IsUnopened (start self.old.place.state ++ arena_tests arena (length self.old.place.shape.names)) ((desk.new.vaults.now ≡ desk.old.vaults.now)
-            × (self.new.place ≡ self.old.place))
+            × Stays self.old self.new)
             (IsNoPair V.changes desk.old.vaults.now desk.new.vaults.now arena (2 * END_BYTES) (FindsFull 1 self.old self.new arena) (V.extent desk.old.vaults.now)) result }
     {
         self.open(desk, low, high, arena)
@@ -137,7 +137,7 @@ impl Place {
         requires own { IsPlaceOf records.now self.old.place × (direction < DIRECTIONS) }
         requires running { self.old.place.state ≡ status.Running }
         requires end { has_end (found self.old.place r) ≡ true }
-        ensures { Becomes (with_less direction r self.old.place) self.old self.new }
+        ensures { Becomes (with_blocks self.old.place (without r self.old.place.blocks)) (passed_on self.old.place.process direction (alone r (value_at r self.old.place.blocks))) self.old self.new }
     {
         let len = pass_block(records, &mut self.seat, r, direction);
         remove(&mut self.list, r);
@@ -193,14 +193,14 @@ impl Place {
         self.test_end(desk.records, e)?;
         self.move_last(e);
         let from = self.count() - 1;
-        let (bytes, _left) = self.sweep(desk, from, MAX_BUDGET);
-        reclaimed(bytes, self.left(from))
+        let (bytes, left) = self.sweep(desk, from, MAX_BUDGET);
+        reclaimed(bytes, left)
     }
 
     // A block of the list goes to its end.
     fn move_last(&mut self, r: u16)
         requires { (x : Item) × (value_at r self.old.place.blocks ≡ Some x) }
-        ensures { Becomes (with_blocks self.old.place (last r self.old.place.blocks)) self.old self.new }
+        ensures { self.new ≡ record self.old { place = with_blocks self.old.place (last r self.old.place.blocks) } }
     {
         remove(&mut self.list, r);
         self.list.push_reserved(r);
@@ -211,7 +211,7 @@ impl Place {
         requires own { IsPlaceOf desk.now.records.now self.old.place }
         requires end { (x : Item) × (value_at e self.old.place.blocks ≡ Some x) × (kind_of x.content ≡ kind.End) }
         ensures shut { EndDoes e self.old.place self.new.place EndpointShuts }
-        ensures seen { StartsWith self.new.front self.old.front }
+        ensures front { self.new.front ≡ self.old.front }
     {
         shut_at(desk, &mut self.seat, e);
     }
@@ -221,8 +221,8 @@ impl Place {
         requires own { IsPlaceOf desk.now.records.now self.old.place }
         requires alive { is_over self.old.place.state ≢ true }
         requires end { (p : EndpointOf) × (value_at e self.old.place.blocks ≡ Some (end_block p)) }
-        ensures drained { Drains (IsSeen self.old self.new) e self.old.place self.new.place }
-        ensures seen { StartsWith self.new.front self.old.front }
+        ensures drained { (ys : List (ℕ × Item)) × Drains (IsSeen self.old self.new) e ys self.old.place self.new.place
+            × Did self.old.place.process (accepted_on self.old.place.process (toward_in (value_at e self.old.place.blocks)) ys) self.old.front self.new.front }
     {
         for _count in 0..u64::MAX {
             match self.take_message(desk, e) {
@@ -237,8 +237,8 @@ impl Place {
         requires own { IsPlaceOf desk.now.records.now self.old.place }
         requires alive { is_over self.old.place.state ≢ true }
         requires listed { (x : Item) × (value_at r self.old.place.blocks ≡ Some x) }
-        ensures cleared { Clears (IsSeen self.old self.new) r self.old.place self.new.place }
-        ensures seen { StartsWith self.new.front self.old.front }
+        ensures cleared { (ys : List (ℕ × Item)) × Clears (IsSeen self.old self.new) r ys self.old.place self.new.place
+            × Did self.old.place.process (accepted_on self.old.place.process (toward_in (value_at r self.old.place.blocks)) ys) self.old.front self.new.front }
     {
         match self.look(desk.records, r).kind {
             Kind::Data => return,

@@ -1,22 +1,19 @@
 //! Messages that a place gives and takes.
-ghost use Rattle.std.specs.Prelude.{◌≡◌, ◌≢◌, ℕ, ◌+◌, ◌*◌, ◌<◌, List, [], ◌∷◌, ◌++◌, Some, IfOk, IfErr, MatchResult, map, true};
+ghost use Rattle.std.specs.Prelude.{◌≡◌, ◌≢◌, ℕ, ◌+◌, ◌*◌, ◌<◌, List, [], ◌∷◌, Some, IfErr, MatchResult, map, true};
 ghost use Rattle.xh_core.specs.Calls.{given_tests};
 ghost use Rattle.xh_core.specs.Refusing.{Tested};
 ghost use Rattle.xh_core.specs.Statuses.{is_over};
 ghost use Rattle.xh_model.specs.Keyed.{Among, Distinct, value_at};
 ghost use Rattle.xh_model.specs.declared.limits.TheConstants.{DIRECTIONS};
-ghost use Rattle.xh_arena.specs.Views.{LotOf};
-ghost use Rattle.xh_place.specs.Bodies.{IsEndAt, content_of, fits_in, kind_of};
-ghost use Rattle.xh_place.specs.Endpoints.{AreGot, IsGot, Takes, record_of};
+ghost use Rattle.xh_place.specs.Bodies.{IsEndAt, kind_of};
+ghost use Rattle.xh_place.specs.Endpoints.{AreGot, Takes, record_of};
 ghost use Rattle.xh_place.specs.Ends.{EndDoes, toward_in};
-ghost use Rattle.xh_place.specs.Messages.{Gives, HasSentAll, is_listed, IsSent, IsSpent, IsTaken, IsUntaken, TakesAt};
-ghost use Rattle.xh_place.specs.Places.{Item, IsPlaceOf, with_more};
+ghost use Rattle.xh_place.specs.Messages.{Gives, is_listed, IsSent, IsTaken, IsUntaken, TakesAt};
+ghost use Rattle.xh_place.specs.Places.{Item, IsPlaceOf};
 ghost use Rattle.xh_place.specs.inner.Answers.{Comes};
-ghost use Rattle.xh_place.specs.Seen.{IsSamePlace, IsSeen, SawWord, Stays, brings};
-ghost use Rattle.xh_records.specs.History.{StartsWith};
+ghost use Rattle.xh_place.specs.Seen.{Gains, IsSamePlace, IsSeen, Stays};
 ghost use Rattle.xh_place.specs.declared.body.Body.{Body};
-ghost use Rattle.xh_records.specs.Seats.{IsRecord, IsSeatOf};
-ghost use Rattle.xh_records.specs.Showing.{IsFull, IsLotOf};
+ghost use Rattle.xh_records.specs.Seats.{IsRecord};
 ghost use Rattle.std.specs.List.{list_all};
 ghost use Rattle.xh_core.specs.declared.status.Status.TheVariants as status;
 ghost use Rattle.xh_core.specs.declared.header.Kind.TheVariants as kind;
@@ -32,34 +29,9 @@ use crate::lots::{accept_block, place_of};
 use crate::place::Place;
 use arrayvec::ArrayVec;
 use std::sync::Wait;
-use xh_arena::Lot;
 use xh_channel::{Message, Refused as Untaken, Spot};
 use xh_core::{Block, Header, Refused, is_twice};
-use xh_records::{Records, Seat};
-
-// Whether the endpoint of a record has sent its last message.
-#[tactic(auto, using(xh_model::proofs::Keyed::put_same))]
-fn is_spent_at(records: &Records<Body>, seat: &mut Seat<Body>, r: u16) -> bool
-    requires own { IsSeatOf records.now seat.old × IsRecord records.now.shape r }
-    requires held { (l : LotOf Body) × (value_at r seat.old.lots ≡ Some l) × IsLotOf seat.old.shape r l × IsFull fits_in l }
-    ensures same { seat.new ≡ seat.old }
-    ensures spent { (l : LotOf Body) → value_at r seat.old.lots ≡ Some l → result ≡ true → HasSentAll (content_of l.body) }
-{
-    records.with_lot(
-        seat,
-        r,
-        &mut |lot: &mut Lot<Body>| -> bool
-            requires { IsFull fits_in lot.old }
-            ensures same { lot.new ≡ lot.old }
-            ensures spent { result ≡ true → HasSentAll (content_of lot.old.body) }
-        {
-            match lot.body() {
-                Body::End(end) => end.is_spent(),
-                Body::Nothing | Body::Data(_) => false,
-            }
-        },
-    )
-}
+use xh_records::Records;
 
 impl Place {
     /// Gives blocks of the list, by the endpoint `e`, in a message with a tag. It answers the message's number.
@@ -79,29 +51,6 @@ impl Place {
         let spot = self.test_end(desk.records, e)?;
         let given = self.test_given(desk.records, e, blocks)?;
         self.send(desk, e, spot, tag, &given)
-    }
-
-    /// Whether an endpoint of the list has sent its last message: then there is no room for one any more, whatever its peer takes.
-    /// Of any other record false.
-    pub fn is_spent(&mut self, records: &Records<Body>, e: u16) -> bool
-        requires own { IsPlaceOf records.now self.old.place }
-        ensures same { Stays self.old self.new }
-        ensures spent { result ≡ true → IsSpent e self.old.place }
-    {
-        if !self.has(records, e) {
-            return false;
-        }
-        self.is_spent_of(records, e)
-    }
-
-    // The same of a block of the list.
-    fn is_spent_of(&mut self, records: &Records<Body>, e: u16) -> bool
-        requires own { IsPlaceOf records.now self.old.place }
-        requires listed { (x : Item) × (value_at e self.old.place.blocks ≡ Some x) }
-        ensures same { Stays self.old self.new }
-        ensures spent { result ≡ true → IsSpent e self.old.place }
-    {
-        is_spent_at(records, &mut self.seat, e)
     }
 
     // Whether each of the records is one of the list.
@@ -199,7 +148,7 @@ impl Place {
         requires alive { is_over self.old.place.state ≢ true }
         requires end { (x : Item) × (value_at e self.old.place.blocks ≡ Some x) × (kind_of x.content ≡ kind.End) }
         ensures place { IsSamePlace self.old self.new }
-        ensures taken { MatchResult result (IsTaken e self.old self.new) (IsUntaken e self.old.place self.new.place) }
+        ensures taken { MatchResult result (IsTaken e self.old self.new) (λ refused. IsUntaken e self.old.place self.new.place refused × (self.new.front ≡ self.old.front)) }
     {
         let (taken, direction) = self.pop(desk, e);
         let message = taken?;
@@ -222,7 +171,7 @@ impl Place {
         requires own { IsPlaceOf desk.now.records.now self.old.place }
         requires end { (x : Item) × (value_at e self.old.place.blocks ≡ Some x) × (kind_of x.content ≡ kind.End) }
         ensures took { EndDoes e self.old.place self.new.place (Takes result.0) }
-        ensures seen { StartsWith self.new.front self.old.front }
+        ensures front { self.new.front ≡ self.old.front }
         ensures direction { (result.1 ≡ toward_in (value_at e self.old.place.blocks)) × (result.1 < DIRECTIONS) }
     {
         take_at(desk, &mut self.seat, e)
@@ -252,7 +201,7 @@ impl Place {
         requires own { IsPlaceOf records.now self.old.place × (direction < DIRECTIONS) }
         requires alive { is_over self.old.place.state ≢ true }
         ensures place { IsSamePlace self.old self.new }
-        ensures got { (ys : List (ℕ × Item)) × (self.new.place ≡ with_more direction ys self.old.place) × IsGot (IsSeen self.old self.new) direction ys result }
+        ensures got { (ys : List (ℕ × Item)) × Gains direction ys self.old self.new × AreGot (IsSeen self.old self.new) direction ys (result ∷ []) }
         ensures record { record_of result ≡ r }
     {
         if !records.has(r) {
@@ -273,7 +222,7 @@ impl Place {
         requires alive { is_over self.old.place.state ≢ true }
         requires empty { got.old.items ≡ [] }
         ensures place { IsSamePlace self.old self.new }
-        ensures got { (ys : List (ℕ × Item)) × (self.new.place ≡ with_more direction ys self.old.place) × AreGot (IsSeen self.old self.new) direction ys got.new.items }
+        ensures got { (ys : List (ℕ × Item)) × Gains direction ys self.old self.new × AreGot (IsSeen self.old self.new) direction ys got.new.items }
         ensures records { map record_of got.new.items ≡ message.now.blocks.items }
     {
         for k in 0..message.blocks.len() {

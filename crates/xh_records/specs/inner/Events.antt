@@ -5,7 +5,7 @@ use Rattle.xh_model.specs.declared.event.Holder.{Holder}
 use Rattle.xh_model.specs.declared.event.Holder.TheVariants.{Process, Direction}
 use Rattle.xh_model.specs.declared.event.Event.{Event}
 use Rattle.xh_model.specs.declared.event.Event.TheVariants.{Claim, Vacate, Pass, Accept}
-use Rattle.xh_records.specs.Deeds.{Deed, carry}
+use Rattle.xh_records.specs.Deeds.{Deed}
 use Rattle.xh_records.specs.Seats.{Held}
 use Rattle.xh_records.specs.Showing.{IsEmpty, IsFull}
 
@@ -33,7 +33,3 @@ IsHomeLot fits (Some (Direction d)) l = IsFull fits l
 -- the seat that has seen so much
 abbrev pub seen : {B : Type 0} → List (Deed B) → Held B → Held B
 seen front x = record x { front = front }
-
--- the seat from which or to which the lot moved, if the event moves one
-abbrev pub moving : {B : Type 0} → Event → LotOf B → Held B → Held B
-moving e l x = record x { moved = carry e l x.moved }

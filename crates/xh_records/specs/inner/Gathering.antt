@@ -6,7 +6,6 @@ use Rattle.xh_arena.specs.Views.{LotOf}
 use Rattle.xh_model.specs.Words.{place_of}
 use Rattle.xh_model.specs.Keyed.{Among, Distinct}
 use Rattle.xh_records.specs.declared.view.View.{View}
-use Rattle.xh_records.specs.Deeds.{carried, deeds_by, events}
 use Rattle.xh_records.specs.Showing.{Owns}
 use Rattle.xh_records.specs.Seats.{Held, lot_in}
 use Rattle.xh_records.specs.inner.Views.{view_of}
@@ -19,14 +18,10 @@ or_else (Some x) y = Some x
 abbrev pub slot_at : {L : Type 0} → List (Option L) → ℕ → Option L
 slot_at xs r = slice_index_or xs r None
 
--- what the seat did, and what it moved by it, are its place's deeds in what it has seen
-abbrev pub Did : {B : Type 0} → Held B → Type 0
-Did x = (x.done ≡ events (deeds_by (place_of x.process) x.front)) × (x.moved ≡ carried (deeds_by (place_of x.process) x.front))
-
 -- the seats from the m-th on are in one view, and their lots in these slots; where no place stands twice in the view, no two of the seats have one place
 pub record IsGathered {B : Type 0} (m : ℕ) (seats : List (Held B)) (v : View B) (held : List (Option (LotOf B))) : Type 0 where
   pub sits : (j : ℕ) (x : Held B) → get_elem? seats j ≡ some x → m ≤ j → Among v.processes x.process
-  pub fronts : (j : ℕ) (x : Held B) → get_elem? seats j ≡ some x → m ≤ j → Among v.fronts (place_of x.process, x.front) × Did x
+  pub fronts : (j : ℕ) (x : Held B) → get_elem? seats j ≡ some x → m ≤ j → Among v.fronts (place_of x.process, x.front)
   pub each : (p : ℕ) → Among v.processes p → (j : ℕ) × (x : Held B) × (get_elem? seats j ≡ some x) × (x.process ≡ p)
   pub count : length v.processes + m ≡ length seats
   pub one : Distinct (map place_of v.processes) → (i j : ℕ) (x y : Held B) → get_elem? seats i ≡ some x → get_elem? seats j ≡ some y → m ≤ i → m ≤ j → x.process ≡ y.process → i ≡ j

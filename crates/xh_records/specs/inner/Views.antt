@@ -7,7 +7,7 @@ use Rattle.xh_model.specs.Words.{place_of, number_of}
 use Rattle.xh_model.specs.Keyed.{keys, without}
 use Rattle.xh_model.specs.Slots.{index_of}
 use Rattle.xh_arena.specs.Views.{LotOf}
-use Rattle.xh_records.specs.Deeds.{Deed, deeds_by}
+use Rattle.xh_records.specs.Deeds.{Deed}
 use Rattle.xh_records.specs.Seats.{Held}
 use Rattle.xh_records.specs.inner.Events.{taking, giving}
 use Rattle.xh_records.specs.declared.shape.Shape.{Shape}
@@ -38,20 +38,13 @@ no_shape = record { records = 0; places = 0; names = [] }
 abbrev pub spent : {B : Type 0} → View B
 spent = record { shape = no_shape; processes = []; records = []; fronts = [] }
 
--- the front of a view that stands for one place, the deeds of the place in it, and more in it
+-- the front of a view that stands for one place, and more in it
 abbrev pub first_of : {X : Type 0} → List (ℕ × List X) → List X
 first_of [] = []
 first_of (x ∷ xs) = x.1
 
 abbrev pub front_in : {B : Type 0} → View B → List (Deed B)
 front_in v = first_of v.fronts
-
-abbrev pub own_of : {B : Type 0} → List (ℕ × List (Deed B)) → List (Deed B)
-own_of [] = []
-own_of (x ∷ xs) = deeds_by x.0 x.1
-
-abbrev pub deeds_in : {B : Type 0} → View B → List (Deed B)
-deeds_in v = own_of v.fronts
 
 abbrev pub adds : {X : Type 0} → List X → List (ℕ × List X) → List (ℕ × List X)
 adds es [] = []

@@ -17,8 +17,11 @@ impl Serial {
     /// block, Twice, Protocol, PeerClosed, Full. The last three hand all the blocks back.
     #[tactic(auto, unfolding(crate::specs::MessageCommands::give))]
     pub fn give(&mut self, p: u16, e: u16, tag: u16, blocks: &[u16]) -> Result<u64, Refused>
-        ensures { give p e tag blocks.now self.old ≡ (result, self.new) }
+        ensures is { give p e tag blocks.now self.old ≡ (result, self.new) }
+        ensures orderly { AreOrderly self.new }
+        ensures numbered { (d : ℕ) → IsNumbered (line self.new.lines d) }
     {
+        let _start = &self.plain;
         let own = self.check_give(p, e, tag, blocks)?;
         let to = peer(own);
         pass_all(&mut self.plain, p, to, blocks);

@@ -9,7 +9,6 @@ loop-place-preserved c =
     let is : IsSeatOfPlace seat place.place = record {
       same = (c.end-seat.ensures.same.0, c.end-seat.ensures.same.1, c.end-seat.ensures.same.2);
       lists = c.end-seat.ensures.lists;
-      events = c.end-seat.ensures.events;
       whole = λ r b at. (c.total-bytes.ensures.blocks.whole r b at).0;
     } in (
       one_ended c.args.places.items rest _ place l.seats.items c.push.new.self.items l.lines.items c.push_line.new.lines.items seat line

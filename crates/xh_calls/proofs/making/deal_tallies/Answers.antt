@@ -1,4 +1,4 @@
-use Rattle.xh_calls.proofs.Common.{[], fresh_tally, rules, slice_index_or, ◌+◌, ◌∷◌, ◌≡◌}
+use Rattle.xh_calls.proofs.Common.{fresh_tally, rules, slice_index_or, ◌+◌, ◌≡◌}
 use Rattle.std.proofs.lemmas.List.{get_or-set_other}
 use Rattle.std.proofs.lemmas.Grind.{get_or-set_at}
 use Rattle.xh_calls.specs.declared.making.Bundle.{Bundle}

@@ -9,7 +9,8 @@ invariant_of-result c =
       arenas = search rules;
       size = search rules;
       places = search rules;
-      seats = (search rules, λ k x e. let h = c.in-Ok.ensures.seats.1 k x e in (h.0, h.1, h.2));
+      often = search rules;
+      seats = (search rules, c.in-Ok.ensures.seats.1);
       bundles = search rules;
       pens_are = (search rules, c.in_ok-histories.ensures.pens.1);
       looks_are = search rules;

@@ -1,5 +1,5 @@
-use Rattle.xh_place.proofs.Common.{rules, ◌≡◌, ◌≢◌, ℕ, List, sym, ap, ◌∙◌, subst, Some, Among, value_at, put, put_at, put_other, IsLotOf, Held, with_lots, passed_on, LotDoes, bare}
-use Rattle.xh_place.proofs.Common.{carrying, picked, values, with_done, Body, EndpointOf, Puts, lens, starts_more, starts_same, Pass, came_more}
+use Rattle.xh_place.proofs.Common.{rules, ◌≡◌, ◌≢◌, ℕ, sym, ap, ◌∙◌, subst, Some, Among, value_at, put_at, put_other, IsLotOf, with_lots, passed_on, LotDoes}
+use Rattle.xh_place.proofs.Common.{Acts, acts_lent, shown, EndpointOf, Puts, lens}
 use Rattle.xh_place.proofs.Ends.{end_kind, still_block}
 use Rattle.xh_place.proofs.giving.post.Goals.{After-pass_all-bytes}
 use Rattle.xh_place.proofs.giving.post.Goals as goal
@@ -15,7 +15,7 @@ pub put_at-put-requires-clause-held : goal.put_at-put-requires-clause-held
 put_at-put-requires-clause-held g c =
     let q = c.requires.end in
     let at = there g (goal.at.put_at-put-requires-clause-held g c).After-pass_all-bytes in
-    (q.0, at, subst (λ s. IsLotOf s c.args.e q.0) (sym (ap (λ h. h.shape) c.pass_all-bytes.ensures.passed)) q.2.lot, end_kind _ _ _ q.3)
+    (q.0, at, subst (λ s. IsLotOf s c.args.e q.0) (sym (ap (λ h. h.shape) c.pass_all-bytes.ensures.passed.0)) q.2.lot, end_kind _ _ _ q.3)
 
 pub returns : goal.returns
 returns g c =
@@ -23,18 +23,12 @@ returns g c =
     let value = c.as_slice.ensures.value in
     let at = there g (goal.at.returns g c).After-pass_all-bytes in
     let k = c.put_at-put.ensures q.0 at in let m = k.0 in
-    let d : ℕ = c.away-direction.result in
-    let after : Held Body → List ℕ → Held Body = λ h rs. bare (with_done (passed_on h.process d rs) (carrying (values (picked rs seat.lots)) h)) in
-    let now : Held Body = after seat c.args.given.now.items in
-    let chain : bare gone ≡ with_lots now gone.lots =
-    pass.passed ∙ ap (λ rs. with_lots (after seat rs) gone.lots) value in
     let does : EndpointOf → EndpointOf → Type 0 = Puts c.args.tag c.args.given.now c.put_at-put.result in
     let apart : (r : ℕ) → Among c.args.given.now.items r → c.args.e ≢ r = λ r a s. c.requires.distinct.1 (subst (λ z. Among c.args.given.now.items z) (sym s) a) in record {
       direction = search rules;
-      passed = ap bare k.2 ∙ ap (λ h. with_lots h (put c.args.e m gone.lots)) chain ∙ sym (ap (λ h. with_lots now h.lots) k.2);
-      seen = starts_more seat.front pass.seen (starts_same (ap (λ h. h.front) k.2));
-      came = λ r a. came_more (Pass seat.process r d) seat.front
-          (pass.came r (subst (λ l. Among l r) (sym value) a)) (starts_same (ap (λ h. h.front) k.2));
+      passed = acts_lent (passed_on seat.process c.away-direction.result (shown seat.lots c.args.given.now.items)) gone.lots c.put_at-put.new.seat.lots seat gone c.put_at-put.new.seat
+          (subst (λ rs. Acts (passed_on seat.process c.away-direction.result (shown seat.lots rs)) gone.lots seat gone) value pass.passed)
+          (k.2 ∙ ap (with_lots gone) (sym (ap (λ h. h.lots) k.2)));
       end = λ l at'. let two : Some q.0 ≡ Some l = sym q.1 ∙ at' in let one : q.0 ≡ l = cc in (
         m,
         ap (λ h. value_at c.args.e h.lots) k.2 ∙ put_at c.args.e m q.0 gone.lots at,

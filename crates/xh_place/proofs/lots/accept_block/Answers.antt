@@ -1,31 +1,31 @@
-use Rattle.xh_place.proofs.Common.{◌∙◌, rules, ◌≡◌, ◌<◌, ◌/◌, ◌%◌, length, sym, ap, subst, Accept, Held, did, Body, bare, carrying, [], ◌∷◌, Err, looked, has}
+use Rattle.xh_place.proofs.Common.{rules, ◌≡◌, ◌<◌, ◌/◌, ◌%◌, length, refl, sym, ap, subst, Accept, Acts, Held, Body, bare, [], ◌∷◌, ◌++◌, Err, looked, has, accepted_on, acts_of}
 use Rattle.xh_place.proofs.Common.{Arrived, arrived_last, item_of}
 use Rattle.xh_place.proofs.Gained.{lot_is}
 use Rattle.xh_place.proofs.lots.accept_block.Goals as goal
 
 pub look-requires-clause-held : goal.look-requires-clause-held
 look-requires-clause-held c =
-    let t = c.in_ok-accept.ensures.accepted in let fresh = c.in_ok-accept.ensures.fresh in
-    let seat : Held Body = did (Accept c.args.seat.now.process c.args.r c.args.direction) (carrying (t.0 ∷ []) c.args.seat.now) in
-    (t.0, has seat c.accept.new.seat c.args.r t.0 (ap bare t.1) fresh, lot_is seat c.accept.new.seat c.args.r t.0 (ap bare t.1) fresh t.2, t.3)
+    let t = c.in_ok-accept.ensures.accepted in let fresh = c.in_ok-accept.ensures.fresh in let seat = c.args.seat.now in
+    (t.0, has seat c.accept.new.seat c.args.r t.0 (ap bare t.1.0) fresh, lot_is seat c.accept.new.seat c.args.r t.0 (ap bare t.1.0) fresh t.2, t.3)
 
 pub returns-clause-here : goal.returns-clause-here
 returns-clause-here c =
-    let t = c.in_ok-accept.ensures.accepted in let fresh = c.in_ok-accept.ensures.fresh in
-    let seat : Held Body = did (Accept c.args.seat.now.process c.args.r c.args.direction) (carrying (t.0 ∷ []) c.args.seat.now) in
-    let at = has seat c.accept.new.seat c.args.r t.0 (ap bare t.1) fresh in
+    let t = c.in_ok-accept.ensures.accepted in let fresh = c.in_ok-accept.ensures.fresh in let seat = c.args.seat.now in let mid = c.accept.new.seat in
+    let at = has seat mid c.args.r t.0 (ap bare t.1.0) fresh in
     let own = c.requires.own in (
       t.0,
       fresh,
-      ap bare c.look.ensures.same ∙ ap bare t.1,
+      subst (λ (z : Held Body). Acts (accepted_on seat.process c.args.direction ((c.args.r, item_of t.0) ∷ [])) (seat.lots ++ (c.args.r, t.0) ∷ []) seat z) (sym c.look.ensures.same)
+          (acts_of ((Accept seat.process c.args.r c.args.direction, t.0) ∷ []) (accepted_on seat.process c.args.direction ((c.args.r, item_of t.0) ∷ []))
+          (seat.lots ++ (c.args.r, t.0) ∷ []) seat mid t.1 refl),
       record { exists = subst (λ z. (c.args.r / 256 < length z.names) × (c.args.r % 256 < z.records)) (sym own.0.1) own.1; lot = t.2; full = t.3 },
       c.look.ensures.header t.0 at,
-      subst (λ z. Arrived c.args.seat.now.process c.args.seat.now.front z c.args.r c.args.direction (item_of t.0)) (ap (λ z. z.front) (sym c.look.ensures.same))
-          (arrived_last c.args.r c.args.direction t.0 c.args.seat.now c.accept.new.seat t.4 c.in_ok-accept.ensures.arrives),
+      subst (λ z. Arrived seat.process seat.front z c.args.r c.args.direction (item_of t.0)) (ap (λ z. z.front) (sym c.look.ensures.same))
+          (arrived_last c.args.r c.args.direction t.0 seat mid t.1.1 c.in_ok-accept.ensures.arrives),
     )
 
 pub returns-in_err-accept-clause-missing : goal.returns-in_err-accept-clause-missing
 returns-in_err-accept-clause-missing c =
-    let m = c.in_err-accept.ensures.missed in
+    let m = c.in_err-accept.ensures.missed in let seat = c.args.seat.now in
     let is : c.from_residual.result ≡ Err c.in_err-accept.field-0.0 = search rules in
-    rw is (m.0, ap bare m.1.2.0, looked c.args.seat.now c.accept.new.seat c.args.r _ m.1)
+    rw is (m.0, acts_of [] [] seat.lots seat c.accept.new.seat m.1.2 refl, looked seat c.accept.new.seat c.args.r _ m.1)

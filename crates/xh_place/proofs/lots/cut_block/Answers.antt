@@ -1,5 +1,6 @@
-use Rattle.xh_place.proofs.Common.{arith, ◌≡◌, ℕ, ◌-◌, ◌/◌, ◌<◌, ◌≤◌, length, refl, sym, ap, ◌∙◌, subst, inl, Some, slice_get, did, Claim, bare, IsRecord, IsCut, Body, Data, advanced, starts_more}
-use Rattle.xh_place.proofs.Common.{full_now, none_claimed, one_gone, starts_same}
+use Rattle.xh_place.proofs.Common.{arith, ◌≡◌, ℕ, ◌-◌, ◌/◌, ◌<◌, ◌≤◌, [], ◌∷◌, ◌++◌, length, refl, sym, ap, ◌∙◌, subst, inl, Some, slice_get, bare, Acts, Did, Held, IsRecord, IsCut, Body, Data}
+use Rattle.xh_place.proofs.Common.{claim_acts, full_now, none_claimed, one_gone, starts_more, starts_same, vacate_acts}
+use Rattle.xh_place.proofs.Words.{claimed as claims}
 use Rattle.std.proofs.Math.Nat.{le_of_lt}
 use Rattle.xh_place.proofs.Parted.{Cutting, cutting, is_cut}
 use Rattle.xh_place.proofs.lots.cut_block.Goals.{In-Ok, After-rest_of}
@@ -9,17 +10,17 @@ same : {X : Type 0} (x y : X) → Some x ≡ Some y → x ≡ y
 same x y e = cc
 
 claimed : (g : _) (c : In-Ok g) → Cutting c.args.desk.now.records.now
-    (did (Claim c.args.seat.now.process c.in-Ok.t) c.args.seat.now) c.claim.new.seat c.args.r c.in-Ok.t c.requires.held.0 c.in-Ok.ensures.claimed.0
+    c.args.seat.now c.claim.new.seat c.args.r c.in-Ok.t c.requires.held.0 c.in-Ok.ensures.claimed.0
 claimed g c =
     let h = c.requires.held in let t = c.in-Ok.ensures.claimed in let all = c.args.desk.now.records.now in let there = subst (λ s. IsRecord s c.args.r) c.requires.own.1 h.2.exists in
-    cutting all (did (Claim c.args.seat.now.process c.in-Ok.t) c.args.seat.now) c.claim.new.seat _ _ h.0 t.0 c.requires.own h.1 h.2
+    cutting all c.args.seat.now c.claim.new.seat _ _ h.0 t.0 c.requires.own h.1 h.2
     (subst (λ z. z < length all.shape.names) (sym c.in-Ok.ensures.record.0) there.0, c.in-Ok.ensures.record.1)
-    t.2 c.in-Ok.ensures.fresh (ap bare t.1)
+    t.2 c.in-Ok.ensures.fresh (ap bare t.1.0)
 
 read : (g : _) (c : After-rest_of g) → Cutting c.args.desk.now.records.now
-    (did (Claim c.args.seat.now.process c.in-Ok.t) c.args.seat.now) c.claim.new.seat c.args.r c.in-Ok.t c.requires.held.0 c.in-Ok.ensures.claimed.0
-    → Cutting c.args.desk.now.records.now (did (Claim c.args.seat.now.process c.in-Ok.t) c.args.seat.now) c.rest_of.new.seat c.args.r c.in-Ok.t c.requires.held.0 c.in-Ok.ensures.claimed.0
-read g c k = subst (λ h. Cutting c.args.desk.now.records.now (did (Claim c.args.seat.now.process c.in-Ok.t) c.args.seat.now) h c.args.r c.in-Ok.t c.requires.held.0 c.in-Ok.ensures.claimed.0)
+    c.args.seat.now c.claim.new.seat c.args.r c.in-Ok.t c.requires.held.0 c.in-Ok.ensures.claimed.0
+    → Cutting c.args.desk.now.records.now c.args.seat.now c.rest_of.new.seat c.args.r c.in-Ok.t c.requires.held.0 c.in-Ok.ensures.claimed.0
+read g c k = subst (λ h. Cutting c.args.desk.now.records.now c.args.seat.now h c.args.r c.in-Ok.t c.requires.held.0 c.in-Ok.ensures.claimed.0)
     (sym c.rest_of.ensures.same) k
 
 pub rest_of-requires-clause-held : goal.rest_of-requires-clause-held
@@ -43,9 +44,11 @@ returns-in_default-clause-refused g c = (none_claimed (c.args.r / 256) (λ cs. l
 
 pub returns-in_default-rest_of-clause-refused : goal.returns-in_default-rest_of-clause-refused
 returns-in_default-rest_of-clause-refused g c =
+    let t = c.in-Ok.ensures.claimed in let seat = c.args.seat.now in let mid = c.rest_of.new.seat in let last = c.vacate.new.seat in let n : ℕ = c.in-Ok.t in
     let at = goal.at.returns-in_default-rest_of-clause-refused g c in let j = read g at.After-rest_of (claimed g at.In-Ok) in (
-      one_gone (c.args.r / 256) (λ cs. length cs ≤ 1) c.args.seat.now c.rest_of.new.seat c.vacate.new.seat c.in-Ok.t c.in-Ok.ensures.claimed.0 (omega arith) c.in-Ok.ensures.record.0 j.is
-          c.in-Ok.ensures.fresh (ap bare c.vacate.ensures.vacated.2.0),
+      one_gone (c.args.r / 256) (λ cs. length cs ≤ 1) seat mid last n t.0 (omega arith) c.in-Ok.ensures.record.0
+          (subst (λ (z : Held Body). Acts (claims seat.process (n ∷ [])) (seat.lots ++ (n, t.0) ∷ []) seat z) (sym c.rest_of.ensures.same) (claim_acts seat c.claim.new.seat seat.process n t))
+          c.in-Ok.ensures.fresh (vacate_acts mid last mid.process n t.0 j.tail t.3 c.vacate.ensures.vacated),
       refl,
     )
 
@@ -67,7 +70,8 @@ returns-clause-cut g c = λ l here.
     let at = goal.at.returns-clause-cut g c in let j = read g at.After-rest_of (claimed g at.In-Ok) in
     let p = c.part.ensures.parted h.0 t.0 j.head j.tail in let b : Body = Data c.in-Some.buffer in
     let cut = is_cut all seat c.rest_of.new.seat c.part.new.seat r n c.args.k h.0 t.0 p.0 (record t.0 { len = h.0.len - c.args.k; body = b }) b j c.in-Ok.ensures.fresh h.2 t.2
-    (subst (λ s. IsRecord s n) (sym c.requires.own.1) j.exist.1) h.3 h.4 c.in-Ok.ensures.record.0 p.1 p.2 refl (c.in-Some.ensures.bytes h.0 (claimed g at.In-Ok).head) p.3 in
+    (subst (λ s. IsRecord s n) (sym c.requires.own.1) j.exist.1) h.3 h.4 c.in-Ok.ensures.record.0 p.1 p.2 refl (c.in-Some.ensures.bytes h.0 (claimed g at.In-Ok).head) p.3
+    (subst (λ (z : Held Body). Did seat.process (claims seat.process (n ∷ [])) seat.front z.front) (sym c.rest_of.ensures.same) (claim_acts seat c.claim.new.seat seat.process n t).1) in
     subst (λ z. IsCut seat c.part.new.seat r c.args.k z n) (same h.0 l (sym h.1 ∙ here)) cut
 
 pub returns-in_default-clause-why : goal.returns-in_default-clause-why
@@ -77,13 +81,13 @@ pub returns-in_default-rest_of-clause-seen : goal.returns-in_default-rest_of-cla
 returns-in_default-rest_of-clause-seen g c =
     let seat = c.args.seat.now in let mid = c.claim.new.seat in let lent = c.rest_of.new.seat in
     let k = claimed g (goal.at.returns-in_default-rest_of-clause-seen g c).In-Ok in
-    starts_more seat.front (advanced _ seat mid c.in-Ok.ensures.claimed.4)
-    (starts_more mid.front (starts_same (ap (λ h. h.front) c.rest_of.ensures.same)) (advanced _ lent c.vacate.new.seat c.vacate.ensures.vacated.2.1))
+    starts_more seat.front (c.in-Ok.ensures.claimed.1.1.0, c.in-Ok.ensures.claimed.1.1.1)
+    (starts_more mid.front (starts_same (ap (λ h. h.front) c.rest_of.ensures.same)) (c.vacate.ensures.vacated.2.0.1.0, c.vacate.ensures.vacated.2.0.1.1))
 
 pub returns-clause-seen : goal.returns-clause-seen
 returns-clause-seen g c =
     let h = c.requires.held in let t = c.in-Ok.ensures.claimed in
     let seat = c.args.seat.now in let mid = c.claim.new.seat in let lent = c.rest_of.new.seat in
     let at = goal.at.returns-clause-seen g c in let k = claimed g at.In-Ok in let j = read g at.After-rest_of k in
-    starts_more seat.front (advanced _ seat mid t.4)
+    starts_more seat.front (t.1.1.0, t.1.1.1)
     (starts_more mid.front (starts_same (ap (λ z. z.front) c.rest_of.ensures.same)) (starts_same (ap (λ z. z.front) (c.part.ensures.parted h.0 t.0 j.head j.tail).3)))

@@ -1,4 +1,5 @@
-use Rattle.xh_place.proofs.Common.{rules, refl, ap, ◌∙◌, value_at, without, put_at, put_without, with_lots, bare, did, Nothing, Vacate, advanced, starts_more, starts_same, still_at}
+use Rattle.xh_place.proofs.Common.{rules, refl, ap, ◌∙◌, subst, List, LotOf, ℕ, Acts, value_at, vacated, without, put_at, put_without, Nothing, acts_none, acts_twice, still_at, vacate_acts}
+use Rattle.xh_place.proofs.Common.{[], put}
 use Rattle.xh_place.proofs.lots.give_up.Goals as goal
 
 pub vacate-requires : goal.vacate-requires
@@ -12,10 +13,13 @@ vacate-requires g c =
 
 pub returns : goal.returns
 returns g c =
-    let h = c.requires.held in let t = (c.empty-len.ensures.emptied h.0 h.1).0 in record {
+    let h = c.requires.held in let t = (c.empty-len.ensures.emptied h.0 h.1).0 in let none = record h.0 { len = 0; body = Nothing } in
+    let seat = c.args.seat.now in let mid = c.empty-len.new.seat in let last = c.vacate.new.seat in let r : ℕ = c.args.r in
+    let gone = vacate_acts mid last mid.process r none (ap (λ z. value_at r z.lots) t ∙ put_at r none h.0 seat.lots h.1) (refl, refl) c.vacate.ensures.vacated in
+    let all : Acts (vacated mid.process r) (without r mid.lots) seat last =
+    acts_twice [] (vacated mid.process r) (put r none seat.lots) (without r mid.lots) seat mid last (acts_none (put r none seat.lots) seat mid t) gone in
+    let less = ap (λ z. without r z.lots) t ∙ put_without r none seat.lots in record {
       same = search rules;
-      seat = ap bare c.vacate.ensures.vacated.2.0 ∙ ap (λ z. bare (did (Vacate z.process c.args.r) (with_lots z (without c.args.r z.lots)))) t
-          ∙ ap (with_lots (bare (did (Vacate c.args.seat.now.process c.args.r) c.args.seat.now))) (put_without c.args.r (record h.0 { len = 0; body = Nothing }) c.args.seat.now.lots);
-      seen = starts_more c.args.seat.now.front (starts_same (ap (λ z. z.front) t)) (advanced _ c.empty-len.new.seat c.vacate.new.seat c.vacate.ensures.vacated.2.1);
+      seat = subst (λ (z : ℕ × List (ℕ × LotOf _)). Acts (vacated z.0 r) z.1 seat last) (λ i. (ap (λ z. z.process) t i, less i)) all;
       back = λ l at. ((c.empty-len.ensures.emptied l at).1, (c.empty-len.ensures.emptied l at).2);
     }

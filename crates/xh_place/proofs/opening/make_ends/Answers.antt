@@ -1,13 +1,13 @@
-use Rattle.xh_place.proofs.Common.{arith, ◌≡◌, ◌≤◌, ℕ, [], ◌∷◌, length, refl, sym, ap, ◌∙◌, subst, Some, slice_get, put, value_at, without, IsLotOf, IsRecord, with_lots, End, Vacate, bare}
-use Rattle.xh_place.proofs.Common.{starts_more}
-use Rattle.xh_place.proofs.Common.{starts_same, with_done}
-use Rattle.xh_place.proofs.Gained.{both_put, has_first, has_other, two_claims, two_gone}
+use Rattle.xh_place.proofs.Common.{arith, ◌≡◌, ◌≤◌, ℕ, [], ◌∷◌, length, refl, sym, ap, ◌∙◌, subst, Some, slice_get, put, value_at, without, IsLotOf, IsRecord, End, ◌++◌, Acts, acts_lent}
+use Rattle.xh_place.proofs.Common.{claimed, vacated}
+use Rattle.xh_place.proofs.Common.{starts_more, starts_same}
+use Rattle.xh_place.proofs.Gained.{both_put, has_first, has_other, two_gone}
 use Rattle.xh_place.proofs.opening.make_ends.Goals as goal
 
 pub fit_ends-fitted-requires-clause-held : goal.fit_ends-fitted-requires-clause-held
 fit_ends-fitted-requires-clause-held g c =
     let k = c.in-Some.ensures.claimed in let r : ℕ = c.in-Some.r in let q : ℕ = c.in-Some.t in let l = k.0 in let m = k.1 in let two = k.2.two in
-    let shape = sym (ap (λ h. h.shape) two.lots) in let names = c.args.seat.now.shape.names in
+    let shape = sym (ap (λ h. h.shape) two.lots.0) in let names = c.args.seat.now.shape.names in
     let ids : Some m.id ≡ Some l.id = sym k.2.second.1.1 ∙ ap (slice_get names) (two.second_arena ∙ sym two.first_arena) ∙ k.2.first.1.1 in
     let near : m.id ≡ l.id = cc in (
       l,
@@ -26,12 +26,14 @@ returns-in_default-fitted-clause-made g c =
     let k = c.in-Some.ensures.claimed in let r : ℕ = c.in-Some.r in let q : ℕ = c.in-Some.t in let l = k.0 in let m = k.1 in let two = k.2.two in let lots = c.args.seat.now.lots in
     let fitted = c.in_default-fitted.ensures.fitted l m (has_first two) (has_other two) in
     let l' = record l { len = 32; body = End c.args.low } in let m' = record m { len = 32; body = End c.args.high } in
-    let now = ap bare fitted ∙ ap (λ h. with_lots h (put q m' (put r l' h.lots))) two.lots
-    ∙ ap (with_lots (bare (with_done (two_claims c.args.seat.now r q) c.args.seat.now))) (both_put lots r q two.first_fresh two.second_fresh two.apart l m l' m') in (
+    let mid = c.claim_two.new.seat in let seat = c.args.seat.now in
+    let now = acts_lent (claimed seat.process (r ∷ q ∷ [])) (lots ++ (r, l) ∷ (q, m) ∷ []) (put q m' (put r l' mid.lots)) seat mid c.fit_ends-fitted.new.seat two.lots fitted in
+    let whole = ap (λ h. put q m' (put r l' h.lots)) two.lots.0 ∙ both_put lots r q two.first_fresh two.second_fresh two.apart l m l' m' in
+    let made = subst (λ z. Acts (claimed seat.process (r ∷ q ∷ [])) z seat c.fit_ends-fitted.new.seat) whole now in (
       l',
       m',
       record {
-        two = record { lots = now; first_fresh = two.first_fresh; second_fresh = two.second_fresh; apart = two.apart; first_arena = two.first_arena; second_arena = two.second_arena };
+        two = record { lots = made; first_fresh = two.first_fresh; second_fresh = two.second_fresh; apart = two.apart; first_arena = two.first_arena; second_arena = two.second_arena };
         first = record { exists = k.2.first.0; lot = k.2.first.1; full = (omega arith, refl) };
         second = record { exists = k.2.second.0; lot = k.2.second.1; full = (omega arith, refl) };
       },
@@ -62,7 +64,7 @@ pub returns-clause-refused : goal.returns-clause-refused
 returns-clause-refused g c =
     let k = c.in-Some.ensures.claimed in let r : ℕ = c.in-Some.r in let q : ℕ = c.in-Some.t in let f = c.in-Err.ensures.refused in (
       two_gone k.2.two c.vacate_two.new.seat (λ cs. length cs ≤ 2) (omega arith)
-          (c.vacate_two.ensures.free ∙ ap (λ h. bare (with_done (Vacate h.process q ∷ Vacate h.process r ∷ []) (with_lots h (without r (without q h.lots))))) f.0),
+          (subst (λ h. Acts (vacated h.process q ++ vacated h.process r) (without r (without q h.lots)) h c.vacate_two.new.seat) f.0 c.vacate_two.ensures.free),
       f.1,
       f.2,
       f.3,

@@ -1,6 +1,6 @@
 use Rattle.xh_records.proofs.Common.{nat_tests, rules, arith, ◌≡◌, ℕ, ◌+◌, ◌<◌, List, length, get_or, refl, sym, ap, ◌∙◌, subst, [], ◌∷◌, ◌++◌, append_assoc, append-nil, length-append, Option}
-use Rattle.xh_records.proofs.Common.{None, vec_len, rest, turned, LotOf, Among, Distinct, keys, distinct_split, keys_append, lot_in, indices, AllLots, carried, deeds_by, deeds_in}
-use Rattle.xh_records.proofs.Common.{events, own_of, place_of, ℕ}
+use Rattle.xh_records.proofs.Common.{None, vec_len, rest, turned, LotOf, Among, Distinct, keys, distinct_split, keys_append, lot_in, indices, AllLots}
+use Rattle.xh_records.proofs.Common.{ℕ}
 use Rattle.xh_records.proofs.Cuts.{hands_over}
 use Rattle.xh_records.proofs.Lists.{next_slot, all_front, fills, first_is, below_at}
 use Rattle.xh_records.proofs.Seating.{lot_here, all_full}
@@ -101,10 +101,3 @@ returns-clause-token g c =
     let all = c.split_seat.ensures.4 ∙ ap (λ z. (z, [])) f.view in
     let same = sym (views_are c.args.seat _ _ _ c.seat.inside.token.me c.seat.view_is _ _ _ c.seat.invariant) in
     (c.split_seat.ensures.3 ∙ f.table ∙ ap (λ h. h.table) c.seat.view_is, all ∙ (λ i. (same i, [])))
-
-pub returns-clause-did : goal.returns-clause-did
-returns-clause-did g c =
-    let me = c.seat.inside.token.me in
-    let own : deeds_in me.0 ≡ deeds_by (place_of c.args.seat.process) c.args.seat.front = ap own_of c.seat.invariant.front
-    ∙ (λ i. deeds_by (place_of (c.seat.view_is i).process) (c.seat.view_is i).front) in
-    (sym (ap (λ x. x.done) c.seat.view_is) ∙ ap events own, sym (ap (λ x. x.moved) c.seat.view_is) ∙ ap carried own)

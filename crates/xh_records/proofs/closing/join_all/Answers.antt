@@ -39,7 +39,7 @@ loop-seat-init g c =
         bare = ap (λ k. k.1) e.token.1;
         gathered = gathers m c.args.seats.items last spent c.empty_out-token.result.me.0 c.args.held.now.items c.empty_out-token.new.held.items at
             (gathers_none c.args.seats.items (suc m) c.args.held.now.items size (λ r h. c.requires.none r (let k : r < vec_len c.args.held.now = search rules in k)))
-            (ap (λ k. k.0.processes) e.token.1) (ap (λ k. k.0.records) e.token.1) (ap (λ k. k.0.fronts) e.token.1) e.did
+            (ap (λ k. k.0.processes) e.token.1) (ap (λ k. k.0.records) e.token.1) (ap (λ k. k.0.fronts) e.token.1)
             (let k : length c.empty_out-token.new.held.items ≡ length c.args.held.now.items = search rules in k) e.full
             (λ r h. e.lots r (let k : r < vec_len c.args.held.now = search rules in k));
         long = e.long;
@@ -76,7 +76,7 @@ loop-seat-preserved g c =
         bare = ap (λ k. k.1) j.2 ∙ f.bare;
         gathered = gathers m c.args.seats.items seat v c.join.new.token.me.0 c.loop-seat.held.items c.empty_out-other.new.held.items at
             (subst (λ n. IsGathered n c.args.seats.items v c.loop-seat.held.items) size f.gathered)
-            (ap (λ k. k.processes) joined_is) (ap (λ k. k.records) joined_is) (ap (λ k. k.fronts) joined_is) e.did
+            (ap (λ k. k.processes) joined_is) (ap (λ k. k.records) joined_is) (ap (λ k. k.fronts) joined_is)
             (let k : length c.empty_out-other.new.held.items ≡ length c.loop-seat.held.items = search rules in k) e.full
             (λ r h. e.lots r (let k : r < vec_len c.loop-seat.held = search rules in k));
         long = e.long ∙ f.long;

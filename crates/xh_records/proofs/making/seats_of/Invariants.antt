@@ -8,5 +8,5 @@ invariant-loop-place g l = record {
   long : length l.seats.items ≡ l.place;
   room : l.places ≤ vec_capacity l.seats;
   seats : (k : ℕ) (x : Held g.row.B.Denot) → get_elem? l.seats.items k ≡ some x → (x.table ≡ l.board.table_id) × (x.shape ≡ l.board.key) × (x.process ≡ k) × (x.lots ≡ [])
-      × (x.done ≡ []) × (x.moved ≡ []) × (x.front ≡ []);
+      × (x.front ≡ []);
 }

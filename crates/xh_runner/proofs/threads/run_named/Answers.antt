@@ -1,7 +1,7 @@
 use Rattle.std.proofs.Common.{◌≡◌, ◌∙◌, All, IfOk, subst, sym}
 use Rattle.xh_calls.specs.Parts.{AreMadeBy}
 use Rattle.xh_core.specs.declared.ledger.ArenaLine.{ArenaLine}
-use Rattle.xh_model.specs.declared.limits.TheConstants.{MAX_WORKERS}
+use Rattle.xh_model.specs.declared.limits.TheConstants.{MAX_WORKERS, USUAL_GENERATIONS}
 use Rattle.xh_script.specs.Scripts.{listing_of}
 use Rattle.xh_runner.specs.Runs.{AnswersScript, HasPlayed}
 use Rattle.xh_runner.proofs.threads.run_named.Goals as goal
@@ -12,7 +12,7 @@ returns-clause-run g c =
     let leads = g.N.Names.leads in
     let script = listing_of c.args.script.now in
     let (done, is, same, closed) = c.in_ok-answers.ensures.closed in record {
-      made = subst (AreMadeBy c.args.config MAX_WORKERS) c.requires.names c.requires.made;
+      made = subst (AreMadeBy c.args.config MAX_WORKERS USUAL_GENERATIONS) c.requires.names c.requires.made;
       accounts = done.1.items;
       looks = done.2.items;
       played = subst (λ x. HasPlayed parts leads script x.0.items done.1.items done.2.items) (sym same)
@@ -28,7 +28,7 @@ returns-clause-answers g c =
 
 pub returns-clause-ledger : goal.returns-clause-ledger
 returns-clause-ledger g c =
-    let made = subst (AreMadeBy c.args.config MAX_WORKERS) c.requires.names c.requires.made in
+    let made = subst (AreMadeBy c.args.config MAX_WORKERS USUAL_GENERATIONS) c.requires.names c.requires.made in
     let books = c.in_ok-answers.ensures in record {
       count = books.arenas.0 ∙ made.5;
       sizes = subst (λ n. All (λ (a : ArenaLine). a.size ≡ n) c.in_ok-answers.books.ledger.arenas.items) made.1 books.arenas.1;

@@ -2,7 +2,7 @@ use Rattle.std.proofs.Common.{◌≡◌, ◌∙◌, All, ap, arith, map, subst, 
 use Rattle.std.proofs.lemmas.List.{length-map}
 use Rattle.xh_history.specs.Histories.{fresh_look}
 use Rattle.xh_kernel.specs.Accounts.{AreFresh}
-use Rattle.xh_crew.proofs.Wholes.{played_count}
+use Rattle.xh_runner.proofs.Wholes.{played_count}
 use Rattle.xh_runner.proofs.Workers.{map_twice}
 use Rattle.xh_runner.specs.Workers.{WorkerState, did}
 use Rattle.xh_runner.proofs.threads.run_script.Goals as goal

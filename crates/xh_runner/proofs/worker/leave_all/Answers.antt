@@ -2,7 +2,7 @@ use Rattle.std.proofs.Common.{◌≡◌, All, arith, subst, sym}
 use Rattle.std.proofs.lemmas.List.Elements.{All-push}
 use Rattle.xh_calls.specs.declared.call.Entry.{Entry}
 use Rattle.xh_history.specs.Histories.{LookOf}
-use Rattle.xh_crew.proofs.Plays.{left_more}
+use Rattle.xh_runner.proofs.Plays.{left_more}
 use Rattle.xh_runner.proofs.worker.leave_all.Goals as goal
 
 pub loop-worker-preserved : goal.loop-worker-preserved

@@ -1,4 +1,4 @@
-use Rattle.xh_calls.proofs.Common.{alloc_tests, ap, arith, length, places, refl, rules, start, status_at, sym, ◌≡◌, ◌≤◌}
+use Rattle.xh_calls.proofs.Common.{alloc_tests, ap, arith, length, places, refl, rules, start, status_at, stays_itself, sym, ◌≡◌, ◌≤◌}
 use Rattle.xh_calls.proofs.Asking.{allocated, asks}
 use Rattle.xh_core.specs.Space.{rounded}
 use Rattle.xh_records.specs.declared.shape.Shape.{Shape}
@@ -7,12 +7,12 @@ use Rattle.xh_calls.proofs.heap.Heap.alloc.Goals as goal
 
 pub returns-in_err-check_number-clause-made : goal.returns-in_err-check_number-clause-made
 returns-in_err-check_number-clause-made g c =
-    let place = c.args.place.now.place in let tests = alloc_tests c.args.arena (length g.N.Names.parts.records.shape.names) c.args.n g.N.Names.parts.size in
+    let place = c.args.place.now in let tests = alloc_tests c.args.arena (length g.N.Names.parts.records.shape.names) c.args.n g.N.Names.parts.size in
     let none = unclaimed c.from_residual.result (λ cs. length cs ≤ 1) c.args.arena place (omega arith) in record {
       made = search rules;
       block = search rules;
       refused = none;
-      why = stopped_first (start (status_at c.args.p place)) tests c.from_residual.result _ c.in_err-check_number.ensures.other.0 (search rules) _ refl;
+      why = stopped_first (start (status_at c.args.p place.place)) tests c.from_residual.result _ c.in_err-check_number.ensures.other.0 (search rules) _ (stays_itself place);
     }
 
 pub returns-clause-made : goal.returns-clause-made

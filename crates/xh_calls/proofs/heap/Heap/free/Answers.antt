@@ -1,4 +1,4 @@
-use Rattle.xh_calls.proofs.Common.{MAX_RECORDS, MatchResult, OnOk, data_tests, found, gave, length, places, rules, start, status_at, subst, ◌/◌, ◌<◌, ◌≡◌}
+use Rattle.xh_calls.proofs.Common.{MAX_RECORDS, MatchResult, OnOk, data_tests, found, gave, length, places, rules, start, status_at, stays_itself, subst, ◌/◌, ◌<◌, ◌≡◌}
 use Rattle.xh_records.specs.declared.shape.Shape.{Shape}
 use Rattle.xh_calls.proofs.Moved.{lent_back}
 use Rattle.xh_calls.proofs.Started.{refused_tested}
@@ -8,7 +8,7 @@ pub returns-in_err-check_number-clause-freed : goal.returns-in_err-check_number-
 returns-in_err-check_number-clause-freed g c =
     let place = c.args.place.now.place in record {
       freed = refused_tested (start (status_at c.args.p place)) (data_tests (found place c.args.r)) c.from_residual.result _ c.in_err-check_number.ensures.other.0 (search rules) _;
-      refused = search rules;
+      refused = search (rules, stays_itself c.args.place.now);
     }
 
 pub returns-clause-arena : goal.returns-clause-arena

@@ -1,11 +1,11 @@
-use Rattle.xh_calls.proofs.Common.{Gives, Status, end_tests, found, given_tests, is_listed, refl, rules, start, status_at, subst, sym, ◌++◌}
+use Rattle.xh_calls.proofs.Common.{Gives, Status, end_tests, found, given_tests, is_listed, rules, start, status_at, stays_itself, subst, sym, ◌++◌}
 use Rattle.xh_calls.proofs.Started.{stopped_first}
 use Rattle.xh_calls.proofs.heap.Heap.give.Goals as goal
 
 pub returns-in_err-check_number-clause-given : goal.returns-in_err-check_number-clause-given
 returns-in_err-check_number-clause-given g c =
     let place = c.args.place.now.place in let more = end_tests (found place c.args.e) ++ given_tests (is_listed place.blocks) c.args.e c.args.blocks.now in
-    stopped_first (start (status_at c.args.p place)) more c.from_residual.result _ c.in_err-check_number.ensures.other.0 (search rules) _ refl
+    stopped_first (start (status_at c.args.p place)) more c.from_residual.result _ c.in_err-check_number.ensures.other.0 (search rules) _ (stays_itself c.args.place.now)
 
 pub returns-clause-given : goal.returns-clause-given
 returns-clause-given g c =

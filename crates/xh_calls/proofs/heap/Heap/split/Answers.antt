@@ -1,13 +1,14 @@
-use Rattle.xh_calls.proofs.Common.{MAX_RECORDS, Splits, Status, arith, found, length, refl, rules, split_tests, start, status_at, subst, sym, ◌/◌, ◌≤◌}
+use Rattle.xh_calls.proofs.Common.{MAX_RECORDS, Splits, Status, arith, found, length, rules, split_tests, start, status_at, stays_itself, subst, sym, ◌/◌, ◌≤◌}
 use Rattle.xh_calls.proofs.Started.{stopped_first, unclaimed}
 use Rattle.xh_calls.proofs.heap.Heap.split.Goals as goal
 
 pub returns-in_err-check_number-clause-cut : goal.returns-in_err-check_number-clause-cut
 returns-in_err-check_number-clause-cut g c =
-    let place = c.args.place.now.place in record {
+    let place = c.args.place.now in record {
       cut = search rules;
       refused = unclaimed c.from_residual.result (λ cs. length cs ≤ 1) (c.args.r / MAX_RECORDS) place (omega arith);
-      why = stopped_first (start (status_at c.args.p place)) (split_tests (found place c.args.r) c.args.k) c.from_residual.result _ c.in_err-check_number.ensures.other.0 (search rules) _ refl;
+      why = stopped_first (start (status_at c.args.p place.place)) (split_tests (found place.place c.args.r) c.args.k) c.from_residual.result _ c.in_err-check_number.ensures.other.0 (search rules) _
+          (stays_itself place);
     }
 
 pub returns-clause-cut : goal.returns-clause-cut

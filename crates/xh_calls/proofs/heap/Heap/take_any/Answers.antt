@@ -1,5 +1,4 @@
-use Rattle.xh_calls.proofs.Common.{None, first_refusal, rules, several_tests, ◌≡◌}
-use Rattle.xh_calls.proofs.Same.{stays_itself}
+use Rattle.xh_calls.proofs.Common.{None, [], did_starts, first_refusal, rules, several_tests, stays_itself, ◌≡◌}
 use Rattle.xh_calls.proofs.heap.Heap.take_any.Goals as goal
 
 pub returns-clause-taken : goal.returns-clause-taken
@@ -11,4 +10,4 @@ returns-clause-taken g c =
 pub returns-in_err-test_several-clause-taken : goal.returns-in_err-test_several-clause-taken
 returns-in_err-test_several-clause-taken g c =
     let old = c.args.place.now in let refused = c.in_err-test_several.ensures in
-    (old, stays_itself old, refused.same.1, rw refused.tested (search rules, refused.same.0))
+    (old, stays_itself old, did_starts old.place.process [] old.front c.test_several.new.place.front refused.same.1, rw refused.tested (search rules, refused.same))

@@ -1,4 +1,4 @@
-use Rattle.xh_calls.proofs.Vaulted.{back_stays, entered, known}
+use Rattle.xh_calls.proofs.Vaulted.{back_stays, does_to, entered, known}
 use Rattle.xh_calls.proofs.kept.Kept.give_back.Goals as goal
 
 pub invariant_of-self : goal.invariant_of-self
@@ -6,3 +6,10 @@ invariant_of-self g c =
     let parts = g.N.Names.parts in let e = c.add.ensures in
     let was = known parts g.row.A _ c.self.inside.pen c.in-Some.vault c.in-Some.is c.self.invariant in
     entered parts g.row.A _ _ _ _ _ _ c.self.invariant.0 was (back_stays parts g.row.A _ _ _ _ _ _ was.0 c.give_back.ensures.done) e.pen e.front e.seen
+
+pub returns-clause-entered : goal.returns-clause-entered
+returns-clause-entered g c =
+    let parts = g.N.Names.parts in let e = c.add.ensures in
+    let was = known parts g.row.A _ c.self.inside.pen c.in-Some.vault c.in-Some.is c.self.invariant in
+    let is = back_stays parts g.row.A _ _ _ _ _ _ was.0 c.give_back.ensures.done in
+    does_to parts g.row.A _ _ _ _ _ _ c.self.invariant.0 was is e.pen e.front e.seen c.args.arena _ c.requires.is c.give_back.ensures.done

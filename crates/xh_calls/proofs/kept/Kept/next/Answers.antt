@@ -1,5 +1,5 @@
 use Rattle.xh_calls.proofs.Common.{All, EndsIn, IsKeptAt, IsOpen, IsVaultOf, List, MatchOption, None, Option, PartsOf, PenOf, Some, TableId, VaultOf, [], ap, arith, drop, fresh_pen, into_iter_items}
-use Rattle.xh_calls.proofs.Common.{into_iter_len, length, refl, rules, slice_get, subst, sym, vault_names, ℕ, ◌+◌, ◌<◌, ◌∙◌, ◌∷◌, ◌≡◌, ◌≤◌}
+use Rattle.xh_calls.proofs.Common.{length, refl, rules, slice_get, subst, sym, vault_names, ℕ, ◌+◌, ◌<◌, ◌∙◌, ◌∷◌, ◌≡◌, ◌≤◌}
 use Rattle.std.proofs.lemmas.List.{drop_all, drop_more, length-drop, nil_from_length}
 use Rattle.std.proofs.lemmas.List.Elements.{All-head, All-nil, All-tail}
 use Rattle.std.proofs.lemmas.Option.{slice_get-get_or}

@@ -23,4 +23,5 @@ returns-clause-put g c =
     let held = still_held v h.1 h.0 _ h.2 line in
     let gone = c.settle.ensures in
     let now = ap (λ table. line_view table c.settle.new.token.me.0) (gone.same.0 ∙ c.hold.ensures.same.0) ∙ view_after t v h.1 line _ _ held gone.settled in
-    subst (λ (x : LineView × LineView). SeatDoes x.0 x.1 (λ e e'. EndpointPuts e e' c.args.tag c.args.blocks c.put-put.result × OnErr c.put-put.result (OnlySaw e e'))) (λ j. (c.self.view_is j, sym now j)) s.1
+    subst (λ (x : LineView × LineView). SeatDoes x.0 x.1 (λ e e'. EndpointPuts e e' c.args.tag c.args.blocks c.put-put.result × OnErr c.put-put.result (OnlySaw e e')))
+    (λ j. (c.self.view_is j, sym now j)) s.1

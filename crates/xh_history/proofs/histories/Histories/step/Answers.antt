@@ -13,7 +13,7 @@ store-requires g c =
     let told = rw (← c.pen.view_is, ← pen.is, ← worker, c.in-Some.is) at c.requires.shown in (
       me.0 ∙ ap (λ p. p.table) c.pen.view_is ∙ c.requires.tables.0 ∙ sym c.self.view_is,
       omega (arith, w.word, pen.place, c.self.invariant),
-      rw me.2 (adds g.S.Shows.shows _ _ c.word_at-index.result (λ _. c.in-Some.word) _ g.C.Says.calls (w.word ∙ ap (λ n. stride * n) (sym pen.is)) (pen.alone ∙ ap suc (sym pen.is)) (rw (sym view) front.alone)
+      rw me.2 (adds g.S.Shows.shows _ _ c.word_at-index.result (λ _. c.in-Some.word) _ g.C.Says.calls (w.word ∙ ap (λ n. stride * suc n) (sym pen.is)) (pen.alone ∙ ap suc (sym pen.is)) (rw (sym view) front.alone)
           (omega (arith, pen.place, pen.is)) (rw (sym view) front.fronts) told),
     )
 
@@ -27,6 +27,6 @@ load-requires g c =
     let told = rw (← c.pen.view_is, ← pen.is, ← worker, c.in-None.is) at c.requires.shown in (
       me.0 ∙ ap (λ p. p.table) c.pen.view_is ∙ c.requires.tables.0 ∙ sym c.self.view_is,
       omega (arith, w.word, pen.place, c.self.invariant),
-      rw me.2 (adds g.S.Shows.shows _ _ c.word_at-index.result (λ n. n) _ g.C.Says.calls (w.word ∙ ap (λ n. stride * n) (sym pen.is)) (pen.alone ∙ ap suc (sym pen.is)) (rw (sym view) front.alone)
+      rw me.2 (adds g.S.Shows.shows _ _ c.word_at-index.result (λ n. n) _ g.C.Says.calls (w.word ∙ ap (λ n. stride * suc n) (sym pen.is)) (pen.alone ∙ ap suc (sym pen.is)) (rw (sym view) front.alone)
           (omega (arith, pen.place, pen.is)) (rw (sym view) front.fronts) told),
     )

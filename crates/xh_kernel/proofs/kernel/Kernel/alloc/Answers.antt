@@ -1,10 +1,9 @@
 use Rattle.xh_kernel.proofs.Calling.{asked, refl, rounded, rules}
 use Rattle.xh_kernel.proofs.kernel.Kernel.alloc.Goals as goal
 
-pub returns-clause-vault : goal.returns-clause-vault
-returns-clause-vault g c =
-    let e = c.alloc-answer.ensures in let seen = c.account.inside.till.seen in
-    asked g.N.Names.parts c.args.arena (rounded c.args.n) seen c.alloc-answer.new.till.seen c.alloc-answer.result c.account.view_is refl c.account.invariant.0.1 e.same.1.1 e.refused
-
-pub returns-clause-call : goal.returns-clause-call
-returns-clause-call g c = ((search rules, search rules), c.note.ensures.step _ (search rules))
+pub returns : goal.returns
+returns g c =
+    let e = c.alloc-answer.ensures in let seen = c.account.inside.till.seen in (
+      ((search rules, search rules), c.note.ensures.step _ (search rules)),
+      asked g.N.Names.parts c.args.arena (rounded c.args.n) seen c.alloc-answer.new.till.seen c.alloc-answer.result c.account.view_is refl c.account.invariant.0.1 e.same.1.1 e.refused,
+    )

@@ -1,5 +1,5 @@
-use Rattle.xh_kernel.proofs.Common.{back_of}
+use Rattle.xh_kernel.proofs.Common.{Close, back_of, ◌-◌}
 use Rattle.xh_kernel.proofs.kernel.Kernel.close.Given as goal
 
-abbrev pub ghost-close_with : goal.ghost-close_with
-ghost-close_with g a = back_of a.account.now.tallies
+abbrev pub ghost-note : goal.ghost-note
+ghost-note g a = let s = a.about.now in Close s.0 s.1 (back_of s.3.now.items - back_of s.2.now.value.items) s.4.now

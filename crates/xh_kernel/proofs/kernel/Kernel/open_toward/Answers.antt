@@ -1,4 +1,4 @@
-use Rattle.xh_kernel.proofs.Calling.{END_BYTES, asked, refl, rules, ◌*◌}
+use Rattle.xh_kernel.proofs.Calling.{END_BYTES, asked, refl, rules, sym, ◌*◌}
 use Rattle.xh_kernel.proofs.kernel.Kernel.open_toward.Goals as goal
 
 pub returns-clause-vault : goal.returns-clause-vault
@@ -7,4 +7,4 @@ returns-clause-vault g c =
     asked g.N.Names.parts c.args.arena (2 * END_BYTES) seen c.open_toward-answer.new.till.seen c.open_toward-answer.result c.account.view_is refl c.account.invariant.0.1 e.same.1.1 e.refused
 
 pub returns-clause-call : goal.returns-clause-call
-returns-clause-call g c = ((search rules, search rules), c.note.ensures.step _ (search rules))
+returns-clause-call g c = rw (sym c.of-by.ensures) ((search rules, search rules), c.note.ensures.step _ (search rules))

@@ -1,4 +1,4 @@
-use Rattle.xh_kernel.proofs.Common.{AccountOf, lives, rules}
+use Rattle.xh_kernel.proofs.Common.{AccountOf, did_starts, lives, rules}
 use Rattle.xh_kernel.proofs.Lent.{did_read, lends}
 use Rattle.xh_kernel.proofs.kernel.Kernel.with_bytes.Goals as goal
 
@@ -6,7 +6,7 @@ pub note-requires : goal.note-requires
 note-requires g c κs within =
     let held = c.deref_mut-held.result.now in let e = c.with_bytes-answer.ensures in
     let done = did_read g.F.FnMut g.N.Names.parts c.args.p c.args.r c.args.f.now c.with_bytes-answer.new.f held.place c.with_bytes-answer.new.place c.with_bytes-answer.result e in
-    (search rules, (search (rules, lives, within) depth 24 fits 20000, (search rules, (search rules, (search rules, ((held.place, held.history, done, e.same.1), search rules))))))
+    (search rules, (search (rules, lives, within) depth 24 fits 20000, (search rules, (search rules, (search rules, ((held.place, held.history, done, did_starts _ _ _ _ e.same.1), search rules))))))
 
 pub returns : goal.returns
 returns g c =
@@ -14,4 +14,4 @@ returns g c =
     let to : AccountOf =
     record { number = inside.number; tallies = inside.till.tallies.items; fronts = c.note.new.front.fronts; signs = inside.till.seen.number; vaults = inside.till.seen.fronts } in
     lends g.N.Names.parts g.N.Names.leads c.args.p c.args.r g.F.FnMut c.args.f.now c.with_bytes-answer.new.f c.deref_mut-held.result.now.place c.with_bytes-answer.new.place
-    c.args.account.now to c.with_bytes-answer.result c.with_bytes-answer.ensures (search rules, search rules, c.note.ensures.now _ (search rules))
+    c.args.account.now to c.with_bytes-answer.result c.with_bytes-answer.ensures (search rules, search rules, c.note.ensures.now _ _ (search rules) c.deref_mut-held.result.now.history)

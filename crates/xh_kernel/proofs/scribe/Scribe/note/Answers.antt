@@ -1,7 +1,7 @@
 use Rattle.xh_history.proofs.Keeping.{last_push}
-use Rattle.xh_kernel.proofs.Common.{Does, Entry, Glance, IsHistoryOf, Option, PlaceSeen, Steps, [], ap, at, last_glance, option_map, place_of, refl, rules, subst}
+use Rattle.xh_kernel.proofs.Common.{Entry, Glance, IsHistoryOf, Option, PlaceSeen, Steps, [], ap, at, last_glance, option_map, place_of, refl, rules, subst}
 use Rattle.xh_kernel.proofs.Common.{sym, unwrap_or, ℕ, ◌++◌, ◌∙◌, ◌∷◌, ◌≡◌}
-use Rattle.xh_kernel.proofs.Recorded.{led, longer, so_too}
+use Rattle.xh_kernel.proofs.Recorded.{at_step, led, longer}
 use Rattle.xh_kernel.specs.Words.{shows, unpacked, vacant}
 use Rattle.xh_kernel.proofs.scribe.Scribe.note.Goals.{else-same, then-same}
 use Rattle.xh_kernel.proofs.scribe.Scribe.note.Goals as goal
@@ -25,14 +25,14 @@ returns-clause-history g c =
     (longer g.N.Names.parts pen.history g.call d.0 d.1 c.requires.1.1.1.0.1 d.2 (c.requires.1.1.1.1.0.0, s.lawful) d.3 s.shown)
 
 pub returns-clause-now : goal.returns-clause-now
-returns-clause-now g c = λ k is.
+returns-clause-now g c = λ k from is was.
     let pen = c.args.self.now.pen in let d = c.requires.1.1.1.1.1.0 in let s = c.shown-glance.ensures in
-    let R : PlaceSeen → PlaceSeen → Type 0 = λ old new. Does g.N.Names.parts g.call old new × (new ≡ c.args.place.now) in
+    let R : PlaceSeen → PlaceSeen → Type 0 = λ old new. (old ≡ from) × (new ≡ c.args.place.now) in
     let x : ℕ × Entry = (c.args.front.now.number, record { call = g.call; glance = c.shown-glance.result }) in
     let last : at c.add.new.front.fronts pen.number ≡ pen.history ++ x ∷ [] = search rules in
     let on = longer g.N.Names.parts pen.history g.call d.0 d.1 c.requires.1.1.1.0.1 d.2 (c.requires.1.1.1.1.0.0, s.lawful) d.3 s.shown in
     subst (λ j. Steps g.N.Names.leads j (at c.add.new.front.fronts j) R) is (subst (λ h. Steps g.N.Names.leads pen.number h R) (sym last)
-    (led g.N.Names.parts g.N.Names.leads c.args.shared.now.law pen.number x pen.history (pen.history ++ x ∷ []) d.0 c.args.place.now R d.1 on refl (d.2, refl)))
+    (led g.N.Names.parts g.N.Names.leads c.args.shared.now.law pen.number x pen.history (pen.history ++ x ∷ []) from c.args.place.now R was on refl (refl, refl)))
 
 pub returns-clause-step : goal.returns-clause-step
-returns-clause-step g c = λ k is. so_too g.N.Names.leads k _ _ _ (λ old new s. s.0) (returns-clause-now g c k is)
+returns-clause-step g c = λ k is. let d = c.requires.1.1.1.1.1.0 in at_step g.N.Names.leads k _ _ d.0 c.args.place.now d.2 (returns-clause-now g c k d.0 is d.1)

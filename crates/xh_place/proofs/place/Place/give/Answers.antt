@@ -1,7 +1,8 @@
-use Rattle.xh_place.proofs.Common.{◌≡◌, ℕ, sym, subst, rules, ◌++◌, ◌∙◌, Among, Distinct, value_at, Some, None, Item, found_at, end_tests, given_tests, first_refusal, Tests, IsSent, is_listed}
-use Rattle.xh_place.proofs.Common.{Stays, start, starts_more, unrefused}
+use Rattle.xh_place.proofs.Common.{◌≡◌, ℕ, sym, subst, rules, ◌++◌, Among, Distinct, value_at, Some, None, Item, found_at, end_tests, given_tests, first_refusal, Tests, IsSent, is_listed}
+use Rattle.xh_place.proofs.Common.{Stays, start, stays_again, unrefused}
 use Rattle.xh_place.proofs.Givens.{fine}
 use Rattle.xh_place.proofs.Drained.{sent_from}
+use Rattle.xh_place.proofs.Common.{same_then, stays_same}
 use Rattle.xh_place.proofs.place.Place.give.Goals as goal
 
 pub send-requires-clause-given : goal.send-requires-clause-given
@@ -19,7 +20,26 @@ returns-clause-given g c =
     let old = c.args.self.now in let one = c.in_ok-spot.ensures.same in let two = c.in_ok-given.ensures.same in
     let tests : Tests = start old.place.state ++ end_tests (found_at old.place c.args.e) ++ given_tests (is_listed old.place.blocks) c.args.e c.args.blocks.now in
     let passed : first_refusal tests ≡ None = search rules in
-    let same : Stays old c.test_given.new.self = (two.0 ∙ one.0, starts_more old.front one.1 two.1) in
-    unrefused tests c.send.result (c.send.new.self.place ≡ old.place) (IsSent c.args.e c.args.tag c.args.blocks.now old c.send.new.self c.send.result) passed
+    let same : Stays old c.test_given.new.self = stays_again old c.test_end.new.self c.test_given.new.self one two in
+    unrefused tests c.send.result (Stays old c.send.new.self) (IsSent c.args.e c.args.tag c.args.blocks.now old c.send.new.self c.send.result) passed
     (sent_from c.args.e c.args.tag c.args.blocks.now old c.test_given.new.self c.send.new.self c.send.result same
     (subst (λ rs. IsSent c.args.e c.args.tag rs c.test_given.new.self c.send.new.self c.send.result) c.in_ok-given.ensures.tested.1 c.send.ensures.sent))
+
+pub returns-clause-place : goal.returns-clause-place
+returns-clause-place g c =
+    let old = c.args.self.now in let mid = c.test_given.new.self in
+    same_then old mid c.send.new.self (stays_same old mid (stays_again old c.test_end.new.self mid c.in_ok-spot.ensures.same c.in_ok-given.ensures.same)) c.send.ensures.place
+
+pub returns-in_err-spot-clause-place : goal.returns-in_err-spot-clause-place
+returns-in_err-spot-clause-place g c = stays_same c.args.self.now c.test_end.new.self c.in_err-spot.ensures.same
+
+pub returns-in_err-given-clause-place : goal.returns-in_err-given-clause-place
+returns-in_err-given-clause-place g c =
+    let old = c.args.self.now in let mid = c.test_given.new.self in stays_same old mid (stays_again old c.test_end.new.self mid c.in_ok-spot.ensures.same c.in_err-given.ensures.same)
+
+pub returns-in_err-given-clause-given : goal.returns-in_err-given-clause-given
+returns-in_err-given-clause-given g c =
+    let old = c.args.self.now in let mid = c.test_given.new.self in
+    let first : first_refusal (start old.place.state ++ end_tests (found_at old.place c.args.e) ++ given_tests (is_listed old.place.blocks) c.args.e c.args.blocks.now)
+    ≡ Some c.in_err-given.field-0.0 = search rules in
+    rw first (search rules, stays_again old c.test_end.new.self mid c.in_ok-spot.ensures.same c.in_err-given.ensures.same)

@@ -1,5 +1,5 @@
 use Rattle.xh_place.proofs.Common.{refl, arith, ◌≡◌, ℕ, ◌+◌, ◌/◌, ◌<◌, length, sym, ap, ◌∙◌, subst, Distinct, keys, without, HasGivenBack, Item, option_map, header_of, total_of, gave, tallied, found}
-use Rattle.xh_place.proofs.Common.{[], ◌∷◌, List, Event, Vacate, heard, heard_shows, with_blocks, with_events, total_without, enough, list_distinct, lost, placed, since}
+use Rattle.xh_place.proofs.Common.{total_without, enough, list_distinct, lost, place_did, placed, vacated}
 use Rattle.xh_core.specs.Headers.{len_in}
 use Rattle.xh_place.proofs.Swept.{gave_some}
 use Rattle.xh_place.proofs.place.Place.give_up.Goals as goal
@@ -18,18 +18,15 @@ overflow_sub-self g c =
 pub invariant_of-self : goal.invariant_of-self
 invariant_of-self g c =
     let f = found c.self.invariant (placed c.self.view_is) c.args.r c.requires.listed.1 in
-    (lost c.self.inside.list.items (heard (Vacate c.self.inside.seat.process c.args.r ∷ []) c.self.invariant) c.give_up-len.new.seat c.args.r f.entry c.give_up-len.ensures.seat c.remove.ensures.items
+    (lost c.self.inside.list.items c.self.invariant c.give_up-len.new.seat c.args.r f.entry c.give_up-len.ensures.seat.0 c.remove.ensures.items
     c.remove.ensures.room (c.from.ensures ∙ (c.give_up-len.ensures.back f.lot f.held).1 ∙ ap (λ z. z.len) f.same)).0
 
 pub returns-clause-list : goal.returns-clause-list
 returns-clause-list g c =
-    let p = c.args.self.now.place in let es : List Event = Vacate c.self.inside.seat.process c.args.r ∷ [] in
     let f = found c.self.invariant (placed c.self.view_is) c.args.r c.requires.listed.1 in (
-      (lost c.self.inside.list.items (heard (Vacate c.self.inside.seat.process c.args.r ∷ []) c.self.invariant) c.give_up-len.new.seat c.args.r f.entry c.give_up-len.ensures.seat
-          c.remove.ensures.items
-          c.remove.ensures.room (c.from.ensures ∙ (c.give_up-len.ensures.back f.lot f.held).1 ∙ ap (λ z. z.len) f.same)).1 (with_events p es)
-          (heard_shows es c.self.inside.seat (placed c.self.view_is)) ∙ ap (λ q. with_events (with_blocks p (without c.args.r p.blocks)) (Vacate q.process c.args.r ∷ [])) (placed c.self.view_is),
-      since c.self.view_is c.give_up-len.ensures.seen,
+      (lost c.self.inside.list.items c.self.invariant c.give_up-len.new.seat c.args.r f.entry c.give_up-len.ensures.seat.0 c.remove.ensures.items
+          c.remove.ensures.room (c.from.ensures ∙ (c.give_up-len.ensures.back f.lot f.held).1 ∙ ap (λ z. z.len) f.same)).1 c.args.self.now.place (placed c.self.view_is),
+      place_did c.self.inside.seat c.self.view_is c.give_up-len.new.seat (λ p. vacated p c.args.r) c.give_up-len.ensures.seat.1,
     )
 
 pub returns-clause-bytes : goal.returns-clause-bytes

@@ -1,5 +1,5 @@
-use Rattle.xh_place.proofs.Common.{rules, arith, ◌≡◌, ℕ, suc, ◌<◌, List, [], ◌∷◌, ◌++◌, length, sym, ap, ◌∙◌, refl, without, length-keys, less, Item, shown, keys_without, shown_keys}
-use Rattle.xh_place.proofs.Common.{count_room, list_distinct, listed, placed, starts_same, since, moved_last, without_long}
+use Rattle.xh_place.proofs.Common.{rules, arith, ◌≡◌, ℕ, suc, ◌<◌, List, [], ◌∷◌, ◌++◌, length, sym, ap, ◌∙◌, without, length-keys, less, Item, shown, keys_without, shown_keys}
+use Rattle.xh_place.proofs.Common.{count_room, list_distinct, listed, placed, fronted, moved_last, without_long}
 use Rattle.xh_place.proofs.place.Place.move_last.Goals as goal
 
 pub remove-requires : goal.remove-requires
@@ -23,4 +23,4 @@ pub returns : goal.returns
 returns c =
     let both = moved_last c.self.inside.list.items c.self.invariant c.args.r (listed c.self.invariant (placed c.self.view_is) c.args.r c.requires.1)
     (c.push_reserved.ensures.items ∙ ap (λ l. l ++ c.args.r ∷ []) c.remove.ensures.items) (c.push_reserved.ensures.capacity ∙ c.remove.ensures.room) in
-    (both.1 c.args.self.now.place (placed c.self.view_is), since c.self.view_is (starts_same refl))
+    λ i. record { place = both.1 c.args.self.now.place (placed c.self.view_is) i; front = fronted c.self.view_is i }

@@ -1,7 +1,7 @@
-use Rattle.xh_place.proofs.Common.{Claim, rules, arith, ◌≡◌, ℕ, ◌+◌, ◌<◌, List, [], ◌∷◌, ◌++◌, length, refl, sym, ap, ◌∙◌, subst, with_blocks, Err, None, IfErr, OnOk, arena_tests}
-use Rattle.xh_place.proofs.Common.{◌≤◌, Event, FindsFull, SeatFull, did_only, finds_full, first_refusal, heard_shows, let_go, lets_go, no_pair_as, place_seen, Tests, start, list_room}
+use Rattle.xh_place.proofs.Common.{rules, arith, ◌≡◌, ℕ, ◌+◌, ◌<◌, List, [], ◌∷◌, ◌++◌, length, refl, sym, ap, ◌∙◌, subst, Err, None, IfErr, OnOk, arena_tests}
+use Rattle.xh_place.proofs.Common.{◌≤◌, FindsFull, SeatFull, Stays, claimed, did_only, finds_full, first_refusal, let_go, lets_go, no_pair_as, place_seen, Tests, start, list_room}
 use Rattle.xh_place.proofs.Common.{over_running}
-use Rattle.xh_place.proofs.Common.{total_bound, placed, untested, with_events}
+use Rattle.xh_place.proofs.Common.{Some, stays_itself, total_bound, place_did, placed, untested, with_more}
 use Rattle.xh_place.specs.Vaults.{IsNoPair}
 use Rattle.xh_place.proofs.Gained.{both_listed, opened, room_second}
 use Rattle.xh_place.proofs.place.Place.open.Goals as goal
@@ -32,11 +32,12 @@ pub returns-clause-opened : goal.returns-clause-opened
 returns-clause-opened g c =
     let k = c.in_ok-made.ensures.made in let old = c.args.self.now.place in let rs = c.self.inside.list.items in let alive = over_running c.self.inside.state (search rules) in
     let sum : c.self.inside.total + c.from-2.result ≡ c.self.inside.total + k.0.len + k.1.len = omega (arith, c.from-2.ensures, ap (λ x. x.len) k.3, ap (λ x. x.len) k.4) in
-    let es : ℕ → List Event = λ p. Claim p c.in_ok-made.made.0 ∷ Claim p c.in_ok-made.made.1 ∷ [] in
     let both = opened rs c.self.invariant alive k.2
     (c.push_reserved-2.ensures.items ∙ ap (λ z. z ++ c.in_ok-made.made.1 ∷ []) c.push_reserved.ensures.items) (c.push_reserved-2.ensures.capacity ∙ c.push_reserved.ensures.capacity) sum in (
-      both.1 (with_events old (es c.self.inside.seat.process)) (heard_shows (es c.self.inside.seat.process) c.self.inside.seat (placed c.self.view_is))
-          ∙ (λ i. with_events (with_blocks old (old.blocks ++ (c.in_ok-made.made.0, k.3 i) ∷ (c.in_ok-made.made.1, k.4 i) ∷ [])) (es (placed c.self.view_is i).process)),
+      (
+        both.1 old (placed c.self.view_is) ∙ (λ i. with_more ((c.in_ok-made.made.0, k.3 i) ∷ (c.in_ok-made.made.1, k.4 i) ∷ []) old),
+        place_did c.self.inside.seat c.self.view_is c.make_ends.new.seat (λ p. claimed p (c.in_ok-made.made.0 ∷ c.in_ok-made.made.1 ∷ [])) k.2.two.lots.1,
+      ),
       (refl, k.2.two.first_arena),
       (refl, k.2.two.second_arena),
       c.in_ok-made.ensures.taken,
@@ -44,12 +45,13 @@ returns-clause-opened g c =
     )
 
 pub invariant_of-self : goal.invariant_of-self
-invariant_of-self g c = let f = c.in_err-made.ensures.refused.0 in (did_only c.self.inside.list.items c.self.invariant c.make_ends.new.seat (let_go c.self.inside.seat.process f.0) f.3).0
+invariant_of-self g c =
+    let f = c.in_err-made.ensures.refused.0 in (did_only c.self.inside.list.items c.self.invariant c.make_ends.new.seat c.self.view_is (λ p. let_go p f.0) f.3).0
 
 pub returns-in_err-made-clause-opened : goal.returns-in_err-made-clause-opened
 returns-in_err-made-clause-opened g c =
     let f = c.in_err-made.ensures.refused in let is : c.from_residual.result ≡ Err c.in_err-made.field-0.0 = search rules in
-    rw is (f.2, f.3, lets_go c.self.inside.list.items c.self.invariant c.make_ends.new.seat (λ cs. length cs ≤ 2) c.args.arena c.args.self.now.place (placed c.self.view_is) f.0, f.1)
+    rw is (f.2, f.3, lets_go c.self.inside.list.items c.self.invariant c.make_ends.new.seat c.self.view_is (λ cs. length cs ≤ 2) c.args.arena f.0, f.1)
 
 pub returns-in_err-made-clause-why : goal.returns-in_err-made-clause-why
 returns-in_err-made-clause-why g c =
@@ -60,6 +62,12 @@ returns-in_err-made-clause-why g c =
     let tests : Tests = start old.place.state ++ arena_tests arena (length old.place.shape.names) in
     let passed : first_refusal tests ≡ None = search rules in
     let why = no_pair_as g.V.Vaults.changes vaults left arena 64 (SeatFull 1 seat last arena) (FindsFull 1 old new arena)
-    (finds_full rs c.self.invariant last 1 arena old c.self.view_is) (g.V.Vaults.extent vaults) u.why c.in_err-made.ensures.why in
+    (finds_full rs c.self.invariant last c.self.view_is 1 arena) (g.V.Vaults.extent vaults) u.why c.in_err-made.ensures.why in
     untested tests (IfErr c.from_residual.result (λ z. IsNoPair g.V.Vaults.changes vaults left arena 64 (FindsFull 1 old new arena) (g.V.Vaults.extent vaults) z.why))
-    (λ refused. IfErr c.from_residual.result (λ z. z.why ≡ refused) × OnOk c.from_residual.result ⊥ × ((left ≡ vaults) × (new.place ≡ old.place))) passed (rw is why)
+    (λ refused. IfErr c.from_residual.result (λ z. z.why ≡ refused) × OnOk c.from_residual.result ⊥ × ((left ≡ vaults) × Stays old new)) passed (rw is why)
+
+pub returns-in-Err-clause-why : goal.returns-in-Err-clause-why
+returns-in-Err-clause-why g c =
+    let old = c.args.self.now in
+    let first : first_refusal (start old.place.state ++ arena_tests c.args.arena (length old.place.shape.names)) ≡ Some c.in-Err.why = search rules in
+    rw first (refl, tt, (refl, stays_itself old))

@@ -1,4 +1,4 @@
-use Rattle.xh_place.proofs.Common.{Takes, placed, own_record, end_held, end_did}
+use Rattle.xh_place.proofs.Common.{Takes, placed, ap, ◌∙◌, fronted, own_record, end_held, end_did}
 use Rattle.xh_place.proofs.place.Place.pop.Goals as goal
 
 pub take_at-requires : goal.take_at-requires
@@ -14,3 +14,8 @@ invariant_of-self g c = (end_did c.self.inside.list.items c.self.invariant (plac
 pub returns-clause-took : goal.returns-clause-took
 returns-clause-took g c = (end_did c.self.inside.list.items c.self.invariant (placed c.self.view_is) c.args.e c.requires.end c.take_at.new.seat (Takes c.take_at.result.0)
     (λ l h. (c.take_at.ensures.seat l h).1)).1
+
+pub returns-clause-front : goal.returns-clause-front
+returns-clause-front g c =
+    let h = end_held c.self.inside.list.items c.self.invariant (placed c.self.view_is) c.args.e c.requires.end in
+    ap (λ s. s.front) (c.take_at.ensures.seat h.0 h.1).1.2 ∙ fronted c.self.view_is

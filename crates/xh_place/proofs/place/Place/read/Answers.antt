@@ -1,4 +1,4 @@
-use Rattle.xh_place.proofs.Common.{length, ap, arith, ◌∙◌, part, found, found_at, own_record, placed, starts_same, since, start, starts_more, subst, sym, option_map, header_of, value_at}
+use Rattle.xh_place.proofs.Common.{length, ap, arith, ◌∙◌, part, found, found_at, own_record, placed, fronted, same_since, start, subst, sym, option_map, header_of, value_at}
 use Rattle.xh_place.proofs.Common.{Item, Some, ◌++◌, ◌≡◌}
 use Rattle.xh_core.specs.Calls.{range_tests}
 use Rattle.xh_core.specs.Refusing.{Tested}
@@ -14,8 +14,9 @@ pub returns-clause-read : goal.returns-clause-read
 returns-clause-read c =
     let q = c.in_ok-test_block.ensures.tested.1 in let v = placed c.self.view_is ∙ c.in_ok-test_block.ensures.same.0 in let f = found c.self.invariant v c.args.r q.1 in
     let old = c.args.self.now.place in let long : length c.read_lot.new.out ≡ length c.args.out.now = omega arith in
-    let after = since c.self.view_is (starts_same (ap (λ h. h.front) c.read_lot.ensures.same)) in record {
-      same = (rw c.read_lot.ensures.same v, starts_more c.args.self.now.front c.in_ok-test_block.ensures.same.1 after);
+    let after = same_since c.args.self.now c.test_block.new.self c.read_lot.new.seat.front c.in_ok-test_block.ensures.same
+    (ap (λ h. h.front) c.read_lot.ensures.same ∙ fronted c.self.view_is) in record {
+      same = (rw c.read_lot.ensures.same v, after);
       read = subst (λ n. Tested (start old.state ++ range_tests (found_at old c.args.r) c.args.at n) c.read_lot.result
           (λ _. (x : Item) × (value_at c.args.r old.blocks ≡ Some x) × (c.read_lot.new.out ≡ part c.args.at n x.content))) (sym long)
           (tested_range old.state _ _ c.args.at (length c.args.out.now) c.read_lot.result c.in_ok-test_block.ensures.tested.0 (ap (option_map header_of) q.1) f.same

@@ -1,24 +1,43 @@
-use Rattle.xh_place.proofs.Common.{rules, ◌≡◌, ℕ, ap, ◌∙◌, None, Some, stop, first_refusal, IsSeen, none_back, refl, seen_wide, swept_as, unrefused}
+use Rattle.xh_place.proofs.Common.{rules, ◌≡◌, ℕ, ap, sym, ◌∙◌, subst, None, Some, stop, first_refusal, Becomes, Did, IsSeen, IsSwept, none_back, refl, seen_wide, starts_same, stays_itself, swept_as}
+use Rattle.xh_place.proofs.Common.{unrefused, with_list}
 use Rattle.xh_place.proofs.Swept.{stopped}
+use Rattle.xh_core.specs.declared.status.Status.TheVariants.{Ending}
+use Rattle.xh_place.specs.Seen.{PlaceSeen}
+use Rattle.xh_place.proofs.Common.{becomes_same, same_then}
 use Rattle.xh_place.proofs.place.Place.stop.Goals as goal
 
 pub returns-clause-stopped : goal.returns-clause-stopped
 returns-clause-stopped g c =
     let old = c.args.self.now in let mid = c.set_state.new.self in let swept = c.sweep-bytes.new.self in let new = c.set_state-2.new.self in let bytes : ℕ = c.sweep-bytes.result.0 in
     let passed : first_refusal (stop old.place.state) ≡ None = search rules in
-    let shape : mid.place.shape ≡ old.place.shape = ap (λ p. p.shape) c.set_state.ensures.state.0 in
-    let process : mid.place.process ≡ old.place.process = ap (λ p. p.process) c.set_state.ensures.state.0 in
-    let is = swept_as (IsSeen mid swept) (IsSeen old new) (seen_wide mid swept old new shape process c.set_state.ensures.state.1 c.set_state-2.ensures.state.1)
-    0 c.args.budget mid.place swept.place bytes
-    c.sweep-bytes.result.1 c.sweep-bytes.ensures.swept in (
+    let begun = c.set_state.ensures.state in let last = c.set_state-2.ensures.state in let t = c.sweep-bytes.ensures.swept in
+    let wide = swept_as (IsSeen mid swept) (IsSeen old new)
+    (seen_wide mid swept old new (ap (λ s. s.place.shape) begun) (ap (λ s. s.place.process) begun) (starts_same (ap (λ s. s.front) begun)) (starts_same (ap (λ s. s.front) last)))
+    0 c.args.budget mid.place swept.place bytes t.0 t.1 in
+    let is : IsSwept (IsSeen old new) 0 c.args.budget (record old.place { state = Ending }) swept.place bytes t.0 =
+    subst (λ (s : PlaceSeen). IsSwept (IsSeen old new) 0 c.args.budget s.place swept.place bytes t.0) begun wide in
+    let list : Becomes (with_list (record old.place { state = Ending }) swept.place) t.0 (record old { place = record old.place { state = Ending } }) swept =
+    subst (λ (s : PlaceSeen). Becomes (with_list s.place swept.place) t.0 s swept) begun t.2 in
+    let done = stopped (IsSeen old new) c.args.budget bytes c.sweep-bytes.result.1 t.0 old.place swept.place new.place c.reclaimed.result is list.0 c.sweep-bytes.ensures.left
+    (ap (λ s. s.place) last ∙ ap (λ s. record swept.place { state = s }) c.ending.ensures) c.reclaimed.ensures in (
       bytes,
       unrefused (stop old.place.state) c.reclaimed.result _ _ passed
-          (stopped (IsSeen old new) c.args.budget bytes c.sweep-bytes.result.1 c.left-left.result old.place mid.place swept.place new.place c.reclaimed.result c.set_state.ensures.state.0
-          is c.sweep-bytes.ensures.list.0 c.left-left.ensures.left
-          (c.set_state-2.ensures.state.0 ∙ ap (λ s. record swept.place { state = s }) c.ending.ensures) c.reclaimed.ensures),
+          (t.0, done.0, (done.1, subst (λ f. Did old.place.process t.0 old.front f) (sym (ap (λ s. s.front) last)) list.1), done.2),
       c.sweep-bytes.ensures.back,
     )
 
 pub returns-in_err-check_stop-clause-stopped : goal.returns-in_err-check_stop-clause-stopped
 returns-in_err-check_stop-clause-stopped g c =
-    let first : first_refusal (stop c.args.self.now.place.state) ≡ Some c.in_err-check_stop.field-0.0 = search rules in (0, rw first (search rules, (refl, refl)), none_back refl)
+    let first : first_refusal (stop c.args.self.now.place.state) ≡ Some c.in_err-check_stop.field-0.0 = search rules in
+    (0, rw first (search rules, (stays_itself c.args.self.now, refl)), none_back refl)
+
+pub returns-clause-same : goal.returns-clause-same
+returns-clause-same g c =
+    let old = c.args.self.now in let mid = c.set_state.new.self in let swept = c.sweep-bytes.new.self in let new = c.set_state-2.new.self in let t = c.sweep-bytes.ensures.swept in
+    let begun = c.set_state.ensures.state in let last = c.set_state-2.ensures.state in (
+      c.sweep-bytes.ensures.same,
+      same_then old swept new
+          (same_then old mid swept (ap (λ s. s.place.table) begun, ap (λ s. s.place.shape) begun, ap (λ s. s.place.process) begun, starts_same (ap (λ s. s.front) begun))
+          (becomes_same swept.place.blocks t.0 mid swept t.2))
+          (ap (λ s. s.place.table) last, ap (λ s. s.place.shape) last, ap (λ s. s.place.process) last, starts_same (ap (λ s. s.front) last)),
+    )

@@ -1,12 +1,11 @@
-use Rattle.xh_records.proofs.Common.{rules, ◌≡◌, ℕ, ◌<◌, List, [], ◌∷◌, ◌++◌, get_or, length, refl, ap, ◌∙◌, subst, Option, get_elem?, some, number_of, without, deeds_by, place_of, holder_of, giving}
-use Rattle.xh_records.proofs.Common.{Deed, Some, in_slot, adds, carried, carry, deeds_in, events, sym, lost, numbered, Holder, Me, LotOf, View}
+use Rattle.xh_records.proofs.Common.{rules, ◌≡◌, ℕ, ◌<◌, List, [], ◌∷◌, ◌++◌, get_or, length, refl, ap, ◌∙◌, subst, Option, get_elem?, some, number_of, without, place_of, holder_of, giving}
+use Rattle.xh_records.proofs.Common.{Deed, Some, in_slot, adds, sym, lost, numbered, Holder, Me, LotOf, View}
 use Rattle.xh_records.specs.inner.Steps.{process_in}
-use Rattle.xh_records.proofs.Deeds.{carried_more, events_more}
-use Rattle.xh_records.proofs.History.{own_more}
+use Rattle.xh_records.proofs.Deeds.{own_deed}
 use Rattle.xh_records.proofs.Keeps.{giving_is}
 use Rattle.xh_records.proofs.Elements.{in_range}
 use Rattle.xh_records.proofs.Seating.{loses, is_alone, seat_is}
-use Rattle.xh_records.proofs.Numbered.{alone_is, without_numbered, lost_by, held_as}
+use Rattle.xh_records.proofs.Numbered.{without_numbered, lost_by, held_as, held_last}
 use Rattle.xh_records.proofs.Lent.{Lent, lends, listed_as, spot_of}
 use Rattle.xh_records.proofs.records.Records.give.Given.{Over}
 use Rattle.xh_records.proofs.records.Records.give.Goals.{After-as_slice, After-give_slot-k}
@@ -68,14 +67,10 @@ returns g c = λ l has.
     let given = c.give_slot-k.ensures.given in let e = giving x.process c.args.number h in
     let whose = ap (λ z. z.process) c.seat.view_is in
     let is = now g (goal.at.returns g c).After-give_slot-k (lent g (goal.at.returns g c).After-as_slice).reach.has in
-    let d : Deed g.row.B.Denot = (giving c.seat.inside.process (number_of me.0.shape.records slot) h, c.requires.held.0) in
-    let deeds = ap (λ m. deeds_in m.0) is ∙ own_more (place_of c.seat.inside.process) given.0 d me.0.fronts c.seat.invariant.front
-    (sym (ap (λ p. deeds_by (place_of p) given.0) (alone_is _ me.0 c.seat.invariant.processes)) ∙ given.1)
-    (ap place_of (giving_is c.seat.inside.process (number_of me.0.shape.records slot) h c.requires.away.0).3) in
     let same : c.requires.held.0 ≡ l = (let e : Some c.requires.held.0 ≡ Some l = sym c.requires.held.1 ∙ has in cc) in
-    lost_by x _ x.process c.args.number h l (held_as x _ _ _ me c.seat.view_is _ _ _ c.seat.invariant _ _ c.give_slot-k.new.token.me _ given.0 ((e, l) ∷ []) _ _ last.0 last.1
+    let fronts : c.give_slot-k.new.token.me.0.fronts ≡ adds (given.0 ++ (e, l) ∷ []) me.0.fronts = ap (λ m. m.0.fronts) is ∙ (λ i. adds (given.0 ++ (giving (whose i) (number i) h, same i) ∷ []) me.0.fronts) in
+    lost_by x _ x.process c.args.number h l (held_as x _ _ _ me c.seat.view_is _ _ _ c.seat.invariant _ _ c.give_slot-k.new.token.me _ given.0 ((e, l) ∷ []) last.0 last.1
     (ap (λ m. m.0.shape) is)
     (ap (λ m. numbered m.0.shape.records m.1) is ∙ without_numbered me.0.shape c.seat.invariant.small me.1 slot c.seat.invariant.lots ∙ (λ i. without (number i) (c.seat.view_is i).lots))
-    (ap (λ m. m.0.fronts) is ∙ (λ i. adds (given.0 ++ (giving (whose i) (number i) h, same i) ∷ []) me.0.fronts)) given.1
-    (ap events deeds ∙ events_more (deeds_in me.0) d ∙ (λ i. (c.seat.view_is i).done ++ giving (whose i) (number i) h ∷ []))
-    (ap carried deeds ∙ carried_more (deeds_in me.0) d ∙ (λ i. carry (giving (whose i) (number i) h) (same i) (c.seat.view_is i).moved)))
+    fronts given.1 (own_deed (place_of x.process) (e, l) (ap place_of (giving_is x.process c.args.number h c.requires.away.0).3)))
+    (held_last x _ _ _ me c.seat.view_is _ _ _ c.seat.invariant c.give_slot-k.new.token.me given.0 (e, l) fronts)

@@ -1,10 +1,9 @@
-use Rattle.xh_records.proofs.Common.{rules, ◌≡◌, ℕ, ◌<◌, length, refl, sym, ap, ◌∙◌, subst, [], ◌∷◌, ◌++◌, number_of, holder_of, taking, Deed, adds, carried, carry, deeds_in, events}
-use Rattle.xh_records.proofs.Common.{deeds_by, numbered, place_of}
-use Rattle.xh_records.proofs.Deeds.{carried_more, events_more}
-use Rattle.xh_records.proofs.History.{own_more}
+use Rattle.xh_records.proofs.Common.{rules, ◌≡◌, ℕ, ◌<◌, length, refl, sym, ap, ◌∙◌, subst, [], ◌∷◌, ◌++◌, number_of, holder_of, taking, adds}
+use Rattle.xh_records.proofs.Common.{numbered, place_of}
+use Rattle.xh_records.proofs.Deeds.{own_deed}
 use Rattle.xh_records.proofs.Keeps.{taking_is}
 use Rattle.xh_records.proofs.Seating.{not_among, has_room, gains, seat_is}
-use Rattle.xh_records.proofs.Numbered.{alone_is, numbered_push, gained_by, lot_back, fresh, held_as, held_seen}
+use Rattle.xh_records.proofs.Numbered.{numbered_push, gained_by, lot_back, fresh, held_as, held_last, held_seen}
 use Rattle.xh_records.proofs.Lent.{Spot, spot_of}
 use Rattle.xh_records.proofs.records.Records.take.Given.{Over}
 use Rattle.xh_records.proofs.records.Records.take.Goals.{After-take_slot}
@@ -43,16 +42,13 @@ returns-in-Ok-clause-taken g c =
     let number : number_of me.0.shape.records slot ≡ c.args.number = here.number in
     let e = taking x.process c.args.number h in
     let who = ap (λ z. z.process) c.seat.view_is in
-    let d : Deed g.row.B.Denot = (taking c.seat.inside.process (number_of me.0.shape.records slot) h, t.0) in
-    let deeds = ap (λ m. deeds_in m.0) t.2 ∙ own_more (place_of c.seat.inside.process) t.1 d me.0.fronts c.seat.invariant.front
-    (sym (ap (λ p. deeds_by (place_of p) t.1) (alone_is _ me.0 c.seat.invariant.processes)) ∙ t.3)
-    (ap place_of (taking_is c.seat.inside.process (number_of me.0.shape.records slot) h c.requires.away).3) in
-    let done = ap events deeds ∙ events_more (deeds_in me.0) d ∙ (λ i. (c.seat.view_is i).done ++ taking (who i) (number i) h ∷ []) in
-    let moved = ap carried deeds ∙ carried_more (deeds_in me.0) d ∙ (λ i. carry (taking (who i) (number i) h) t.0 (c.seat.view_is i).moved) in
+    let fronts : c.take_slot.new.token.me.0.fronts ≡ adds (t.1 ++ (e, t.0) ∷ []) me.0.fronts = ap (λ m. m.0.fronts) t.2 ∙ (λ i. adds (t.1 ++ (taking (who i) (number i) h, t.0) ∷ []) me.0.fronts) in
     gained_by x _ x.process c.args.number h _ t.0 (lot_back x _ _ _ me c.seat.view_is slot c.args.number t.0 here.at here.below t.4) t.5
-    (held_as x _ _ _ me c.seat.view_is _ _ _ c.seat.invariant _ _ c.take_slot.new.token.me _ t.1 ((e, t.0) ∷ []) _ _ c.take_slot.ensures.same.0 c.take_slot.ensures.same.1 (ap (λ m. m.0.shape) t.2)
+    (held_as x _ _ _ me c.seat.view_is _ _ _ c.seat.invariant _ _ c.take_slot.new.token.me _ t.1 ((e, t.0) ∷ []) c.take_slot.ensures.same.0 c.take_slot.ensures.same.1 (ap (λ m. m.0.shape) t.2)
     (ap (λ m. numbered m.0.shape.records m.1) t.2 ∙ numbered_push me.0.shape.records me.1 slot t.0 ∙ (λ i. (c.seat.view_is i).lots ++ (number i, t.0) ∷ []))
-    (ap (λ m. m.0.fronts) t.2 ∙ (λ i. adds (t.1 ++ (taking (who i) (number i) h, t.0) ∷ []) me.0.fronts)) t.3 done moved)
+    fronts t.3 (own_deed (place_of x.process) (e, t.0)
+    (ap place_of (taking_is x.process c.args.number h c.requires.away).3)))
+    (held_last x _ _ _ me c.seat.view_is _ _ _ c.seat.invariant c.take_slot.new.token.me t.1 (e, t.0) fronts)
 
 pub returns-in-Ok-clause-fresh : goal.returns-in-Ok-clause-fresh
 returns-in-Ok-clause-fresh g c =

@@ -1,4 +1,4 @@
-use Rattle.xh_records.proofs.Common.{◌<◌, ◌%◌, sym, ap, ◌∙◌, subst, index_of, SeesMore}
+use Rattle.xh_records.proofs.Common.{◌<◌, ◌%◌, sym, ap, ◌∙◌, subst, index_of}
 use Rattle.xh_records.proofs.Keeps.{looks}
 use Rattle.xh_records.proofs.Numbered.{held_seen}
 use Rattle.xh_records.proofs.Seating.{is_alone}

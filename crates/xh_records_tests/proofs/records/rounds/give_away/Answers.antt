@@ -1,6 +1,5 @@
 use Rattle.xh_arena.specs.Views.{LotOf}
-use Rattle.xh_model.specs.declared.event.Event.TheVariants.{Claim}
-use Rattle.xh_records.specs.Seats.{Held, did, with_lots}
+use Rattle.xh_records.specs.Seats.{Held, with_lots}
 use Rattle.xh_records_tests.specs.declared.records.Any.{Any}
 use Rattle.std.proofs.Common.{arith, ◌≡◌, ◌∷◌, ◌++◌, [], ◌∙◌, ap, refl}
 use Rattle.xh_records_tests.proofs.OneLot.{gains_one, has_one, changes_one, loses_one, seen, still_of}
@@ -11,7 +10,7 @@ use Rattle.xh_records_tests.proofs.records.rounds.give_away.Goals as goal
 -- the seat once the record is claimed and carved
 module _ (g : Over) (c : In-Some g) where
   abbrev claimed : Held Any
-  claimed = seen c.assert_word.new.seat.front (did (Claim c.args.seat.now.process c.in-Ok.number) c.args.seat.now)
+  claimed = seen c.assert_word.new.seat.front c.args.seat.now
 
   abbrev lot : LotOf Any
   lot = record c.in-Ok.ensures.claimed.0 { len = 32 }
@@ -19,7 +18,7 @@ module _ (g : Over) (c : In-Some g) where
   carved : c.carve_at.new.seat ≡ with_lots claimed ((c.in-Ok.number, lot) ∷ [])
   carved =
       let l = c.in-Ok.ensures.claimed.0 in
-      let one = gains_one claimed _ claimed c.in-Ok.number l l c.requires.bare (c.assert_word.ensures.0 ∙ ap (seen c.assert_word.new.seat.front) c.in-Ok.ensures.claimed.1) in
+      let one = gains_one claimed _ claimed c.in-Ok.number l l c.requires.bare (c.assert_word.ensures.0 ∙ ap (seen c.assert_word.new.seat.front) c.in-Ok.ensures.claimed.1.0) in
       changes_one claimed _ _ c.in-Ok.number l lot one (c.in-Some.ensures.lot l (has_one claimed _ claimed c.in-Ok.number l l one))
 
 pub pass-requires-clause-own : goal.pass-requires-clause-own
@@ -34,7 +33,5 @@ pass-requires-clause-held g c =
 pub returns-clause-seat : goal.returns-clause-seat
 returns-clause-seat g c =
     let s = (goal.at.returns-clause-seat g c).In-Some in
-    let carry : Held Any → Held Any = λ h. record h { moved = h.moved ++ lot g s ∷ [] } in
-    let passed = c.pass.ensures.passed (lot g s) (has_one (claimed g s) _ (claimed g s) c.in-Ok.number (lot g s) (lot g s) (carved g s)) in
-    let none = loses_one (carry (claimed g s)) (carry c.carve_at.new.seat) c.pass.new.seat c.in-Ok.number (lot g s) (lot g s) _ (ap carry (carved g s)) passed.0 in
+    let none = loses_one (claimed g s) c.carve_at.new.seat c.pass.new.seat c.in-Ok.number (lot g s) (lot g s) (carved g s) c.pass.ensures.passed.2.0.0 in
     (ap (λ h. h.table) none, ap (λ h. h.shape) none, ap (λ h. h.process) none, ap (λ h. h.lots) none)

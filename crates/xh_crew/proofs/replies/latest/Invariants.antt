@@ -1,5 +1,0 @@
-use Rattle.xh_crew.proofs.Common.{PLACES, drop, no_bindings, replicate, told, ◌≡◌}
-use Rattle.xh_crew.proofs.replies.latest.Given as goal
-
-abbrev pub invariant-loop-at : goal.invariant-loop-at
-invariant-loop-at l = told l.numbers l.names (drop l.at l.lines) (drop l.at l.answers) ≡ told (replicate PLACES 0) no_bindings l.lines l.answers

@@ -1,7 +1,0 @@
-use Rattle.xh_crew.proofs.Common.{DoesLine, part_of, world_of, ◌==◌}
-use Rattle.xh_crew.proofs.Plays.{Continues}
-use Rattle.xh_crew.proofs.run.run_part.Given as goal
-
-abbrev pub invariant-loop-line : goal.invariant-loop-line
-invariant-loop-line g l = Continues (DoesLine g.M.Machine.did) (λ line. part_of l.names line == l.number)
-    (world_of g.M.Machine.state l.fn.head) l.lines l.replies.items (world_of g.M.Machine.state l.head) l.line-index

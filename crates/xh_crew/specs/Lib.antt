@@ -1,2 +1,0 @@
-pub mod Plays
-pub mod inner

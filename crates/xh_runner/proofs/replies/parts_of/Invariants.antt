@@ -1,0 +1,8 @@
+use Rattle.xh_runner.proofs.Common.{into_iter_items, map, ◌++◌, ◌∷◌, ◌≡◌}
+use Rattle.xh_runner.proofs.replies.parts_of.Given as goal
+
+abbrev pub invariant-loop-done : goal.invariant-loop-done
+invariant-loop-done g l = record {
+  machines : l.machines.items ++ map (λ done. done.machine) (into_iter_items l.done-iterator) ≡ map (λ done. done.machine) l.fn.dones.items;
+  parts : map into_iter_items l.parts.items ++ map (λ done. done.replies.items) (into_iter_items l.done-iterator) ≡ l.fn.first.items ∷ map (λ done. done.replies.items) l.fn.dones.items;
+}

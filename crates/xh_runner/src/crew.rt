@@ -1,0 +1,200 @@
+//! A thread for each place that has a process.
+ghost use Rattle.std.specs.Prelude.{◌≡◌, ◌<◌, ◌≤◌, [], IfOk, MatchResult, OnOk, vec_len};
+ghost use Rattle.xh_model.specs.declared.limits.TheConstants.{PLACES};
+ghost use Rattle.xh_runner.specs.inner.Jobs.{ArePlacesDone, IsHand, IsJob, Joins};
+ghost use Rattle.xh_runner.specs.Plays.{AllZipFrom, MayStop};
+
+use crate::job::{Done, Job, Shared};
+use crate::play::part_of;
+use std::alloc::{AllocError, Global};
+use std::snapshot::Snapshot;
+use std::sync::Wait;
+use std::thread;
+use std::thread::{Promise, PromisedHandle, Scope, Threads};
+use xh_place::Gate;
+use xh_script::{Fault, Line};
+use xh_session::{Machine, Session};
+
+/// That a worker's job is done, or it was stopped.
+#[derive(Drop)]
+struct Does<'s, 'a, M, G> {
+    job: Snapshot<Job<'a, M>>,
+    shared: &'s Shared<'a, G>,
+}
+
+impl<'s, 'a, M: Machine, G: Gate> Promise<Result<Done<M>, Fault>> for Does<'s, 'a, M, G> {
+    ghost use Rattle.xh_runner.specs.inner.Jobs.{Leaves};
+
+    ghost kept_by = { λ p left. Leaves M.state M.did G.always p.shared.now p.job.value left };
+}
+
+/// A worker of a place, or the machine of one without a process.
+#[derive(Drop)]
+enum Hand<'s, 'a, M: Machine, G: Gate> {
+    Works(PromisedHandle<Result<Done<M>, Fault>, Does<'s, 'a, M, G>>),
+    Idle(M),
+}
+
+// The job of a place, with what the names stand for after the head, and room for its replies.
+fn job<'a, M: Machine, G>(
+    alloc: Global,
+    machine: M,
+    place: u8,
+    shared: &Shared<'a, G>,
+) -> Result<Job<'a, M>, AllocError>
+    requires { place < PLACES }
+    ensures { IfOk result (IsJob M.state shared.now place machine) }
+{
+    let number = place + 1;
+    let own = |line: &&Line| part_of(shared.ready, line) == number;
+    let room = Vec::with_capacity(alloc, shared.lines.iter().filter(own).count())?;
+    let names = shared.ready.copy(alloc)?;
+    Ok(Job {
+        session: Session {
+            machine,
+            names,
+            contracts: shared.contracts,
+        },
+        place,
+        room,
+    })
+}
+
+// Starts a thread for a place, if it has a process.
+fn start<'s, 'a: 's, E, M: Machine + Send + 's, R: Threads + Wait + Sync + 's, G: Gate + Sync + 's>(
+    scope: &Scope<'s, E>,
+    rt: &'s R,
+    alloc: Global,
+    machine: M,
+    place: u8,
+    shared: &'s Shared<'a, G>,
+) -> Result<Hand<'s, 'a, M, G>, AllocError>
+    requires { place < PLACES }
+    ensures { IfOk result (IsHand M.state shared.now place machine) }
+{
+    if shared.ready.process_at(place).is_none() {
+        return Ok(Hand::Idle(machine));
+    }
+    let job = job(alloc, machine, place, shared)?;
+    let promise = Does {
+        job: Snapshot::of(&job),
+        shared,
+    };
+    let handle = scope.spawn_with(promise, move || job.work(rt, alloc, shared))?;
+    Ok(Hand::Works(handle))
+}
+
+// Starts all, as far as memory goes, and lets them work if all were started.
+fn start_all<
+    's,
+    'a: 's,
+    E,
+    M: Machine + Send + 's,
+    R: Threads + Wait + Sync + 's,
+    G: Gate + Sync + 's,
+>(
+    scope: &Scope<'s, E>,
+    rt: &'s R,
+    alloc: Global,
+    machines: Vec<M>,
+    shared: &'s Shared<'a, G>,
+    hands: &mut Vec<Hand<'s, 'a, M, G>>,
+) -> Result<(), AllocError>
+    requires empty { hands.old.items ≡ [] }
+    requires count { vec_len machines ≤ PLACES }
+    ensures { OnOk result (AllZipFrom (IsHand M.state shared.now) 0 machines.items hands.new.items) }
+{
+    let mut started = shared.started.lock(rt);
+    let mut place = 0u8;
+    for machine in machines {
+        hands.push(start(scope, rt, alloc, machine, place, shared)?)?;
+        place += 1;
+    }
+    *started = true;
+    Ok(())
+}
+
+impl<'s, 'a, M: Machine, G: Gate> Hand<'s, 'a, M, G> {
+    // What the place leaves.
+    fn join<R: Threads>(self, rt: &R, alloc: Global) -> Result<Done<M>, Fault>
+        ensures { MatchResult result (Joins M.state M.did self.entry) (MayStop G.always) }
+    {
+        match self {
+            Hand::Works(handle) => handle.join(rt),
+            Hand::Idle(machine) => Ok(Done {
+                machine,
+                replies: Vec::new(alloc),
+            }),
+        }
+    }
+}
+
+// Joins all, also past one that was stopped. There is room for what they leave.
+fn join_all<'s, 'a: 's, M: Machine, R: Threads, G: Gate>(
+    rt: &R,
+    alloc: Global,
+    hands: Vec<Hand<'s, 'a, M, G>>,
+    mut dones: Vec<Done<M>>,
+) -> Result<Vec<Done<M>>, Fault>
+    requires { dones.items ≡ [] }
+    ensures { MatchResult result (λ dones. AllZipFrom (λ _ hand done. Joins M.state M.did hand done) 0 hands.entry.items dones.items) (MayStop G.always) }
+{
+    let mut ended = Ok(());
+    for hand in hands {
+        match hand.join(rt, alloc) {
+            Ok(done) => dones.push(done)?,
+            Err(fault) => ended = Err(fault),
+        }
+    }
+    ended?;
+    Ok(dones)
+}
+
+// Does the commands of each place by a machine, in a thread of the scope, and joins all.
+fn run_in<
+    's,
+    'a: 's,
+    E,
+    M: Machine + Send + 's,
+    R: Threads + Wait + Sync + 's,
+    G: Gate + Sync + 's,
+>(
+    scope: &Scope<'s, E>,
+    rt: &'s R,
+    alloc: Global,
+    machines: Vec<M>,
+    shared: &'s Shared<'a, G>,
+) -> Result<Vec<Done<M>>, Fault>
+    requires { vec_len machines ≤ PLACES }
+    ensures { MatchResult result (λ dones. ArePlacesDone M.state M.did shared.now machines.items dones.items) (MayStop G.always) }
+{
+    let dones = Vec::with_capacity(alloc, machines.len())?;
+    let mut hands = Vec::with_capacity(alloc, machines.len())?;
+    let started = start_all(scope, rt, alloc, machines, shared, &mut hands);
+    let dones = join_all(rt, alloc, hands, dones);
+    match started {
+        Ok(()) => dones,
+        Err(_refused) => Err(Fault::Memory),
+    }
+}
+
+/// Does the commands of the processes that have a place, each by a machine and in a thread of its own, and
+/// joins all: what each machine's worker leaves, by place.
+pub(crate) fn work_all<'s, 'a: 's, M: Machine + Send, R: Threads + Wait + Sync, G: Gate + Sync>(
+    rt: &'s R,
+    alloc: Global,
+    machines: Vec<M>,
+    shared: &'s Shared<'a, G>,
+) -> Result<Vec<Done<M>>, Fault>
+    requires { vec_len machines ≤ PLACES }
+    ensures { MatchResult result (λ dones. ArePlacesDone M.state M.did shared.now machines.items dones.items) (MayStop G.always) }
+{
+    thread::scope(
+        thread::scope_env(),
+        rt,
+        |scope| -> Result<Vec<Done<M>>, Fault>
+            requires { vec_len machines ≤ PLACES }
+            ensures { MatchResult result (λ dones. ArePlacesDone M.state M.did shared.entry.now machines.items dones.items) (MayStop G.always) }
+        { run_in(scope, rt, alloc, machines, shared) },
+    )
+}

@@ -1,0 +1,96 @@
+//! The replies to the lines of a script, out of those of its parts, and what they tell.
+ghost use Rattle.std.specs.Prelude.{◌≡◌, [], ◌∷◌, ◌++◌, IfOk, map, replicate, suc, vec_len};
+ghost use Rattle.std.specs.Vec.Iter.{into_iter_items};
+ghost use Rattle.xh_runner.specs.inner.Jobs.{AreEnough, AreTold};
+ghost use Rattle.xh_runner.specs.Plays.{AreAnswersTo, LAST, names_after, numbers_after, told};
+ghost use Rattle.xh_model.specs.declared.limits.TheConstants.{PLACES};
+ghost use Rattle.xh_session.specs.Bindings.{no_bindings};
+
+use crate::job::Done;
+use crate::play::part_of;
+use std::alloc::{AllocError, Global};
+use std::vec::IntoIter;
+use xh_core::PLACE_LINES;
+use xh_model::limits::{MAX_WORKERS, PLACES};
+use xh_script::{Answered, Line, Reply};
+use xh_session::Names as Bindings;
+
+/// The machines of the places, and the replies of all parts. There is room for one more machine.
+pub(crate) fn parts_of<M: Drop>(
+    alloc: Global,
+    first: Vec<Reply>,
+    dones: Vec<Done<M>>,
+    last: Vec<Reply>,
+) -> Result<(Vec<M>, Vec<IntoIter<Reply>>), AllocError>
+    ensures machines { IfOk result (λ r. r.0.items ≡ map (λ done. done.machine) dones.items) }
+    ensures parts { IfOk result (λ r. map into_iter_items r.1.items ≡ first.items ∷ (map (λ done. done.replies.items) dones.items ++ last.items ∷ [])) }
+{
+    let mut machines = Vec::with_capacity(alloc, usize::from(MAX_WORKERS))?;
+    let mut parts = Vec::with_capacity(alloc, usize::from(PLACES) + 2)?;
+    parts.push(first.into_iter())?;
+    for done in dones {
+        let Done { machine, replies } = done;
+        machines.push(machine)?;
+        parts.push(replies.into_iter())?;
+    }
+    parts.push(last.into_iter())?;
+    Ok((machines, parts))
+}
+
+/// An answer to each line: the next of the replies of its part.
+pub(crate) fn answers_of(
+    alloc: Global,
+    names: &Bindings,
+    lines: &[Line],
+    mut parts: Vec<IntoIter<Reply>>,
+) -> Result<Vec<Answered>, AllocError>
+    requires count { vec_len parts ≡ suc LAST }
+    requires enough { AreEnough names.now lines.now (map into_iter_items parts.items) }
+    ensures same { IfOk result (λ answers. AreAnswersTo lines.now answers.items) }
+    ensures told { IfOk result (λ answers. AreTold names.now lines.now answers.items (map into_iter_items parts.items)) }
+{
+    let mut answers = Vec::with_capacity(alloc, lines.len())?;
+    for line in lines {
+        let part = usize::from(part_of(names, line));
+        let Some(reply) = parts[part].next() else {
+            unreachable!()
+        };
+        answers.push(Answered {
+            line: line.number,
+            reply,
+        })?;
+    }
+    Ok(answers)
+}
+
+// The line has this reply. Where it tells that a process was started, that is the latest of its place, unless one with a
+// greater number is.
+fn tell(line: &Line, reply: &Reply, numbers: &mut [u16; PLACE_LINES], names: &mut Bindings)
+    ensures names { names.new ≡ names_after numbers.old names.old line.now reply.now }
+    ensures numbers { numbers.new ≡ numbers_after numbers.old reply.now }
+{
+    if let Reply::Started(number) = reply {
+        let place = usize::from(number % u16::from(PLACES));
+        if numbers[place] <= *number {
+            numbers[place] = *number;
+            names.start(line.command.name(0), *number);
+        }
+    }
+}
+
+/// What the names stand for once all replies were told.
+pub(crate) fn latest(
+    alloc: Global,
+    lines: &[Line],
+    answers: &[Answered],
+) -> Result<Bindings, AllocError>
+    requires { AreAnswersTo lines.now answers.now }
+    ensures { IfOk result (λ names. names ≡ told (replicate PLACES 0) no_bindings lines.now answers.now) }
+{
+    let mut names = Bindings::new(alloc)?;
+    let mut numbers = [0u16; PLACE_LINES];
+    for at in 0..lines.len() {
+        tell(&lines[at], &answers[at].reply, &mut numbers, &mut names);
+    }
+    Ok(names)
+}

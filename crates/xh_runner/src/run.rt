@@ -1,0 +1,132 @@
+//! The run itself: the head, the workers, and what they leave.
+ghost use Rattle.std.specs.Prelude.{◌≡◌, ◌≤◌, IfErr, IfOk, MatchResult, length, map, vec_len};
+ghost use Rattle.xh_model.specs.declared.limits.TheConstants.{MAX_WORKERS, PLACES};
+ghost use Rattle.xh_runner.specs.Plays.{AllZipFrom, AreAnswersTo, ArePlayed, DoesLine, HasNames, MayStop, PlayAll, Plays, part};
+ghost use Rattle.xh_runner.specs.inner.Jobs.{PlaceIsDone};
+ghost use Rattle.xh_session.specs.Bindings.{no_bindings};
+ghost use Rattle.xh_session.specs.Plans.{world_of};
+
+use crate::crew::work_all;
+use crate::job::{Done, Shared};
+use crate::play::part_of;
+use crate::replies::{answers_of, latest, parts_of};
+use std::alloc::{AllocError, Global};
+use std::sync::{Mutex, Wait};
+use std::thread::Threads;
+use xh_model::limits::{MAX_WORKERS, PLACES};
+use xh_place::Gate;
+use xh_script::{Answered, Fault, Line, Name, Reply, Script};
+use xh_session::{Machine, Names as Bindings, Session};
+
+/// What a run leaves: the machines, the replies, and the name of the latest process of each place.
+#[derive(Drop)]
+pub(crate) struct Outcome<M> {
+    pub(crate) machines: Vec<M>,
+    pub(crate) answers: Vec<Answered>,
+    pub(crate) names: Vec<Name>,
+}
+
+// Does the lines of a part in order.
+fn run_part<'a, M: Machine>(
+    alloc: Global,
+    head: &mut Session<'a, M>,
+    names: &Bindings,
+    lines: &[Line],
+    number: u8,
+) -> Result<Vec<Reply>, AllocError>
+    ensures { IfOk result (λ replies. Plays (DoesLine M.did) (world_of M.state head.old) (part names.now number lines.now) replies.items (world_of M.state head.new)) }
+{
+    let mut replies = Vec::new(alloc);
+    for line in lines {
+        if part_of(names, line) == number {
+            replies.push(head.step(alloc, &line.command))?;
+        }
+    }
+    Ok(replies)
+}
+
+// Does the commands of the processes that have a place, each by a machine: what the workers leave.
+fn work<'a, M: Machine + Send, R: Threads + Wait + Sync, G: Gate + Sync>(
+    rt: &R,
+    alloc: Global,
+    machines: Vec<M>,
+    head: &'a Session<'_, M>,
+    lines: &'a [Line],
+    gate: &'a G,
+) -> Result<Vec<Done<M>>, Fault>
+    requires { vec_len machines ≤ PLACES }
+    ensures { MatchResult result (λ dones. AllZipFrom (PlaceIsDone M.state M.did (world_of M.state head.entry.now) lines.entry.now) 0 machines.items dones.items) (MayStop G.always) }
+{
+    let shared = Shared {
+        lines,
+        contracts: head.contracts,
+        ready: &head.names,
+        gate,
+        names: Mutex::new(head.names.copy(alloc)?),
+        started: Mutex::new(false),
+    };
+    work_all(rt, alloc, machines, &shared)
+}
+
+// Plays all lines, with the head's machine and one for each place: the machines of the places, and the answers.
+fn play_all<M: Machine + Send, R: Threads + Wait + Sync, G: Gate + Sync>(
+    rt: &R,
+    alloc: Global,
+    machines: Vec<M>,
+    head: &mut Session<'_, M>,
+    lines: &[Line],
+    gate: &G,
+) -> Result<(Vec<M>, Vec<Answered>), Fault>
+    requires count { vec_len machines ≡ PLACES }
+    requires names { head.old.names ≡ no_bindings }
+    ensures played { IfOk result (λ r. PlayAll M.did head.old.contracts.now lines.now r.1.items
+        (M.state head.old.machine) (map M.state machines.items) (M.state head.new.machine) (map M.state r.0.items)) }
+    ensures answers { IfOk result (λ r. AreAnswersTo lines.now r.1.items) }
+    ensures stopped { IfErr result (MayStop G.always) }
+{
+    let names = Bindings::new(alloc)?;
+    let first = run_part(alloc, head, &names, lines, 0)?;
+    let ready = head.names.copy(alloc)?;
+    let dones = work(rt, alloc, machines, head, lines, gate)?;
+    let last = run_part(alloc, head, &ready, lines, 1 + PLACES)?;
+    let (machines, parts) = parts_of(alloc, first, dones, last)?;
+    let answers = answers_of(alloc, &ready, lines, parts)?;
+    Ok((machines, answers))
+}
+
+/// Runs a script with the first machine for the head and, at the end, for the processes without a place, and the others
+/// for the processes that have one, each in a thread of its own.
+///
+/// Memory where a growth outside the commands was refused, or a thread; Gate where the gate stopped a worker. Where
+/// workers wait for messages that nobody gives, it doesn't end.
+pub(crate) fn run_on<M: Machine + Send, R: Threads + Wait + Sync, G: Gate + Sync>(
+    rt: &R,
+    alloc: Global,
+    mut machines: Vec<M>,
+    script: &Script,
+    gate: &G,
+) -> Result<Outcome<M>, Fault>
+    requires { vec_len machines ≡ MAX_WORKERS }
+    ensures played { IfOk result (λ o. ArePlayed M.did script.now.contracts.items script.now.lines.items o.answers.items (map M.state machines.items) (map M.state o.machines.items)) }
+    ensures answers { IfOk result (λ o. AreAnswersTo script.now.lines.items o.answers.items) }
+    ensures names { IfOk result (λ o. HasNames script.now.processes.items script.now.lines.items o.answers.items o.names.items × (length o.names.items ≡ PLACES)) }
+    ensures stopped { IfErr result (MayStop G.always) }
+{
+    let mut head = Session {
+        machine: machines.remove(0),
+        names: Bindings::new(alloc)?,
+        contracts: &script.contracts,
+    };
+    let lines = script.lines.as_slice();
+    let played = play_all(rt, alloc, machines, &mut head, lines, gate);
+    let Session { machine, .. } = head;
+    let (mut machines, answers) = played?;
+    machines.insert(0, machine)?;
+    let names = latest(alloc, lines, answers.as_slice())?;
+    let names = names.by_place(alloc, &script.processes)?;
+    Ok(Outcome {
+        machines,
+        answers,
+        names,
+    })
+}
