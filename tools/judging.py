@@ -220,6 +220,20 @@ def rt_ci(least: int) -> None:
     claim(edits >= least, f"{edits} must-fail edits were refused, and not {least}")
 
 
+def does_not_compile(crate: str, error: str, old: str, new: str) -> None:
+    """With the one line in place of the other the crate's program is no edit that can be tried:
+    the compiler says this error of it."""
+    edit = pathlib.Path(f"crates/{crate}/must-fail/compiled.edit")
+    edit.parent.mkdir(exist_ok=True)
+    edit.write_text(f"file: src/main.rt\nold: {old}\nnew: {new}\n", encoding="utf-8")
+    try:
+        words = ["rt", "must-fail", crate]
+        said = subprocess.run(words, stdin=subprocess.DEVNULL, stdout=PIPE, check=False).stdout
+    finally:
+        edit.unlink()
+    claim(b"BAD EDIT" in said and error.encode() in said, said.decode(errors="replace"))
+
+
 def claim_same(answer: Answer | Ended, wanted: Ended) -> None:
     """The answer is this status, output and text of errors."""
     one, other = (f"{it[0]}\n{(it[1] + it[2]).decode(errors='replace')}".splitlines()

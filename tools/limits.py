@@ -7,6 +7,7 @@ import pathlib
 import re
 import subprocess
 
+import judging
 from judging import claim
 
 NOBODY = 65534
@@ -34,7 +35,7 @@ def run_limited(limit: int, program: str, *words: str) -> subprocess.CompletedPr
         number = it.fileno()
         before += ["prlimit", f"--nproc={threads_of(user) + limit}", f"/proc/self/fd/{number}"]
         return subprocess.run([*before, *words], stdin=subprocess.DEVNULL, capture_output=True,
-                              pass_fds=[number], timeout=20)
+                              pass_fds=[number], timeout=min(20, judging.LIMIT))
 
 
 def ends_by_process_limit(program: str, *words: str) -> None:

@@ -26,6 +26,9 @@ is_proved() {
     { sources_of "$1"; program_of "$1"; kit || sed -n 3p "$sums"; } 2>/dev/null | cmp -s - "$sums"
 }
 
+# note NAME SOURCES: the crate NAME is proved and built, of the sources that had this checksum
+note() { { echo "$2"; program_of "$1"; kit; } >"$top/crates/$1/out/prove.sum"; }
+
 # begin: makes a folder, room, for rt too; it goes with the script, as does all that it started
 begin() {
     room=""

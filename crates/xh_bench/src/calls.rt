@@ -40,8 +40,8 @@ pub(crate) enum Call {
     Give,
     /// The first gives a block and waits for it; the second waits for it and gives it back.
     PingPong,
-    /// The first makes a block of so many bytes, writes all of them and gives it, once there is room; the second waits for
-    /// it, looks at each of its cache lines and frees it.
+    /// The first fills a buffer of so many bytes, makes a block of it and gives that, once there is room; the second waits for
+    /// it, has its buffer out and looks at each cache line.
     Ship(u32),
     /// One process does both.
     Carry(u32),
@@ -74,6 +74,11 @@ impl Call {
 /// How many processes are made at once that are to be killed.
 const VICTIMS: usize = 7;
 
+// Seven places have arenas of their own.
+fn arena_of(p: u16) -> u32 {
+    1 + u32::from(p) % u32::from(PLACES) % 7
+}
+
 /// A process: the ends by which it gives and takes, and its blocks, or the processes that it is to kill.
 #[derive(Drop)]
 struct Player<'a, N: Names, R> {
@@ -100,10 +105,9 @@ impl<'a, N: Names, R: Wait> Player<'a, N, R> {
         Some((low.rec, high.rec))
     }
 
-    // A block of a process. Seven places have arenas of their own.
+    // A block of a process.
     fn alloc(&mut self, p: u16, bytes: u32) -> Option<u16> {
-        let (rt, heap, gate) = (self.rt, self.heap, &OpenGate);
-        let arena = 1 + u32::from(p) % u32::from(PLACES) % 7;
+        let (rt, heap, gate, arena) = (self.rt, self.heap, &OpenGate, arena_of(p));
         let answer = heap.alloc(rt, self.alloc, p, bytes, arena, self.account, gate);
         Some(answer.ok()?.rec)
     }
@@ -157,25 +161,24 @@ impl<'a, N: Names, R: Wait> Player<'a, N, R> {
         taken.ok().map(drop)
     }
 
-    fn ship(&mut self, bytes: u32) -> Option<()> {
-        let block = self.alloc(self.process, bytes)?;
+    fn ship(&mut self) -> Option<()> {
         let (rt, heap, p, end, gate) = (self.rt, self.heap, self.process, self.ends.0, &OpenGate);
-        let written = heap.write(rt, p, block, 0, &self.bytes, self.account, gate);
-        written.ok()?;
-        let given = heap.give_wait(rt, p, end, 1, &[block], self.account, gate);
+        let mut bytes = Vec::with_capacity(self.alloc, self.bytes.len()).ok()?;
+        bytes.extend_from_slice(&self.bytes).ok()?;
+        let block = heap.put(rt, p, &mut bytes, arena_of(p), self.account, gate);
+        let given = heap.give_wait(rt, p, end, 1, &[block.ok()?.rec], self.account, gate);
         given.ok().map(drop)
     }
 
     fn receive(&mut self) -> Option<()> {
         let (rt, heap, p, end, gate) = (self.rt, self.heap, self.process, self.ends.1, &OpenGate);
         let taken = heap.take_wait(rt, p, end, self.account, gate).ok()?;
-        let Some(Got::Here(Block { rec, .. })) = taken.blocks.first().copied() else {
+        let Some(Got::Here(Block { rec, .. }, _)) = taken.blocks.first().copied() else {
             return None;
         };
-        let mut look = |bytes: &[u8]| -> u64 { glanced(bytes) };
-        let seen = heap.with_bytes(rt, p, rec, &mut look, self.account, gate);
-        self.sum = self.sum.wrapping_add(seen.ok()?);
-        heap.free(rt, p, rec, self.account, gate).ok().map(drop)
+        let bytes = heap.into_bytes(rt, p, rec, self.account, gate).ok()?;
+        self.sum = self.sum.wrapping_add(glanced(&bytes));
+        Some(())
     }
 
     // Another process, which has so many blocks.
@@ -208,10 +211,10 @@ impl<'a, N: Names, R: Wait> Step for Player<'a, N, R> {
             Call::Give => self.take(true),
             Call::PingPong if self.is_first => self.give(false).and(self.take(true)),
             Call::PingPong => self.take(true).and(self.give(false)),
-            Call::Ship(bytes) if self.is_first => self.ship(bytes),
+            Call::Ship(_) if self.is_first => self.ship(),
             Call::Ship(_) => self.receive(),
-            Call::Carry(bytes) => {
-                self.ship(bytes)?;
+            Call::Carry(_) => {
+                self.ship()?;
                 self.receive()
             }
         }

@@ -1,14 +1,16 @@
 -- A refusal for want of space is that of the arena's vault.
 use Rattle.xh_calls.proofs.Common.{Block, END_BYTES, Err, FrontOf, IfErr, IsRefusedBy, Leaves, MatchOption, None, Ok, Option, PartsOf, Refused, Result, Some}
-use Rattle.xh_calls.proofs.Common.{Allocates, Bool, FindsFull, IsLack, PlaceSeen, SpaceOf, Status, Stays, alloc_tests, cond, false, start, subst, true, ◌++◌}
-use Rattle.xh_calls.proofs.Common.{VaultOf, first_refusal, inl, inr, ℕ, ⊎_elim, ◌*◌, ◌<◌, ◌≡◌, ◌⊎◌}
+use Rattle.xh_calls.proofs.Common.{Bool, FindsFull, IsLack, List, PlaceSeen, SpaceOf, Status, Stays, alloc_tests, cond, false, start, subst, true, ◌++◌}
+use Rattle.xh_calls.proofs.Common.{VaultOf, ap, first_refusal, inl, inr, ℕ, ⊎_elim, ◌*◌, ◌<◌, ◌≡◌, ◌⊎◌}
 use Rattle.std.proofs.lemmas.Result.{MatchResult-weaker}
+use Rattle.std.specs.Prelude.{◌≢◌}
 use Rattle.xh_arena.specs.declared.refused.Refused.{Refused as Reason}
 use Rattle.xh_arena.specs.declared.refused.Refused.TheVariants as arena
 use Rattle.xh_calls.specs.Channels.{IsNoChannel}
 use Rattle.xh_calls.specs.Vaults.{AsksVault}
 use Rattle.xh_core.specs.Space.{rounded}
 use Rattle.xh_core.specs.declared.refused.Refused.TheVariants as refused
+use Rattle.xh_place.specs.Calls.{Makes}
 use Rattle.xh_place.specs.Vaults.{IsNoPair, IsRefusedAt}
 
 -- what the ends of a channel lack, by what the lent vaults say
@@ -18,9 +20,9 @@ module _ {V : Type 0} (old new : V) (front : V → FrontOf VaultOf) (parts : Par
 
   pub lacks : (e : Refused) → IsNoPair changes old new a (2 * END_BYTES) full parts.size e → IsNoChannel parts ⊥ full a e × AsksVault parts a (2 * END_BYTES) (front old) (front new) e
   lacks refused.NoSpace h = ⊎_elim
-      (λ (s : (parts.size < 2 * END_BYTES) × (new ≡ old)). (inl s.0, inl s.0))
+      (λ (s : (parts.size < 2 * END_BYTES) × (new ≡ old)). (inl s.0, inl (s.0, ap front s.1)))
       (λ (r : IsRefusedAt changes old new a (2 * END_BYTES) arena.NoSpace). (inr (r.0, r.1.0, r.2, r.3), inr r)) h
-  lacks refused.NoRecord h = (h.1, tt)
+  lacks refused.NoRecord h = (h.1, ap front h.0)
   lacks refused.Worn h = ((h.0, h.1.0, h.2, h.3), h)
   lacks e h = absurd h
 
@@ -46,9 +48,9 @@ lack_as full P Q f refused.Worn h = f arena.Worn h
 lack_as full P Q f e h = h
 
 -- the same call, of a process of the same status, and of arenas of which more is so
-pub allocated : {status status' : Status} {space space' : SpaceOf} (n a : ℕ) (old new : PlaceSeen) (result : Result Block Refused) → status ≡ status' → space.arenas ≡ space'.arenas
-    → space.size ≡ space'.size → ((b m : ℕ) (why : Reason) → space.refuses b m why → space'.refuses b m why) → Allocates status space n a old new result → Allocates status' space' n a old new result
-allocated {status} {status'} {space} {space'} n a old new result same arenas size more h = record {
+pub allocated : {status status' : Status} {space space' : SpaceOf} (n : ℕ) (xs : List ℕ) (a : ℕ) (old new : PlaceSeen) (result : Result Block Refused) → status ≡ status' → space.arenas ≡ space'.arenas
+    → space.size ≡ space'.size → ((b m : ℕ) (why : Reason) → space.refuses b m why → space'.refuses b m why) → Makes status space n xs a old new result → Makes status' space' n xs a old new result
+allocated {status} {status'} {space} {space'} n xs a old new result same arenas size more h = record {
   made = h.made;
   block = h.block;
   refused = h.refused;
@@ -66,16 +68,23 @@ allocated {status} {status'} {space} {space'} n a old new result same arenas siz
     go None l = MatchResult-weaker result l (λ b h. h) (lack_as (FindsFull 0 old new a) (space.refuses a (rounded n)) (space'.refuses a (rounded n)) (more a (rounded n)))
     go (Some e) l = l
 
--- NoSpace and Worn are what the vault answered: no test of an alloc refuses so
-pub asks : (parts : PartsOf) (a n : ℕ) (f g : FrontOf VaultOf) (full same : Type 0) (P : Reason → Type 0) (w x y z : Bool) (result : Result Block Refused)
-    → ((why : Reason) → P why → IsRefusedBy parts a n f g why)
-    → MatchOption (cond w (Some refused.NoProcess) (cond x (Some refused.Ended) (cond y (Some refused.NoArena) (cond z (Some refused.BadSize) None)))) (IfErr result (IsLack full P))
-    (λ e. (result ≡ Err e) × same) → IfErr result (AsksVault parts a n f g)
-asks parts a n f g full same P true x y z result more h = rw h.0 tt
-asks parts a n f g full same P false true y z result more h = rw h.0 tt
-asks parts a n f g full same P false false true z result more h = rw h.0 tt
-asks parts a n f g full same P false false false true result more h = rw h.0 tt
-asks parts a n f g full same P false false false false (Ok b) more h = tt
-asks parts a n f g full same P false false false false (Err refused.NoSpace) more h = inr (more arena.NoSpace h)
-asks parts a n f g full same P false false false false (Err refused.Worn) more h = more arena.Worn h
-asks parts a n f g full same P false false false false (Err e) more h = tt
+-- NoSpace and Worn are what the vault answered: no test of an alloc refuses so; for other reasons the vaults are as they were
+module _ (parts : PartsOf) (a n : ℕ) (f g : FrontOf VaultOf) (Same : Type 0) (is_same : Same → g ≡ f) where
+  unasked : (result : Result Block Refused) (e : Refused) → result ≡ Err e → (e ≢ refused.NoSpace) → (e ≢ refused.Worn)
+      → IfErr result (λ why. why ≢ refused.NoSpace → why ≢ refused.Worn → Same) → g ≡ f
+  unasked result e is space worn still = is_same (subst (λ (r : Result Block Refused). IfErr r (λ why. why ≢ refused.NoSpace → why ≢ refused.Worn → Same)) is still space worn)
+
+  pub asks : (full same : Type 0) (P : Reason → Type 0) (w x y z : Bool) (result : Result Block Refused) → ((why : Reason) → P why → IsRefusedBy parts a n f g why)
+      → IfErr result (λ why. why ≢ refused.NoSpace → why ≢ refused.Worn → Same)
+      → MatchOption (cond w (Some refused.NoProcess) (cond x (Some refused.Ended) (cond y (Some refused.NoArena) (cond z (Some refused.BadSize) None)))) (IfErr result (IsLack full P))
+      (λ e. (result ≡ Err e) × same) → IfErr result (AsksVault parts a n f g)
+  asks full same P true x y z result more still h = rw h.0 (unasked result refused.NoProcess h.0 (λ e. absurd (cc)) (λ e. absurd (cc)) still)
+  asks full same P false true y z result more still h = rw h.0 (unasked result refused.Ended h.0 (λ e. absurd (cc)) (λ e. absurd (cc)) still)
+  asks full same P false false true z result more still h = rw h.0 (unasked result refused.NoArena h.0 (λ e. absurd (cc)) (λ e. absurd (cc)) still)
+  asks full same P false false false true result more still h = rw h.0 (unasked result refused.BadSize h.0 (λ e. absurd (cc)) (λ e. absurd (cc)) still)
+  asks full same P false false false false (Ok b) more still h = tt
+  asks full same P false false false false (Err refused.NoSpace) more still h = inr (more arena.NoSpace h)
+  asks full same P false false false false (Err refused.Worn) more still h = more arena.Worn h
+  asks full same P false false false false (Err refused.NoRecord) more still h = is_same (still (λ e. absurd (cc)) (λ e. absurd (cc)))
+  asks full same P false false false false (Err refused.OutOfMemory) more still h = is_same (still (λ e. absurd (cc)) (λ e. absurd (cc)))
+  asks full same P false false false false (Err e) more still h = absurd h

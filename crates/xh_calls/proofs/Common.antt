@@ -7,8 +7,8 @@ pub use Rattle.std.proofs.{lemmas.List.length-replicate, lemmas.List.map_push, l
 pub use Rattle.std.specs.{Prelude.option_map, Vec.Iter.into_iter_items, Vec.Iter.into_iter_len}
 pub use Rattle.xh_arena.specs.{Views.AreLots, Views.LotOf, Views.TallyOf, Views.VaultOf}
 pub use Rattle.xh_calls.specs.{Parts.IsNew, Parts.IsOpen, Parts.IsVaultOf, Parts.PartsOf, Parts.vault_names, Places.status_at, Several.AnswersAt, Several.FindNone, Several.HaveNone}
-pub use Rattle.xh_calls.specs.{Several.TakesFirst, Several.closed, Several.each_end, Several.several_tests, Tallies.fresh_tally, Vaults.DoesTo, Vaults.EndsIn, Vaults.Enters, Vaults.IsKeptAt}
-pub use Rattle.xh_calls.specs.{Vaults.IsPenOf, Vaults.IsRefusedBy, Vaults.Leaves, Wires.ClosesAgain, Wires.HasLow, Wires.ReceivesOr, Wires.toward_high, inner.Looking.AreEndsOf}
+pub use Rattle.xh_calls.specs.{Several.TakesFirst, Several.closed, Several.each_end, Several.several_tests, Tallies.fresh_tally, Vaults.DoesTo, Vaults.EndsIn, Vaults.Enters, Vaults.IsKept}
+pub use Rattle.xh_calls.specs.{Vaults.IsRefusedBy, Vaults.Leaves, Wires.ClosesAgain, Wires.HasLow, Wires.ReceivesOr, Wires.toward_high, inner.Looking.AreEndsOf}
 pub use Rattle.xh_calls.specs.{inner.Looking.AreReady, inner.Looking.first_of, inner.Making.AreBundles, inner.Making.AreFreshFrom, inner.Making.AreFreshTallies, inner.Making.AreMakings}
 pub use Rattle.xh_calls.specs.{inner.Making.IsBundle}
 pub use Rattle.xh_channel.specs.{Endpoint.EndpointOf}

@@ -7,9 +7,7 @@ use Rattle.xh_calls.proofs.Common.{Becomes, PlaceOf, Stays}
 use Rattle.xh_model.specs.Keyed.{value_at, without}
 use Rattle.xh_place.proofs.Events.{stays_then}
 use Rattle.xh_place.specs.Events.{passed_on}
-use Rattle.xh_calls.specs.Tallies.{StayUnmoved}
 use Rattle.xh_place.proofs.Swept.{last_bytes}
-use Rattle.xh_place.specs.Ending.{back_of}
 
 -- an endpoint is on its way, of a place that looked before
 abbrev pub Passes : ℕ → ℕ → PlaceSeen → PlaceSeen → Type 0
@@ -27,7 +25,7 @@ is_end n (endpoint e) channel side at fits = (refl, fits)
 -- side 0 was closed
 pub closes_again : (p r channel : ℕ) (before after : List TallyOf) (old new : PlaceSeen) (result : Result ℕ Refused) → first_refusal (start (status_at p old.place)) ≡ None → AreBlocks old.place.blocks
     → HasLow channel r old.place
-    → (n : ℕ) × Closes (status_at p old.place) r n old new result × HasGivenBack n before after → (n : ℕ) × ClosesAgain p channel r old new n × HasGivenBack n before after × (END_BYTES ≤ n)
+    → (n : ℕ) × Closes (status_at p old.place) r n old new result × HasGivenBack n before after → (n : ℕ) × ClosesAgain p channel r old new n × HasGivenBack n before after
 closes_again p r channel before after old new result none blocks low h =
     let x = low.0 in let n = h.0 in let end = is_end x.len x.content channel 0 low.2 (blocks.whole r x low.1).1 in
     let tests : first_refusal (end_tests (found old.place r)) ≡ None = ap (λ (o : Option Item). first_refusal (end_tests (option_map header_of o))) low.1
@@ -38,8 +36,4 @@ closes_again p r channel before after old new result none blocks low h =
     let front = without r old.place.blocks in
     let whole : last r old.place.blocks ≡ front ++ (r, x) ∷ [] = ap (λ (o : Option Item). front ++ alone r o) low.1 in
     let some : x.len ≤ n = last_bytes (IsSeen old new) front r x (with_blocks old.place (last r old.place.blocks)) new.place n d.0 whole d.1 in
-    let enough : END_BYTES ≤ n = omega (arith, long, some) in (n, inr (result, d, enough), h.2, enough)
-
--- so bytes came back
-pub came_some : (n : ℕ) (before after : List TallyOf) → HasGivenBack n before after → END_BYTES ≤ n → StayUnmoved before after
-came_some n before after back enough same = let sum : back_of after ≡ back_of before + n = back.0 in absurd (omega (arith, sum, same, enough))
+    let enough : END_BYTES ≤ n = omega (arith, long, some) in (n, inr (result, d, enough), h.2)

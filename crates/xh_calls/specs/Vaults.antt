@@ -1,9 +1,11 @@
 -- The history of each arena: what its vault was at the end of each call under its lock, beside the number of the worker that made the call.
-use Rattle.std.specs.Prelude.{◌≡◌, ◌⊎◌, ◌<◌, ◌≤◌, ℕ, [], ◌∷◌, ◌++◌, length, slice_set, Option, MatchOption}
+use Rattle.std.specs.Prelude.{◌≡◌, ◌⊎◌, ◌<◌, ℕ, [], ◌∷◌, ◌++◌, slice_set}
 use Rattle.xh_arena.specs.declared.refused.Refused.{Refused as Reason}
 use Rattle.xh_arena.specs.declared.refused.Refused.TheVariants as arena
 use Rattle.xh_arena.specs.Refusals.{RefusesCarve}
 use Rattle.xh_arena.specs.Views.{VaultOf}
+use Rattle.xh_core.specs.ArenaLines.{arena_line}
+use Rattle.xh_core.specs.declared.ledger.ArenaLine.{ArenaLine}
 use Rattle.xh_core.specs.declared.refused.Refused.{Refused}
 use Rattle.xh_core.specs.declared.refused.Refused.TheVariants.{NoSpace, Worn}
 use Rattle.xh_history.specs.Histories.{FrontOf, History, PenOf, at, calls_of}
@@ -18,18 +20,14 @@ EndsIn v [] = Unit {0}
 EndsIn v (c ∷ []) = c.1 ≡ v
 EndsIn v (c ∷ d ∷ cs) = EndsIn v (d ∷ cs)
 
--- the vault of the arena, where the kernel has that arena, and the pen of its history
+-- the vault of an arena, and the pen of the arena's history
 pub record KeptOf : Type 0 where
-  pub vault : Option VaultOf
+  pub vault : VaultOf
   pub pen : PenOf VaultOf
 
--- the pen writes the history of the arena
-abbrev pub IsPenOf : PartsOf → ℕ → PenOf VaultOf → Type 0
-IsPenOf parts a pen = (pen.table ≡ parts.vaults) × (pen.number ≡ a)
-
--- the vault is the arena's, and its history ends in it
-abbrev pub IsKeptAt : PartsOf → ℕ → KeptOf → Type 0
-IsKeptAt parts a k = IsPenOf parts a k.pen × MatchOption k.vault (length parts.records.shape.names ≤ a) (λ v. IsVaultOf parts a v × EndsIn v k.pen.history)
+-- the pen writes a history of these parts, the vault is that of the pen's arena, and the history ends in it
+abbrev pub IsKept : PartsOf → KeptOf → Type 0
+IsKept parts k = (k.pen.table ≡ parts.vaults) × IsVaultOf parts k.pen.number k.vault × EndsIn k.vault k.pen.history
 
 -- ---- one call
 
@@ -52,8 +50,12 @@ DoesTo parts a old new does = (v : VaultOf) × (w : VaultOf) × Leaves parts old
 abbrev pub IsRefusedBy : PartsOf → ℕ → ℕ → FrontOf VaultOf → FrontOf VaultOf → Reason → Type 0
 IsRefusedBy parts a n old new e = (v : VaultOf) × Leaves parts old new a v v × IsLawfulArena v.arena × RefusesCarve n v.arena e
 
--- NoSpace and Worn are what the arena's vault answered, or no arena of these parts has n bytes
+-- a look at the arena, which left the vault as it was, and tells what the ledger would say of it
+abbrev pub Tells : PartsOf → ℕ → FrontOf VaultOf → FrontOf VaultOf → ArenaLine → Type 0
+Tells parts a old new line = DoesTo parts a old new (λ v w. (w ≡ v) × (line ≡ arena_line v.arena))
+
+-- NoSpace and Worn are what the arena's vault answered, or no arena of these parts has n bytes; for other reasons no vault was asked
 abbrev pub AsksVault : PartsOf → ℕ → ℕ → FrontOf VaultOf → FrontOf VaultOf → Refused → Type 0
-AsksVault parts a n old new NoSpace = (parts.size < n) ⊎ IsRefusedBy parts a n old new arena.NoSpace
+AsksVault parts a n old new NoSpace = ((parts.size < n) × (new ≡ old)) ⊎ IsRefusedBy parts a n old new arena.NoSpace
 AsksVault parts a n old new Worn = IsRefusedBy parts a n old new arena.Worn
-AsksVault parts a n old new _ = Unit {0}
+AsksVault parts a n old new _ = new ≡ old

@@ -1,7 +1,10 @@
 //! The locks of the arenas.
-ghost use Rattle.std.specs.Prelude.{◌≡◌, ◌≤◌, ◌%◌, All, IfOk, length, vec_len};
+ghost use Rattle.std.specs.Prelude.{◌≡◌, ◌<◌, ◌≤◌, ◌%◌, All, IfOk, MatchOption, Some, length, slice_get, vec_len};
+ghost use Rattle.std.specs.Sync.Mutex.{mutex_guard_value};
+ghost use Rattle.atomic_table.specs.Seated.{TableId};
 ghost use Rattle.xh_model.specs.declared.limits.TheConstants.{MAX_ARENAS, MAX_BYTES, UNIT};
 ghost use Rattle.xh_calls.specs.Parts.{IsOpen, vault_names};
+ghost use Rattle.xh_calls.specs.Vaults.{Tells};
 ghost use Rattle.xh_calls.specs.inner.Making.{AreFreshFrom};
 
 use crate::kept::Kept;
@@ -9,102 +12,106 @@ use crate::names::Names;
 use crossbeam_utils::CachePadded;
 use std::alloc::{AllocError, Global};
 use std::mem;
-use std::sync::{Mutex, Wait};
+use std::sync::{Mutex, MutexGuard, Wait};
 use xh_arena::{Lot, Refused, Tally, Vault};
+use xh_core::ArenaLine;
 use xh_history::{Front, Histories, Nothing, Pen};
 use xh_place::{Body, Vaults};
 
-/// One lock for each arena, on cache lines of its own, and how many arenas there are, how many bytes
-/// each has, and the histories of the arenas.
+/// One lock for each arena, on cache lines of its own, how many bytes each arena has, and the histories of the arenas.
 #[derive(Drop)]
 pub struct Arenas<N: Names> {
-    pub(crate) count: u8,
-    pub(crate) size: u32,
-    pub(crate) histories: Histories<Vault, Nothing>,
-    pub(crate) arena0: CachePadded<Mutex<Kept<N, 0>>>,
-    pub(crate) arena1: CachePadded<Mutex<Kept<N, 1>>>,
-    pub(crate) arena2: CachePadded<Mutex<Kept<N, 2>>>,
-    pub(crate) arena3: CachePadded<Mutex<Kept<N, 3>>>,
-    pub(crate) arena4: CachePadded<Mutex<Kept<N, 4>>>,
-    pub(crate) arena5: CachePadded<Mutex<Kept<N, 5>>>,
-    pub(crate) arena6: CachePadded<Mutex<Kept<N, 6>>>,
-    pub(crate) arena7: CachePadded<Mutex<Kept<N, 7>>>,
-    ghost counted: { (count ≡ length N.parts.records.shape.names) × (count ≤ MAX_ARENAS) },
+    locks: Vec<CachePadded<Mutex<Kept<N>>>>,
+    size: u32,
+    histories: Histories<Vault, Nothing>,
+    ghost counted: { (vec_len locks ≡ length N.parts.records.shape.names) × (vec_len locks ≤ MAX_ARENAS) },
     ghost recorded: { histories ≡ N.parts.vaults },
     ghost sized: { (size ≡ N.parts.size) × (size % UNIT ≡ 0) × (size ≤ MAX_BYTES) },
-}
-
-// The lock of an arena.
-fn locked<N: Names, const A: u8>(kept: Kept<N, A>) -> CachePadded<Mutex<Kept<N, A>>> {
-    CachePadded::new(Mutex::new(kept))
 }
 
 impl<N: Names> Arenas<N> {
     /// The vaults of all arenas behind their locks, beside the pens of their histories.
     pub fn new(
+        alloc: Global,
         vaults: Vec<Vault>,
         size: u32,
         histories: Histories<Vault, Nothing>,
         pens: Vec<Pen<Vault>>,
-    ) -> Arenas<N>
+    ) -> Result<Arenas<N>, AllocError>
         requires sized { (size ≡ N.parts.size) × (size % UNIT ≡ 0) × (size ≤ MAX_BYTES) }
         requires names { vault_names vaults.items ≡ N.parts.records.shape.names }
         requires open_vaults { All (IsOpen N.parts) vaults.items }
         requires few { vec_len vaults ≤ MAX_ARENAS }
         requires histories { (histories ≡ N.parts.vaults) × AreFreshFrom 0 pens.items N.parts.vaults }
     {
-        let count = vaults.len() as u8;
-        let mut rest = vaults.into_iter();
+        let mut locks = Vec::with_capacity(alloc, vaults.len())?;
         let mut pens = pens.into_iter();
-        Arenas {
-            count,
+        for vault in vaults {
+            let Some(pen) = pens.next() else {
+                unreachable!()
+            };
+            locks.push(CachePadded::new(Mutex::new(Kept::new(vault, pen))))?;
+        }
+        Ok(Arenas {
+            locks,
             size,
             histories,
-            arena0: locked(Kept::next(&mut rest, &mut pens)),
-            arena1: locked(Kept::next(&mut rest, &mut pens)),
-            arena2: locked(Kept::next(&mut rest, &mut pens)),
-            arena3: locked(Kept::next(&mut rest, &mut pens)),
-            arena4: locked(Kept::next(&mut rest, &mut pens)),
-            arena5: locked(Kept::next(&mut rest, &mut pens)),
-            arena6: locked(Kept::next(&mut rest, &mut pens)),
-            arena7: locked(Kept::next(&mut rest, &mut pens)),
-        }
+        })
     }
 
-    /// The vaults, by arena, out of their locks.
+    // How many there are.
+    pub(crate) fn count(&self) -> u8
+        ensures { result ≡ length N.parts.records.shape.names }
+    {
+        self.locks.len() as u8
+    }
+
+    // What lies behind the lock of the arena, which knows its number.
+    #[inline(always)]
+    fn kept<R: Wait>(&self, rt: &R, arena: u8) -> MutexGuard<'_, Kept<N>>
+        requires { (id : TableId) × (slice_get N.parts.records.shape.names arena ≡ Some id) }
+        ensures { (mutex_guard_value result).pen.number ≡ arena }
+    {
+        for _ in rt.forever() {
+            let kept = self.locks[usize::from(arena)].lock(rt);
+            if kept.number() == arena {
+                return kept;
+            }
+        }
+        unreachable!()
+    }
+
+    /// What the ledger says of an arena as it is at a step of the call, which the worker enters in the arena's history. None where
+    /// there is no such arena.
+    pub fn line<R: Wait>(&self, rt: &R, arena: u8, seen: &mut Front<Vault>) -> Option<ArenaLine>
+        requires { seen.old.table ≡ N.parts.vaults }
+        ensures same { seen.new.table ≡ seen.old.table }
+        ensures few { length N.parts.records.shape.names ≤ MAX_ARENAS }
+        ensures told { MatchOption result ((length N.parts.records.shape.names ≤ arena) × (seen.new ≡ seen.old)) (λ line. (arena < length N.parts.records.shape.names) × Tells N.parts arena seen.old seen.new line) }
+    {
+        if arena >= self.count() {
+            return None;
+        }
+        let mut kept = self.kept(rt, arena);
+        Some(kept.line(&self.histories, seen))
+    }
+
+    /// The vaults, by arena, out of their locks, each of which knows its arena's number. An error where memory was refused.
     pub fn into_vaults(self, alloc: Global) -> Result<Vec<Vault>, AllocError>
         ensures names { IfOk result (λ v. vault_names v.items ≡ N.parts.records.shape.names) }
         ensures open_vaults { IfOk result (λ v. All (IsOpen N.parts) v.items) }
         ensures few { IfOk result (λ v. vec_len v ≤ MAX_ARENAS) }
     {
-        let mut vaults = Vec::with_capacity(alloc, usize::from(self.count))?;
-        self.arena0.into_inner().into_inner().put_back(&mut vaults);
-        self.arena1.into_inner().into_inner().put_back(&mut vaults);
-        self.arena2.into_inner().into_inner().put_back(&mut vaults);
-        self.arena3.into_inner().into_inner().put_back(&mut vaults);
-        self.arena4.into_inner().into_inner().put_back(&mut vaults);
-        self.arena5.into_inner().into_inner().put_back(&mut vaults);
-        self.arena6.into_inner().into_inner().put_back(&mut vaults);
-        self.arena7.into_inner().into_inner().put_back(&mut vaults);
+        let mut vaults = Vec::with_capacity(alloc, self.locks.len())?;
+        for lock in self.locks {
+            let kept = lock.into_inner().into_inner();
+            if usize::from(kept.number()) != vaults.len() {
+                return Err(AllocError);
+            }
+            vaults.push(kept.into_vault())?;
+        }
         Ok(vaults)
     }
-}
-
-// The call on the lock of an arena, by its number.
-macro_rules! at_arena {
-    ($lent:expr, $arena:expr, $call:ident($($with:expr),*)) => {
-        match $arena {
-            0 => $lent.arenas.arena0.lock($lent.rt).$call(&$lent.arenas.histories, &mut $lent.front, $arena, $($with),*),
-            1 => $lent.arenas.arena1.lock($lent.rt).$call(&$lent.arenas.histories, &mut $lent.front, $arena, $($with),*),
-            2 => $lent.arenas.arena2.lock($lent.rt).$call(&$lent.arenas.histories, &mut $lent.front, $arena, $($with),*),
-            3 => $lent.arenas.arena3.lock($lent.rt).$call(&$lent.arenas.histories, &mut $lent.front, $arena, $($with),*),
-            4 => $lent.arenas.arena4.lock($lent.rt).$call(&$lent.arenas.histories, &mut $lent.front, $arena, $($with),*),
-            5 => $lent.arenas.arena5.lock($lent.rt).$call(&$lent.arenas.histories, &mut $lent.front, $arena, $($with),*),
-            6 => $lent.arenas.arena6.lock($lent.rt).$call(&$lent.arenas.histories, &mut $lent.front, $arena, $($with),*),
-            7 => $lent.arenas.arena7.lock($lent.rt).$call(&$lent.arenas.histories, &mut $lent.front, $arena, $($with),*),
-            _ => unreachable!(),
-        }
-    };
 }
 
 /// It takes an arena's lock for the one call, and enters the call in the arena's history as the worker's.
@@ -147,7 +154,7 @@ impl<'a, N: Names, R: Wait> Vaults for Lent<'a, N, R> {
     ghost changes = { λ old new. Leaves N.parts old.front new.front };
 
     fn arenas(&self) -> u8 {
-        self.arenas.count
+        self.arenas.count()
     }
 
     fn size(&self) -> u32 {
@@ -162,16 +169,19 @@ impl<'a, N: Names, R: Wait> Vaults for Lent<'a, N, R> {
         tally: &mut Tally,
         n: u32,
     ) -> Result<u32, Refused> {
-        at_arena!(self, arena, carve(lot, tally, n))
+        let mut kept = self.arenas.kept(self.rt, arena);
+        kept.carve(&self.arenas.histories, &mut self.front, lot, tally, n)
     }
 
     #[inline(always)]
     fn cut(&mut self, arena: u8, head: &mut Lot<Body>, tail: &mut Lot<Body>, k: u32) {
-        at_arena!(self, arena, cut(head, tail, k))
+        let mut kept = self.arenas.kept(self.rt, arena);
+        kept.cut(&self.arenas.histories, &mut self.front, head, tail, k);
     }
 
     #[inline(always)]
     fn give_back(&mut self, arena: u8, lot: &mut Lot<Body>, tally: &mut Tally) {
-        at_arena!(self, arena, give_back(lot, tally))
+        let mut kept = self.arenas.kept(self.rt, arena);
+        kept.give_back(&self.arenas.histories, &mut self.front, lot, tally);
     }
 }

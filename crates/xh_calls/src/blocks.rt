@@ -17,6 +17,7 @@ use crate::starting::check_number;
 use std::alloc::Global;
 use std::sync::Wait;
 use xh_core::{Block, Refused};
+use xh_model::limits::MAX_RECORDS;
 use xh_place::{Desk, Gate, Place};
 
 impl<N: Names> Heap<N> {
@@ -51,6 +52,7 @@ impl<N: Names> Heap<N> {
         };
         let answer = place.alloc(alloc, &mut desk, n, arena);
         lent.end(&mut till.seen);
+        self.tell_in_vain(rt, arena, &answer);
         answer
     }
 
@@ -69,6 +71,7 @@ impl<N: Names> Heap<N> {
         requires { IsServed N.parts place.old.place till.old }
         ensures same { IsSamePlace place.old place.new × IsTillOf N.parts till.new }
         ensures tallies { till.new.tallies.items ≡ till.old.tallies.items }
+        ensures untouched { OnErr result (till.new.seen ≡ till.old.seen) }
         ensures cut { Splits (status_at p place.old.place) r k place.old place.new result }
     {
         check_number(place, p)?;
@@ -83,6 +86,7 @@ impl<N: Names> Heap<N> {
         };
         let answer = place.split(alloc, &mut desk, r, k);
         lent.end(&mut till.seen);
+        self.tell_in_vain(rt, u32::from(r / MAX_RECORDS), &answer);
         answer
     }
 
@@ -168,6 +172,7 @@ impl<N: Names> Heap<N> {
         requires { IsServed N.parts place.old.place till.old }
         ensures same { IsSamePlace place.old place.new × IsTillOf N.parts till.new }
         ensures tallies { MatchResult result (λ n. till.new.tallies.items ≡ gave (r / MAX_RECORDS) n till.old.tallies.items) (λ _. till.new.tallies.items ≡ till.old.tallies.items) }
+        ensures untouched { OnErr result (till.new.seen ≡ till.old.seen) }
         ensures arena { OnOk result (r / MAX_RECORDS < length N.parts.records.shape.names) }
         ensures freed { FreesBlock (status_at p place.old.place) r place.old place.new result }
     {
@@ -184,6 +189,7 @@ impl<N: Names> Heap<N> {
         };
         let answer = place.free(&mut desk, r);
         lent.end(&mut till.seen);
+        self.tell_freed(rt, r, &answer);
         answer
     }
 }

@@ -13,11 +13,14 @@ pub enum Call {
     /// The look of a kill or a wire, whether the process runs.
     Look(u16, Result<(), Refused>),
     Alloc(u16, u32, u32, Result<Block, Refused>),
+    /// With the bytes that the buffer had before it.
+    Put(u16, LinkedList<u8>, u32, Result<Block, Refused>),
     Split(u16, u16, u32, Result<(Block, Block), Refused>),
     /// With the bytes that the buffer has after it.
     Read(u16, u16, u32, LinkedList<u8>, Result<(), Refused>),
     Write(u16, u16, u32, LinkedList<u8>, Result<(), Refused>),
     Free(u16, u16, Result<u32, Refused>),
+    IntoBytes(u16, u16, Result<LinkedList<u8>, Refused>),
     Open(u16, u32, Option<Contract>, Result<(Block, Block), Refused>),
     /// The first step of a wire, which leaves side 1 on its way.
     OpenToward(u16, u32, Option<Contract>, Result<Wired, Refused>),

@@ -15,7 +15,6 @@ ghost use Rattle.xh_place.specs.Tallies.{took};
 ghost use Rattle.xh_records.specs.Seats.{IsRecord};
 ghost use Rattle.xh_calls.specs.Channels.{GoesBy, IsNoChannel, OpensChannel};
 ghost use Rattle.xh_calls.specs.Places.{IsServed, IsTillOf, status_at};
-ghost use Rattle.xh_calls.specs.Tallies.{StayUnmoved};
 ghost use Rattle.xh_calls.specs.Vaults.{AsksVault};
 ghost use Rattle.xh_calls.specs.Wires.{ClosesAgain, HasLow, OpensToward, ReceivesOr, toward_high};
 
@@ -23,6 +22,7 @@ use crate::arenas::Lent;
 use crate::heap::{Heap, Till};
 use crate::names::Names;
 use crate::starting::check_start;
+use crate::waiters::FOR_RECORDS;
 use crate::wired::Wired;
 use std::sync::Wait;
 use xh_channel::Endpoint;
@@ -51,7 +51,7 @@ impl<N: Names> Heap<N> {
         ensures { Tested (start (status_at p place.now.place) ++ arena_tests arena (length N.parts.records.shape.names)) result (λ _. place.now.place.state ≡ status.Running) }
     {
         check_start(place, p)?;
-        if arena >= u32::from(self.arenas.count) {
+        if arena >= u32::from(self.arenas.count()) {
             return Err(Refused::NoArena);
         }
         Ok(())
@@ -92,6 +92,7 @@ impl<N: Names> Heap<N> {
             Ok(ends) => Ok(ends),
             Err(unopened) => {
                 self.channels.cancel(rt, unopened.low, unopened.high);
+                self.tell(rt, arena, FOR_RECORDS);
                 Err(unopened.why)
             }
         }
@@ -170,7 +171,6 @@ impl<N: Names> Heap<N> {
         requires there { IsRecord N.parts.records.shape r × (channel < CHANNELS) }
         ensures same { IsSamePlace place.old place.new × IsTillOf N.parts till.new }
         ensures received { (bytes : ℕ) × ReceivesOr q (toward_high channel) r bytes place.old place.new result × HasGivenBack bytes till.old.tallies.items till.new.tallies.items }
-        ensures untouched { StayUnmoved till.old.tallies.items till.new.tallies.items }
     {
         let tallies = till.tallies.as_mut_slice();
         let toward = 2 * channel + 1;
@@ -185,6 +185,7 @@ impl<N: Names> Heap<N> {
         };
         let answer = place.accept_end(&mut desk, q, r, toward);
         lent.end(&mut till.seen);
+        self.tell_swept(rt);
         answer
     }
 
@@ -216,7 +217,6 @@ impl<N: Names> Heap<N> {
         ensures same { IsSamePlace place.old place.new × IsTillOf N.parts till.new }
         ensures closed { (from : PlaceSeen) × Stays place.old from × StartsWith place.new.front from.front × (bytes : ℕ)
             × ClosesAgain p wired.now.channel wired.now.low.rec from place.new bytes × HasGivenBack bytes till.old.tallies.items till.new.tallies.items }
-        ensures untouched { StayUnmoved till.old.tallies.items till.new.tallies.items }
     {
         if let Err(_refused) = check_start(place, p) {
             return;

@@ -4,6 +4,7 @@ ghost use Rattle.xh_model.specs.declared.limits.TheConstants.{GENERATIONS, PLACE
 
 use crate::arenas::Arenas;
 use crate::names::Names;
+use crate::waiters::Waiters;
 use xh_arena::{Tally, Vault};
 use xh_channel::Channels;
 use xh_history::Front;
@@ -17,13 +18,14 @@ pub struct Till {
     pub seen: Front<Vault>,
 }
 
-/// The records, the channels and the locks of the arenas, and how often a place is used. A call reaches them with the lock of its place
+/// The records, the channels, the locks of the arenas and who waits for memory of them, and how often a place is used. A call reaches them with the lock of its place
 /// in hand.
 #[derive(Drop)]
 pub struct Heap<N: Names> {
     pub records: Records<Body>,
     pub channels: Channels,
     pub arenas: Arenas<N>,
+    pub waiters: Waiters,
     pub generations: u16,
     ghost named: { (records ≡ N.parts.records) × (channels.depth ≡ N.parts.depth) },
     ghost coming_back: { is_some channels.come_back ≡ N.parts.comes_back },

@@ -4,6 +4,7 @@
 
 mod arenas;
 mod blocks;
+mod bytes;
 mod call;
 mod channels;
 mod heap;
@@ -13,6 +14,7 @@ mod messages;
 mod names;
 mod several;
 mod starting;
+mod waiters;
 mod wired;
 
 pub use arenas::Arenas;
@@ -22,4 +24,5 @@ pub use making::{Bundle, Makings, make_vaults};
 pub use names::Names;
 pub use several::{Answered, MAX_ENDS};
 pub use starting::check_start;
+pub use waiters::{Lack, Waiters};
 pub use wired::Wired;

@@ -6,7 +6,6 @@ ghost use Rattle.xh_place.specs.Places.{IsPlaceOf};
 ghost use Rattle.xh_place.specs.Seen.{IsSamePlace};
 ghost use Rattle.xh_place.specs.Messages.{Gives, TakesAt};
 ghost use Rattle.xh_calls.specs.Places.{IsServed, IsTillOf, status_at};
-ghost use Rattle.xh_calls.specs.Tallies.{StayUndone};
 
 use crate::arenas::Lent;
 use crate::heap::{Heap, Till};
@@ -67,7 +66,6 @@ impl<N: Names> Heap<N> {
         requires { IsServed N.parts place.old.place till.old }
         ensures same { IsSamePlace place.old place.new × IsTillOf N.parts till.new }
         ensures closed { (bytes : ℕ) × Closes (status_at p place.old.place) e bytes place.old place.new result × HasGivenBack bytes till.old.tallies.items till.new.tallies.items }
-        ensures untouched { StayUndone result till.old.tallies.items till.new.tallies.items }
     {
         check_number(place, p)?;
         let tallies = till.tallies.as_mut_slice();
@@ -82,6 +80,7 @@ impl<N: Names> Heap<N> {
         };
         let answer = place.close_end(&mut desk, e);
         lent.end(&mut till.seen);
+        self.tell_swept(rt);
         answer
     }
 
@@ -98,7 +97,6 @@ impl<N: Names> Heap<N> {
         requires { IsServed N.parts place.old.place till.old }
         ensures same { IsSamePlace place.old place.new × IsTillOf N.parts till.new }
         ensures stopped { (bytes : ℕ) × Stops (status_at p place.old.place) budget bytes place.old place.new result × HasGivenBack bytes till.old.tallies.items till.new.tallies.items }
-        ensures untouched { StayUndone result till.old.tallies.items till.new.tallies.items }
     {
         check_number(place, p)?;
         let tallies = till.tallies.as_mut_slice();
@@ -113,6 +111,7 @@ impl<N: Names> Heap<N> {
         };
         let answer = place.stop(&mut desk, budget);
         lent.end(&mut till.seen);
+        self.tell_swept(rt);
         answer
     }
 }

@@ -90,6 +90,35 @@ fn a_list_of_events(rt: HostRuntime) {
     assert!(rt; is_held(&plain, 2, Holder::Direction(5)));
 }
 
+/// One process has all of eight arenas, each of the most bytes, in one block; another takes them over, and gives them back.
+#[test]
+fn the_largest_heap(rt: HostRuntime) {
+    const MOST: u32 = 134_217_728;
+    let config = Config {
+        arenas: 8,
+        bytes: MOST,
+        records: 2,
+        depth: 16,
+        wear: u64::from(MOST),
+    };
+    let mut plain = Plain::new(rt.alloc(), config).expect(&rt, "room");
+    for arena in 0..8u16 {
+        let r = arena.wrapping_mul(256);
+        let next = r.wrapping_add(1);
+        let rows = [
+            Row::Done(Event::Claim(0, r)),
+            Row::Done(Event::Carve(0, r, MOST)),
+            Row::Done(Event::Claim(0, next)),
+            Row::Refused(Event::Carve(0, next, 16)),
+            Row::Done(Event::Pass(0, r, 127)),
+            Row::Done(Event::Accept(31, r, 127)),
+            Row::Done(Event::GiveBack(31, r)),
+            Row::Refused(Event::Carve(0, next, 16)),
+        ];
+        assert_rows(&rt, &mut plain, &rows);
+    }
+}
+
 /// A new machine of a Config, and where a growth was refused, the one of the same call made again.
 fn grown(rt: &impl Abort, alloc: Global, config: Config) -> Plain {
     match Plain::new(alloc, config) {

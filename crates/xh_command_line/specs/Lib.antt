@@ -1,2 +1,4 @@
+pub mod Asked
 pub mod Unasked
 pub mod Status
+pub mod inner

@@ -1,7 +1,10 @@
 -- How a program ends whose words ask for no run.
-use Rattle.std.specs.Prelude.{◌≡◌, ◌⊎◌, ℕ}
+use Rattle.std.specs.Prelude.{◌≡◌, ◌⊎◌, ℕ, List}
+use Rattle.clap.specs.Walk.{Text}
+use Rattle.xh_command_line.specs.Asked.{AreWrong, AskText}
 use Rattle.xh_script.specs.declared.streams.Watched.{Watched}
 
--- help or the version was printed; or the words are wrong, or memory was refused, and nothing was printed
-abbrev pub IsUnasked : {W : Type 0} → Watched W → Watched W → ℕ → Type 0
-IsUnasked out out' status = (status ≡ 0) ⊎ (((status ≡ 2) ⊎ (status ≡ 3)) × (out' ≡ out))
+-- the help or the version that they ask for was printed; or nothing, since they are wrong, or memory was refused
+abbrev pub IsUnasked : {W : Type 0} → Text → List Text → Watched W → Watched W → ℕ → Type 0
+IsUnasked name words out out' status = ((status ≡ 0) × AskText name words)
+    ⊎ ((out' ≡ out) × (((status ≡ 2) × AreWrong name words) ⊎ (status ≡ 3)))

@@ -1,1 +1,3 @@
+mod InTurn
+mod Named
 mod Several

@@ -1,1 +1,3 @@
 pub mod Handles
+pub mod Overviews
+pub mod Values

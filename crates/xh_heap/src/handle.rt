@@ -3,24 +3,34 @@ ghost use Rattle.std.specs.Prelude.{IfOk, Ok};
 ghost use Rattle.xh_kernel.specs.Accounts.{AccountOf};
 ghost use Rattle.xh_kernel.specs.Waits.{SpawnsAt};
 
+use crate::overview::{Overview, OwnLook, arenas};
 use crate::process::Process;
+use crate::told::{
+    end_back, ends_at, given, is_back, recs_at, show_answered, show_block, show_ends, show_message,
+};
+use crate::values::{Answered, AsEnd, Block, End, Items, Message, Returned};
 use std::alloc::Global;
 use std::sync::{Mutex, Wait};
-use std::time::{Clock, Instant};
-use xh_core::{Block, Contract, Refused};
-use xh_kernel::{Account, Answered, Kernel, Names, OpenGate, Taken};
+use std::time::{Clock, Duration, Instant};
+use xh_core::{Contract, Refused};
+use xh_kernel::{Account, Kernel, Names, OpenGate};
 use xh_model::limits::MAX_BUDGET;
 
-/// The accounts that no handle has.
-pub(crate) type Spares<'k, N> = Mutex<Vec<&'k mut Account<N>>>;
+/// The longest that a call waits which waits for a time, in seconds.
+const LONGEST: u64 = 1 << 62;
 
-/// A process of a kernel, and an account that is its alone. There is room for the account among the spares, from which it came.
+/// The accounts that no handle has, each with a look.
+pub(crate) type Spares<'k, N> = Mutex<Vec<(&'k mut Account<N>, &'k mut OwnLook<N>)>>;
+
+/// A process of a kernel, and an account and a look that are its alone. There is room for these among the spares, from which they
+/// came.
 pub(crate) struct Handle<'a, 'k, N: Names, R: Wait> {
     rt: &'a R,
     alloc: Global,
     kernel: &'a Kernel<N>,
     spares: &'a Spares<'k, N>,
     account: &'k mut Account<N>,
+    look: &'k mut OwnLook<N>,
     number: u16,
 }
 
@@ -32,15 +42,16 @@ impl<'a, 'k, N: Names, R: Wait> Drop for Handle<'a, 'k, N, R> {
             kernel,
             spares,
             account,
+            look,
             number,
         } = self;
         let _bytes = kernel.exit(rt, number, MAX_BUDGET, account, &OpenGate);
-        let _ = spares.lock(rt).push(account);
+        let _ = spares.lock(rt).push((account, look));
     }
 }
 
 impl<'a, 'k, N: Names, R: Wait> Handle<'a, 'k, N, R> {
-    /// A new process, with a spare account. NoPlace where there is none, or no place.
+    /// A new process, with a spare account and its look. NoPlace where there is none, or no place.
     pub(crate) fn start(
         rt: &'a R,
         alloc: Global,
@@ -49,7 +60,7 @@ impl<'a, 'k, N: Names, R: Wait> Handle<'a, 'k, N, R> {
     ) -> Result<Handle<'a, 'k, N, R>, Refused>
         ensures { IfOk result (λ p. (before : AccountOf) × SpawnsAt N.parts N.leads before p.account.now (Ok p.number)) }
     {
-        let Some(account) = spares.lock(rt).pop() else {
+        let Some((account, look)) = spares.lock(rt).pop() else {
             return Err(Refused::NoPlace);
         };
         match kernel.spawn(rt, account, &OpenGate) {
@@ -59,14 +70,21 @@ impl<'a, 'k, N: Names, R: Wait> Handle<'a, 'k, N, R> {
                 kernel,
                 spares,
                 account,
+                look,
                 number,
             }),
             Err(refused) => {
-                let _ = spares.lock(rt).push(account);
+                let _ = spares.lock(rt).push((account, look));
                 Err(refused)
             }
         }
     }
+}
+
+// The time after so long; none where the clock can't be read.
+fn deadline<R: Clock>(rt: &R, time: Duration) -> Option<Instant> {
+    let now = Instant::now(rt).ok()?;
+    now.checked_add(time.min(Duration::from_secs(LONGEST)))
 }
 
 impl<'a, 'k, N: Names, R: Wait + Clock> Process for Handle<'a, 'k, N, R> {
@@ -76,7 +94,7 @@ impl<'a, 'k, N: Names, R: Wait + Clock> Process for Handle<'a, 'k, N, R> {
 
     ghost leads = { N.leads };
 
-    ghost handle = { λ p. record { number = p.number; account = p.account.now } };
+    ghost handle = { λ p. record { number = p.number; account = p.account.now; fronts = p.look.now.look.fronts } };
 
     type Runtime = &'a R;
 
@@ -94,135 +112,254 @@ impl<'a, 'k, N: Names, R: Wait + Clock> Process for Handle<'a, 'k, N, R> {
 
     fn alloc_in(&mut self, arena: u32, n: u32) -> Result<Block, Refused> {
         let (rt, alloc, p) = (self.rt, self.alloc, self.number);
-        self.kernel
-            .alloc(rt, alloc, p, n, arena, self.account, &OpenGate)
+        let told = self
+            .kernel
+            .alloc(rt, alloc, p, n, arena, self.account, &OpenGate);
+        show_block(p, told)
     }
 
-    fn split(&mut self, block: u16, k: u32) -> Result<(Block, Block), Refused> {
+    fn alloc_wait(&mut self, arena: u32, n: u32) -> Result<Block, Refused> {
         let (rt, alloc, p) = (self.rt, self.alloc, self.number);
-        self.kernel
-            .split(rt, alloc, p, block, k, self.account, &OpenGate)
+        let told = self
+            .kernel
+            .alloc_wait(rt, alloc, p, n, arena, self.account, &OpenGate);
+        show_block(p, told)
     }
 
-    fn read(&mut self, block: u16, at: u32, out: &mut [u8]) -> Result<(), Refused> {
+    fn alloc_for(&mut self, arena: u32, n: u32, time: Duration) -> Result<Block, Refused> {
+        let (rt, alloc, p) = (self.rt, self.alloc, self.number);
+        let Some(deadline) = deadline(rt, time) else {
+            return self.alloc_in(arena, n);
+        };
+        let told = self
+            .kernel
+            .alloc_wait_until(rt, alloc, p, n, arena, deadline, self.account, &OpenGate);
+        show_block(p, told)
+    }
+
+    fn put_in(&mut self, arena: u32, bytes: &mut Vec<u8>) -> Result<Block, Refused> {
         let (rt, p) = (self.rt, self.number);
-        self.kernel
-            .read(rt, p, block, at, out, self.account, &OpenGate)
+        let told = self
+            .kernel
+            .put(rt, p, bytes, arena, self.account, &OpenGate);
+        show_block(p, told)
     }
 
-    fn write(&mut self, block: u16, at: u32, bytes: &[u8]) -> Result<(), Refused> {
+    fn into_bytes(&mut self, block: Block) -> Result<Vec<u8>, Returned<Block>> {
         let (rt, p) = (self.rt, self.number);
-        self.kernel
-            .write(rt, p, block, at, bytes, self.account, &OpenGate)
+        let rec = block.name.at(p);
+        match self.kernel.into_bytes(rt, p, rec, self.account, &OpenGate) {
+            Ok(bytes) => Ok(bytes),
+            Err(why) => Err(Returned { why, value: block }),
+        }
     }
 
-    fn with_bytes<A, F: FnMut(&[u8]) -> A>(&mut self, block: u16, f: F) -> Result<A, Refused> {
+    fn split(&mut self, block: &mut Block, k: u32) -> Result<Block, Refused> {
+        let (rt, alloc, p) = (self.rt, self.alloc, self.number);
+        let rec = block.name.at(p);
+        match self
+            .kernel
+            .split(rt, alloc, p, rec, k, self.account, &OpenGate)
+        {
+            Ok((head, tail)) => {
+                *block = Block::of(p, head);
+                Ok(Block::of(p, tail))
+            }
+            Err(why) => Err(why),
+        }
+    }
+
+    fn read(&mut self, block: &Block, at: u32, out: &mut [u8]) -> Result<(), Refused> {
+        let (rt, p) = (self.rt, self.number);
+        let rec = block.name.at(p);
+        self.kernel
+            .read(rt, p, rec, at, out, self.account, &OpenGate)
+    }
+
+    fn write(&mut self, block: &Block, at: u32, bytes: &[u8]) -> Result<(), Refused> {
+        let (rt, p) = (self.rt, self.number);
+        let rec = block.name.at(p);
+        self.kernel
+            .write(rt, p, rec, at, bytes, self.account, &OpenGate)
+    }
+
+    fn with_bytes<A, F: FnMut(&[u8]) -> A>(&mut self, block: &Block, f: F) -> Result<A, Refused> {
         let (rt, p, mut f) = (self.rt, self.number, f);
+        let rec = block.name.at(p);
         self.kernel
-            .with_bytes(rt, p, block, &mut f, self.account, &OpenGate)
+            .with_bytes(rt, p, rec, &mut f, self.account, &OpenGate)
     }
 
     fn with_bytes_mut<A, F: FnMut(&mut [u8]) -> A>(
         &mut self,
-        block: u16,
+        block: &Block,
         f: F,
     ) -> Result<A, Refused> {
         let (rt, p, mut f) = (self.rt, self.number, f);
+        let rec = block.name.at(p);
         self.kernel
-            .with_bytes_mut(rt, p, block, &mut f, self.account, &OpenGate)
+            .with_bytes_mut(rt, p, rec, &mut f, self.account, &OpenGate)
     }
 
-    fn free(&mut self, block: u16) -> Result<u32, Refused> {
+    fn free(&mut self, block: Block) -> Result<u32, Returned<Block>> {
         let (rt, p) = (self.rt, self.number);
-        self.kernel.free(rt, p, block, self.account, &OpenGate)
+        let rec = block.name.at(p);
+        match self.kernel.free(rt, p, rec, self.account, &OpenGate) {
+            Ok(bytes) => Ok(bytes),
+            Err(why) => Err(Returned { why, value: block }),
+        }
     }
 
-    fn open(&mut self) -> Result<(Block, Block), Refused> {
+    fn open(&mut self) -> Result<(End, End), Refused> {
         let (rt, p) = (self.rt, self.number);
-        self.kernel.open(rt, p, 0, self.account, &OpenGate)
+        let told = self.kernel.open(rt, p, 0, self.account, &OpenGate);
+        show_ends(p, p, told)
     }
 
-    fn open_with(&mut self, contract: Contract) -> Result<(Block, Block), Refused> {
+    fn open_with(&mut self, contract: Contract) -> Result<(End, End), Refused> {
         let (rt, p) = (self.rt, self.number);
-        self.kernel
-            .open_with(rt, p, 0, contract, self.account, &OpenGate)
+        let told = self
+            .kernel
+            .open_with(rt, p, 0, contract, self.account, &OpenGate);
+        show_ends(p, p, told)
     }
 
-    fn wire_to(&mut self, other: u16) -> Result<(Block, Block), Refused> {
-        let (rt, p) = (self.rt, self.number);
-        self.kernel.wire(rt, p, other, 0, self.account, &OpenGate)
+    fn wire(&mut self, other: &Self) -> Result<(End, End), Refused> {
+        let (rt, p, q) = (self.rt, self.number, other.number);
+        let told = self.kernel.wire(rt, p, q, 0, self.account, &OpenGate);
+        show_ends(p, q, told)
     }
 
-    fn wire_to_with(&mut self, other: u16, contract: Contract) -> Result<(Block, Block), Refused> {
-        let (rt, p) = (self.rt, self.number);
-        self.kernel
-            .wire_with(rt, p, other, 0, contract, self.account, &OpenGate)
+    fn wire_with(&mut self, other: &Self, contract: Contract) -> Result<(End, End), Refused> {
+        let (rt, p, q) = (self.rt, self.number, other.number);
+        let told = self
+            .kernel
+            .wire_with(rt, p, q, 0, contract, self.account, &OpenGate);
+        show_ends(p, q, told)
     }
 
-    fn give(&mut self, end: u16, tag: u16, blocks: &[u16]) -> Result<u64, Refused> {
-        let (rt, p) = (self.rt, self.number);
-        self.kernel
-            .give(rt, p, end, tag, blocks, self.account, &OpenGate)
+    fn give(&mut self, end: &End, tag: u16, items: Items) -> Result<u64, Returned<Items>> {
+        let (rt, p, e) = (self.rt, self.number, end.name.at(self.number));
+        let recs = recs_at(p, items.as_slice());
+        let told = self
+            .kernel
+            .give(rt, p, e, tag, recs.as_slice(), self.account, &OpenGate);
+        given(p, items, told)
     }
 
-    fn give_wait(&mut self, end: u16, tag: u16, blocks: &[u16]) -> Result<u64, Refused> {
-        let (rt, p) = (self.rt, self.number);
-        self.kernel
-            .give_wait(rt, p, end, tag, blocks, self.account, &OpenGate)
-    }
-
-    fn give_wait_until(
+    fn give_block(
         &mut self,
-        end: u16,
+        end: &End,
         tag: u16,
-        blocks: &[u16],
-        deadline: Instant,
-    ) -> Result<u64, Refused> {
-        let (rt, p) = (self.rt, self.number);
-        self.kernel
-            .give_wait_until(rt, p, end, tag, blocks, deadline, self.account, &OpenGate)
+        block: Block,
+    ) -> Result<u64, Returned<Option<Block>>> {
+        let (rt, p, e) = (self.rt, self.number, end.name.at(self.number));
+        let rec = block.name.at(p);
+        match self
+            .kernel
+            .give(rt, p, e, tag, &[rec], self.account, &OpenGate)
+        {
+            Ok(number) => Ok(number),
+            Err(why) => {
+                let value = if is_back(&why, rec) {
+                    Some(block)
+                } else {
+                    None
+                };
+                Err(Returned { why, value })
+            }
+        }
     }
 
-    fn take(&mut self, end: u16) -> Result<Taken, Refused> {
-        let (rt, p) = (self.rt, self.number);
-        self.kernel.take(rt, p, end, self.account, &OpenGate)
+    fn give_wait(&mut self, end: &End, tag: u16, items: Items) -> Result<u64, Returned<Items>> {
+        let (rt, p, e) = (self.rt, self.number, end.name.at(self.number));
+        let recs = recs_at(p, items.as_slice());
+        let told = self
+            .kernel
+            .give_wait(rt, p, e, tag, recs.as_slice(), self.account, &OpenGate);
+        given(p, items, told)
     }
 
-    fn take_wait(&mut self, end: u16) -> Result<Taken, Refused> {
-        let (rt, p) = (self.rt, self.number);
-        self.kernel.take_wait(rt, p, end, self.account, &OpenGate)
-    }
-
-    fn take_wait_until(&mut self, end: u16, deadline: Instant) -> Result<Taken, Refused> {
-        let (rt, p) = (self.rt, self.number);
-        self.kernel
-            .take_wait_until(rt, p, end, deadline, self.account, &OpenGate)
-    }
-
-    fn take_any(&mut self, ends: &[u16]) -> Result<Answered, Refused> {
-        let (rt, p) = (self.rt, self.number);
-        self.kernel.take_any(rt, p, ends, self.account, &OpenGate)
-    }
-
-    fn take_any_wait(&mut self, ends: &[u16]) -> Result<Answered, Refused> {
-        let (rt, p) = (self.rt, self.number);
-        self.kernel
-            .take_any_wait(rt, p, ends, self.account, &OpenGate)
-    }
-
-    fn take_any_wait_until(
+    fn give_for(
         &mut self,
-        ends: &[u16],
-        deadline: Instant,
-    ) -> Result<Answered, Refused> {
-        let (rt, p) = (self.rt, self.number);
-        self.kernel
-            .take_any_wait_until(rt, p, ends, deadline, self.account, &OpenGate)
+        end: &End,
+        tag: u16,
+        items: Items,
+        time: Duration,
+    ) -> Result<u64, Returned<Items>> {
+        let (rt, p, e) = (self.rt, self.number, end.name.at(self.number));
+        let Some(deadline) = deadline(rt, time) else {
+            return self.give(end, tag, items);
+        };
+        let recs = recs_at(p, items.as_slice());
+        let blocks = recs.as_slice();
+        let told = self
+            .kernel
+            .give_wait_until(rt, p, e, tag, blocks, deadline, self.account, &OpenGate);
+        given(p, items, told)
     }
 
-    fn close(&mut self, end: u16) -> Result<u64, Refused> {
+    fn take(&mut self, end: &End) -> Result<Message, Refused> {
+        let (rt, p, e) = (self.rt, self.number, end.name.at(self.number));
+        show_message(p, self.kernel.take(rt, p, e, self.account, &OpenGate))
+    }
+
+    fn take_wait(&mut self, end: &End) -> Result<Message, Refused> {
+        let (rt, p, e) = (self.rt, self.number, end.name.at(self.number));
+        show_message(p, self.kernel.take_wait(rt, p, e, self.account, &OpenGate))
+    }
+
+    fn take_for(&mut self, end: &End, time: Duration) -> Result<Message, Refused> {
+        let (rt, p, e) = (self.rt, self.number, end.name.at(self.number));
+        let Some(deadline) = deadline(rt, time) else {
+            return self.take(end);
+        };
+        let told = self
+            .kernel
+            .take_wait_until(rt, p, e, deadline, self.account, &OpenGate);
+        show_message(p, told)
+    }
+
+    fn take_any<E: AsEnd>(&mut self, ends: &[E]) -> Result<Answered, Refused> {
         let (rt, p) = (self.rt, self.number);
-        self.kernel.close(rt, p, end, self.account, &OpenGate)
+        let recs = ends_at(p, ends);
+        let told = self
+            .kernel
+            .take_any(rt, p, recs.as_slice(), self.account, &OpenGate);
+        show_answered(p, told)
+    }
+
+    fn take_any_wait<E: AsEnd>(&mut self, ends: &[E]) -> Result<Answered, Refused> {
+        let (rt, p) = (self.rt, self.number);
+        let recs = ends_at(p, ends);
+        let told = self
+            .kernel
+            .take_any_wait(rt, p, recs.as_slice(), self.account, &OpenGate);
+        show_answered(p, told)
+    }
+
+    fn take_any_for<E: AsEnd>(&mut self, ends: &[E], time: Duration) -> Result<Answered, Refused> {
+        let (rt, p) = (self.rt, self.number);
+        let Some(deadline) = deadline(rt, time) else {
+            return self.take_any(ends);
+        };
+        let recs = ends_at(p, ends);
+        let looked = recs.as_slice();
+        let told = self
+            .kernel
+            .take_any_wait_until(rt, p, looked, deadline, self.account, &OpenGate);
+        show_answered(p, told)
+    }
+
+    fn close(&mut self, end: End) -> Result<u64, Returned<Option<End>>> {
+        let (rt, p, e) = (self.rt, self.number, end.name.at(self.number));
+        match self.kernel.close(rt, p, e, self.account, &OpenGate) {
+            Ok(bytes) => Ok(bytes),
+            Err(why) => {
+                let value = end_back(&why, end);
+                Err(Returned { why, value })
+            }
+        }
     }
 
     fn exit(&mut self) -> Result<u64, Refused> {
@@ -234,5 +371,12 @@ impl<'a, 'k, N: Names, R: Wait + Clock> Process for Handle<'a, 'k, N, R> {
         let (rt, p) = (self.rt, self.number);
         self.kernel
             .kill(rt, p, victim, MAX_BUDGET, self.account, &OpenGate)
+    }
+
+    fn overview(&mut self) -> Overview {
+        Overview {
+            arenas: arenas(self.rt, self.kernel, self.account),
+            places: self.look.places(self.kernel),
+        }
     }
 }

@@ -4,15 +4,25 @@
 
 mod closed;
 mod handle;
+mod host;
 mod job;
+mod overview;
 mod process;
 mod running;
+mod starter;
+mod threads;
+mod told;
+mod values;
 
 pub use closed::Closed;
-pub use job::{Job, Team, block_of};
+pub use host::Host;
+pub use job::{Job, Team};
+pub use overview::{Overview, Seen};
 pub use process::Process;
 pub use running::{one_arena, run};
-pub use std::time::Instant;
+pub use starter::Starter;
+pub use std::time::Duration;
+pub use values::{Answered, AsEnd, Block, End, Item, Items, Message, Returned};
 pub use xh_books::Books;
-pub use xh_core::{Block, Config, Contract, Refused, Row};
-pub use xh_kernel::{Answered, Got, Taken};
+pub use xh_core::{Config, Contract, Glance, Refused, Row, Status};
+pub use xh_kernel::Awaited;

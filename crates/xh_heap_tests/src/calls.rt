@@ -1,24 +1,27 @@
 //! Each call of a process, with ample memory.
 use std::alloc::Global;
 use xh_heap::{
-    Answered, Config, Contract, Instant, Job, Process, Refused, Row, Taken, Team, block_of,
-    one_arena, run,
+    Answered, Config, Contract, Duration, Item, Items, Job, Message, Process, Refused, Returned,
+    Row, Team, one_arena, run,
 };
 
 /// A number that a call answered, or 1000 and the number of its refusal.
-pub fn code(answer: Result<u64, Refused>) -> u64 {
+pub fn code<E: Into<Refused>>(answer: Result<u64, E>) -> u64 {
     match answer {
         Ok(number) => number,
-        Err(refused) => 1000 + u64::from(refused.number()),
+        Err(why) => {
+            let refused: Refused = why.into();
+            1000 + u64::from(refused.number())
+        }
     }
 }
 
 /// The tag of a message.
-pub fn tag_of(answer: Result<Taken, Refused>) -> u64 {
+pub fn tag_of(answer: Result<Message, Refused>) -> u64 {
     code(answer.map(|message| u64::from(message.tag)))
 }
 
-/// The same, and 100 for each endpoint before its own.
+/// The same, and 100 for each end before its own.
 pub fn tag_at(answer: Result<Answered, Refused>) -> u64 {
     code(answer.map(|a| {
         let before = (a.at as u64).wrapping_mul(100);
@@ -28,59 +31,74 @@ pub fn tag_at(answer: Result<Answered, Refused>) -> u64 {
 
 /// Blocks are made, cut, written, read and freed.
 fn blocks<P: Process>(own: &mut P) -> Result<[u64; 8], Refused> {
-    let block = own.alloc(40)?;
+    let mut head = own.alloc(40)?;
+    let len = head.len();
     let other = own.alloc_in(1, 16)?;
-    let (head, tail) = own.split(block.rec, 16)?;
-    own.write(tail.rec, 30, b"ab")?;
+    let tail = own.split(&mut head, 16)?;
+    own.write(&tail, 30, b"ab")?;
     let mut bytes = [0; 3];
-    own.read(tail.rec, 29, &mut bytes)?;
+    own.read(&tail, 29, &mut bytes)?;
     Ok([
-        u64::from(block.len),
-        u64::from(other.rec),
-        u64::from(head.len),
-        u64::from(tail.len),
+        u64::from(len),
+        code(own.split(&mut head, 16).map(|b| u64::from(b.len()))),
+        u64::from(head.len()),
+        u64::from(tail.len()),
         u64::from(bytes[2]),
-        u64::from(own.free(tail.rec)?),
-        code(own.free(tail.rec).map(u64::from)),
-        code(own.alloc_in(2, 16).map(|b| u64::from(b.len))),
+        u64::from(own.free(tail)?),
+        u64::from(own.free(other)?),
+        code(own.alloc_in(2, 16).map(|b| u64::from(b.len()))),
     ])
 }
 
-/// Messages go over, and takes find them, or nothing until a time that is past.
+/// A message's items: one of them.
+pub fn one(item: Item) -> Items {
+    let mut items = Items::new();
+    items.push(item);
+    items
+}
+
+/// Messages go over, and takes find them, or nothing within a time that is nothing.
 fn messages<P: Process>(one: &mut P, other: &mut P) -> Result<[u64; 8], Refused> {
-    let past = Instant::now(&other.rt()).map_err(|_unread| Refused::Empty)?;
     let (out, into) = one.wire(other)?;
-    let block = one.alloc(16)?.rec;
-    let first = one.give(out.rec, 7, &[block])?;
-    let second = one.give(out.rec, 8, &[])?;
-    let message = other.take(into.rec)?;
-    other.free(block_of(&message, 0)?)?;
+    let block = one.alloc(16)?;
+    let first = one.give_block(&out, 7, block)?;
+    let second = one.give(&out, 8, Items::new())?;
+    let message = other.take(&into)?;
+    let tag = message.tag;
+    other.free(message.block()?)?;
     Ok([
         first,
         second,
-        u64::from(message.tag),
-        code(block_of(&message, 1).map(u64::from)),
-        tag_at(other.take_any(&[into.rec])),
-        tag_at(other.take_any(&[into.rec])),
-        tag_of(other.take_wait_until(into.rec, past)),
-        tag_at(other.take_any_wait_until(&[into.rec], past)),
+        u64::from(tag),
+        tag_at(other.take_any(&[&into])),
+        tag_at(other.take_any(&[&into])),
+        tag_of(other.take_for(&into, Duration::ZERO)),
+        tag_at(other.take_any_for(&[&into], Duration::ZERO)),
+        code(other.take(&out).map(|message| message.no)),
     ])
 }
 
-/// Messages go over while there is room; behind four a block comes back at a time that is past, and goes once one was taken.
-fn rooms<P: Process>(one: &mut P, other: &mut P) -> Result<[u64; 8], Refused> {
-    let past = Instant::now(&one.rt()).map_err(|_unread| Refused::Empty)?;
-    let (out, into) = one.wire(other)?;
-    let block = one.alloc(16)?.rec;
+/// Messages go over while there is room; behind four a block comes back, and goes once one was taken.
+fn rooms<P: Process>(own: &mut P, other: &mut P) -> Result<[u64; 8], Refused> {
+    let (out, into) = own.wire(other)?;
+    let first = code(own.give_wait(&out, 1, Items::new()));
+    let second = code(own.give_for(&out, 2, Items::new(), Duration::ZERO));
+    let third = code(own.give(&out, 3, Items::new()));
+    let fourth = code(own.give_wait(&out, 4, Items::new()));
+    let block = one(Item::Block(own.alloc(16)?));
+    let (full, block) = back(own.give_for(&out, 5, block, Duration::ZERO))?;
+    let taken = tag_of(other.take_wait(&into));
+    let fifth = code(own.give_wait(&out, 6, block));
+    other.take_any(&[into])?;
     Ok([
-        code(one.give_wait(out.rec, 1, &[])),
-        code(one.give_wait_until(out.rec, 2, &[], past)),
-        code(one.give(out.rec, 3, &[])),
-        code(one.give_wait(out.rec, 4, &[])),
-        code(one.give_wait_until(out.rec, 5, &[block], past)),
-        tag_of(other.take_wait(into.rec)),
-        code(one.give_wait(out.rec, 6, &[block])),
-        code(one.free(block).map(u64::from)),
+        first,
+        second,
+        third,
+        fourth,
+        full,
+        taken,
+        fifth,
+        code(own.close(out)),
     ])
 }
 
@@ -95,18 +113,58 @@ pub const FIVES: &[Row] = &[Row {
 /// Channels of one process and of two, under a contract and without one; an end is closed.
 fn channels<P: Process>(own: &mut P, other: &mut P) -> Result<[u64; 8], Refused> {
     let (low, high) = own.open()?;
-    own.give(low.rec, 3, &[])?;
+    own.give(&low, 3, Items::new())?;
     let (ruled, _) = own.open_with(Contract::new(FIVES)?)?;
     let (wired, at_other) = own.wire_with(other, Contract::new(FIVES)?)?;
     Ok([
-        tag_of(own.take(high.rec)),
-        code(own.give(ruled.rec, 4, &[])),
-        code(own.give(ruled.rec, 5, &[])),
-        code(own.give(wired.rec, 4, &[])),
-        code(own.give(wired.rec, 5, &[])),
-        tag_of(other.take(at_other.rec)),
-        code(own.close(low.rec)),
-        tag_of(own.take(high.rec)),
+        tag_of(own.take(&high)),
+        code(own.give(&ruled, 4, Items::new())),
+        code(own.give(&ruled, 5, Items::new())),
+        code(own.give(&wired, 4, Items::new())),
+        code(own.give(&wired, 5, Items::new())),
+        tag_of(other.take(&at_other)),
+        code(own.close(low)),
+        tag_of(own.take(&high)),
+    ])
+}
+
+/// What a refused call handed back, and the number of its refusal.
+fn back<V: Drop>(answer: Result<u64, Returned<V>>) -> Result<(u64, V), Refused> {
+    match answer {
+        Ok(_number) => Err(Refused::Empty),
+        Err(Returned { why, value }) => Ok((u64::from(why.number()), value)),
+    }
+}
+
+/// Values name nothing at another's handle, and come back from what is refused; what goes over is what it was.
+fn values<P: Process>(own: &mut P, other: &mut P) -> Result<[u64; 8], Refused> {
+    let (out, into) = own.wire(other)?;
+    let (low, high) = own.open()?;
+    let block = own.alloc(16)?;
+    let read = code(other.read(&block, 0, &mut [0]).map(|_read| 0));
+    let (freed, block) = back(other.free(block).map(u64::from))?;
+    let missing = code(own.give(&low, 1, one(Item::Missing)));
+    let mut both = one(Item::Block(block));
+    let _ = both.try_push(Item::End(high));
+    let given = code(own.give(&out, 1, both));
+    let mut items = other.take(&into)?.items.into_iter();
+    let (Some(Item::Block(block)), Some(Item::End(end))) = (items.next(), items.next()) else {
+        return Err(Refused::Empty);
+    };
+    own.give(&low, 9, Items::new())?;
+    let (closed, into) = back(own.close(into))?;
+    other.close(into.ok_or(Refused::NotOwned)?)?;
+    let mine = own.alloc(32)?;
+    let (lost, mine) = back(own.give_block(&out, 2, mine))?;
+    Ok([
+        read,
+        freed,
+        missing,
+        given,
+        tag_of(other.take(&end)),
+        closed,
+        lost,
+        u64::from(own.free(mine.ok_or(Refused::NotOwned)?)?) + u64::from(other.free(block)?),
     ])
 }
 
@@ -119,15 +177,21 @@ fn spawn_all<P: Process>(own: &P, alloc: Global, count: u8) -> Result<u64, Refus
     Ok(0)
 }
 
-/// Processes end, or are killed; of 33 handles 30 are left, which come back, and so do the places.
+/// Processes end, or are killed, and a block of one names nothing to whoever has its record next; of 33 handles 30 are left, which
+/// come back, and so do the places.
 fn endings<P: Process>(own: &mut P, other: &mut P, alloc: Global) -> Result<[u64; 8], Refused> {
     let mut third = own.spawn()?;
-    third.alloc(16)?;
+    let old = third.alloc(16)?;
+    let killed = code(own.kill(third.number()));
+    let again = own.alloc(16)?;
+    let stale = code(own.free(old).map(u64::from));
+    own.free(again)?;
+    other.exit()?;
     Ok([
         u64::from(third.number()),
-        code(own.kill(third.number())),
-        code(third.alloc(16).map(|b| u64::from(b.len))),
-        code(other.exit().map(|_bytes| 0)),
+        killed,
+        code(third.alloc(16).map(|b| u64::from(b.len()))),
+        stale,
         code(own.kill(77)),
         code(spawn_all(own, alloc, 30)),
         code(spawn_all(own, alloc, 31)),
@@ -135,27 +199,52 @@ fn endings<P: Process>(own: &mut P, other: &mut P, alloc: Global) -> Result<[u64
     ])
 }
 
-/// A block is filled and looked at where it lies; not an end, nor a block that is gone, nor by a process that has ended.
+/// A block is filled and looked at where it lies; not by another process, nor by one that has ended.
 fn in_place<P: Process>(own: &mut P, ended: &mut P) -> Result<[u64; 8], Refused> {
-    let block = own.alloc(32)?.rec;
-    let (end, _) = own.open()?;
-    let count = own.with_bytes_mut(block, |bytes: &mut [u8]| {
+    let block = own.alloc(32)?;
+    let mut next = own.spawn()?;
+    let count = own.with_bytes_mut(&block, |bytes: &mut [u8]| {
         bytes.fill(7);
         bytes.len() as u64
     })?;
     let mut last = [0];
-    own.read(block, 31, &mut last)?;
-    let first = own.with_bytes(block, |bytes: &[u8]| bytes.first().copied())?;
-    own.free(block)?;
+    own.read(&block, 31, &mut last)?;
+    let first = own.with_bytes(&block, |bytes: &[u8]| bytes.first().copied())?;
     Ok([
         count,
         u64::from(last[0]),
         first.map_or(0, u64::from),
-        code(own.with_bytes(block, |_: &[u8]| 0)),
-        code(own.with_bytes_mut(block, |_: &mut [u8]| 0)),
-        code(own.with_bytes(end.rec, |_: &[u8]| 0)),
-        code(own.with_bytes_mut(end.rec, |_: &mut [u8]| 0)),
-        code(ended.with_bytes_mut(block, |_: &mut [u8]| 0)),
+        code(next.with_bytes(&block, |_: &[u8]| 0)),
+        code(next.with_bytes_mut(&block, |_: &mut [u8]| 0)),
+        code(ended.with_bytes(&block, |_: &[u8]| 0)),
+        code(ended.with_bytes_mut(&block, |_: &mut [u8]| 0)),
+        code(own.free(block).map(u64::from)),
+    ])
+}
+
+/// Bytes become a block without a copy, and come back with the zeros behind them; what is refused keeps its bytes. Where no memory
+/// comes, a wait for it ends.
+fn buffers<P: Process>(own: &mut P, alloc: Global) -> Result<[u64; 8], Refused> {
+    let mut bytes = vec![in alloc; 7u8; 5]?;
+    let block = own.put(&mut bytes)?;
+    let left = bytes.len() as u64;
+    let none = code(own.put(&mut bytes).map(|b| u64::from(b.len())));
+    let len = block.len();
+    let back = own.into_bytes(block)?;
+    let mut large = vec![in alloc; 0u8; 5000]?;
+    let full = own.alloc_wait(1, 4096)?;
+    Ok([
+        left,
+        none,
+        u64::from(len),
+        back.len() as u64,
+        u64::from(back.get(4).copied().unwrap_or(0)),
+        code(own.put_in(1, &mut large).map(|b| u64::from(b.len()))),
+        code(
+            own.alloc_for(1, 16, Duration::ZERO)
+                .map(|b| u64::from(b.len())),
+        ),
+        u64::from(own.free(full)?),
     ])
 }
 
@@ -166,7 +255,7 @@ struct Calls(Global);
 impl Job for Calls {
     type Plan = ();
 
-    type Answer = Result<[[u64; 8]; 6], Refused>;
+    type Answer = Result<[[u64; 8]; 8], Refused>;
 
     fn plan<P: Process>(&self, _team: &mut Team<P>) -> Result<(), Refused> {
         Ok(())
@@ -179,6 +268,8 @@ impl Job for Calls {
             messages(own, &mut other)?,
             rooms(own, &mut other)?,
             channels(own, &mut other)?,
+            values(own, &mut other)?,
+            buffers(own, self.0)?,
             endings(own, &mut other, self.0)?,
             in_place(own, &mut other)?,
         ])
@@ -187,13 +278,15 @@ impl Job for Calls {
 
 #[test]
 fn each_call(rt: HostRuntime) {
-    const EXPECTED: [[u64; 8]; 6] = [
-        [48, 256, 16, 32, 98, 32, 1006, 1003],
-        [1, 2, 7, 1006, 8, 1016, 1016, 1016],
-        [1, 2, 3, 4, 1014, 1, 5, 1006],
+    const EXPECTED: [[u64; 8]; 8] = [
+        [48, 1009, 16, 32, 98, 32, 16, 1003],
+        [1, 2, 7, 8, 1016, 1016, 1016, 1006],
+        [1, 2, 3, 4, 14, 1, 5, 32],
         [3, 1022, 1, 1022, 1, 5, 32, 1015],
-        [2, 16, 1012, 0, 1011, 0, 1021, 97],
-        [32, 7, 7, 1006, 1006, 1007, 1007, 1012],
+        [1006, 6, 1006, 1, 9, 6, 15, 48],
+        [0, 1002, 16, 16, 7, 1002, 1004, 4096],
+        [2, 16, 1012, 1006, 1011, 0, 1021, 97],
+        [32, 7, 7, 1006, 1006, 1012, 1012, 32],
     ];
     let config = Config {
         arenas: 2,

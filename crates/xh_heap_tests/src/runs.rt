@@ -1,7 +1,11 @@
 //! Whole runs: their limits, refused plans, handles that are dropped, and refused growths.
 use crate::calls::{FIVES, code, tag_at, tag_of};
+use std::alloc::Global;
 use std::process::Abort;
-use xh_heap::{Closed, Contract, Job, Process, Refused, Team, one_arena, run};
+use std::time::Duration;
+use xh_heap::{
+    Closed, Contract, End, Items, Job, Overview, Process, Refused, Team, one_arena, run,
+};
 
 /// The first of two waits for messages of the second, which gives two, and ends; the others do nothing.
 struct Waits;
@@ -9,26 +13,24 @@ struct Waits;
 type Heard = Result<[u64; 3], Refused>;
 
 impl Job for Waits {
-    type Plan = (u16, u16);
+    type Plan = (End, End);
 
     type Answer = Heard;
 
-    fn plan<P: Process>(&self, team: &mut Team<P>) -> Result<(u16, u16), Refused> {
-        let (into, out) = team.wire(0, 1)?;
-        Ok((into.rec, out.rec))
+    fn plan<P: Process>(&self, team: &mut Team<P>) -> Result<(End, End), Refused> {
+        team.wire(0, 1)
     }
 
-    fn work<P: Process>(&self, ends: &(u16, u16), index: usize, own: &mut P) -> Heard {
-        let (into, out) = *ends;
+    fn work<P: Process>(&self, (into, out): &(End, End), index: usize, own: &mut P) -> Heard {
         if index == 0 {
             let first = tag_of(own.take_wait(into));
             let second = tag_at(own.take_any_wait(&[into]));
             return Ok([first, second, tag_of(own.take_wait(into))]);
         }
         if index == 1 {
-            let block = own.alloc(48)?.rec;
-            own.give(out, 1, &[block])?;
-            own.give(out, 2, &[])?;
+            let block = own.alloc(48)?;
+            own.give_block(out, 1, block)?;
+            own.give(out, 2, Items::new())?;
         }
         Ok([0; 3])
     }
@@ -57,16 +59,16 @@ impl Job for Planned {
     fn plan<P: Process>(&self, team: &mut Team<P>) -> Result<[u64; 4], Refused> {
         let (out, into) = team.wire_with(1, 0, Contract::new(FIVES)?)?;
         Ok([
-            code(team.at(1)?.give(out.rec, 4, &[])),
-            code(team.at(1)?.give(out.rec, 5, &[])),
-            tag_of(team.at(0)?.take(into.rec)),
-            code(team.at(0)?.give(into.rec, 5, &[])),
+            code(team.at(1)?.give(&out, 4, Items::new())),
+            code(team.at(1)?.give(&out, 5, Items::new())),
+            tag_of(team.at(0)?.take(&into)),
+            code(team.at(0)?.give(&into, 5, Items::new())),
         ])
     }
 
     fn work<P: Process>(&self, _plan: &[u64; 4], index: usize, own: &mut P) -> (usize, u64) {
         let size = u32::from(own.number()).wrapping_mul(16).wrapping_add(16);
-        (index, code(own.alloc(size).map(|b| u64::from(b.len))))
+        (index, code(own.alloc(size).map(|b| u64::from(b.len()))))
     }
 }
 
@@ -89,23 +91,90 @@ fn each_does_its_work_once(rt: HostRuntime) {
 struct Locked;
 
 impl Job for Locked {
-    type Plan = [u16; 3];
+    type Plan = ((End, End), u16);
 
     type Answer = u64;
 
-    fn plan<P: Process>(&self, team: &mut Team<P>) -> Result<[u16; 3], Refused> {
-        let (one, other) = team.wire(0, 1)?;
-        Ok([one.rec, other.rec, team.at(0)?.number()])
+    fn plan<P: Process>(&self, team: &mut Team<P>) -> Result<Self::Plan, Refused> {
+        Ok((team.wire(0, 1)?, team.at(0)?.number()))
     }
 
-    fn work<P: Process>(&self, plan: &[u16; 3], index: usize, own: &mut P) -> u64 {
-        let [one, other, first] = *plan;
+    fn work<P: Process>(&self, plan: &Self::Plan, index: usize, own: &mut P) -> u64 {
+        let ((one, other), first) = plan;
         match index {
             0 => tag_of(own.take_wait(one)),
             1 => tag_of(own.take_wait(other)),
-            _ => code(own.kill(first)),
+            _ => code(own.kill(*first)),
         }
     }
+}
+
+/// What is seen once the first three wait.
+fn see_stalled<P: Process>(own: &mut P, quiet: &End) -> Overview {
+    for _ in own.rt().forever() {
+        let _nobody_gives = own.take_for(quiet, Duration::from_millis(20));
+        let seen = own.overview();
+        if seen.places.iter().filter(|s| s.awaits.is_some()).count() == 3 {
+            return seen;
+        }
+    }
+    unreachable!()
+}
+
+/// The first waits for a message of the second, which waits for room toward it; a third waits at several ends, of which it has
+/// one. The fourth, after a time, sees who waits where, and ends them.
+#[derive(Drop)]
+struct Stalled(Global);
+
+impl Job for Stalled {
+    type Plan = [End; 4];
+
+    type Answer = Result<String, Refused>;
+
+    fn plan<P: Process>(&self, team: &mut Team<P>) -> Result<[End; 4], Refused> {
+        let (first, _) = team.wire(0, 1)?;
+        let (second, _) = team.wire(1, 0)?;
+        let (third, _) = team.wire(2, 0)?;
+        let (fourth, _) = team.wire(3, 0)?;
+        Ok([first, second, third, fourth])
+    }
+
+    fn work<P: Process>(&self, ends: &[End; 4], index: usize, own: &mut P) -> Self::Answer {
+        let end = &ends[index % 4];
+        match index {
+            0 => {
+                own.take_wait(end)?;
+            }
+            1 => {
+                for _ in 0..5 {
+                    own.give_wait(end, 0, Items::new())?;
+                }
+            }
+            2 => {
+                own.take_any_wait(&[end])?;
+            }
+            _ => {
+                let seen = see_stalled(own, end);
+                for number in 0..3 {
+                    let _bytes = own.kill(number);
+                }
+                return Ok(format!(in self.0; "{seen}")?);
+            }
+        }
+        Ok(String::new(self.0))
+    }
+}
+
+/// Each is told to wait where it does, and ends by the kill.
+#[test]
+fn who_waits_is_seen(rt: HostRuntime) {
+    const SEEN: &str =
+        "arena 0 1024 256 1 256 0\nprocess 0 running 4 128 awaits message 0 0\nprocess 1 running 2 64 awaits room 1 0\n\
+    process 2 running 1 32 awaits messages\nprocess 3 running 1 32\n";
+    let job = Stalled(rt.alloc());
+    let mut closed = run(&rt, rt.alloc(), one_arena(1024), 4, &job).expect(&rt, "room");
+    let seen = closed.answers.pop().expect(&rt, "the fourth");
+    assert_eq!(rt; seen.expect(&rt, "what it saw").as_str(), SEEN);
 }
 
 /// A run of which a thread is refused begins no work, and says so. The gate refuses each in turn.
@@ -149,7 +218,7 @@ fn told(answer: Option<&Heard>) -> [u64; 3] {
 }
 
 /// Whether a run was whole. Else memory was refused to it, or to the second worker, whose end the first was told.
-fn is_whole(rt: &impl Abort, ran: &Result<Closed<(u16, u16), Heard>, Refused>) -> bool {
+fn is_whole(rt: &impl Abort, ran: &Result<Closed<(End, End), Heard>, Refused>) -> bool {
     match ran {
         Ok(closed) => {
             let first = told(closed.answers.first());

@@ -2,29 +2,28 @@
 //! and the other counts its words.
 #![tactic(auto)]
 
-use xh_heap::{Job, Process, Refused, Team, block_of, one_arena, run};
+use xh_heap::{End, Job, Process, Refused, Team, one_arena, run};
 
 struct Count;
 
 impl Job for Count {
-    type Plan = (u16, u16);
+    type Plan = (End, End);
 
     type Answer = Result<usize, Refused>;
 
-    fn plan<P: Process>(&self, team: &mut Team<P>) -> Result<(u16, u16), Refused> {
-        let (out, into) = team.wire(0, 1)?;
-        Ok((out.rec, into.rec))
+    fn plan<P: Process>(&self, team: &mut Team<P>) -> Result<(End, End), Refused> {
+        team.wire(0, 1)
     }
 
-    fn work<P: Process>(&self, ends: &(u16, u16), index: usize, own: &mut P) -> Self::Answer {
+    fn work<P: Process>(&self, ends: &(End, End), index: usize, own: &mut P) -> Self::Answer {
         if index == 0 {
-            let block = own.alloc(64)?.rec;
-            own.write(block, 0, b"to be or not to be")?;
-            own.give(ends.0, 0, &[block])?;
+            let block = own.alloc(64)?;
+            own.write(&block, 0, b"to be or not to be")?;
+            own.give_block(&ends.0, 0, block)?;
             return Ok(0);
         }
-        let message = own.take_wait(ends.1)?;
-        own.with_bytes(block_of(&message, 0)?, |text: &[u8]| {
+        let block = own.take_wait(&ends.1)?.block()?;
+        own.with_bytes(&block, |text: &[u8]| {
             text.split(|byte| *byte == b' ').count()
         })
     }

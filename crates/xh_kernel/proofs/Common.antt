@@ -1,5 +1,5 @@
 -- The names that most proofs cite, passed on from one place. Declares nothing.
-pub use Rattle.std.proofs.Common.{All, Err, IfErr, List, MatchResult, Ok, OnOk, Result, Some, [], ap, append-nil, arith, drop, false, get_or, get_or-set_other, length, refl, rules, set}
+pub use Rattle.std.proofs.Common.{All, Err, IfErr, List, MatchResult, Ok, OnErr, OnOk, Result, Some, [], ap, append-nil, arith, drop, false, get_or, get_or-set_other, length, refl, rules, set}
 pub use Rattle.std.proofs.Common.{slice_index_or, slice_set, subst, suc, sym, true, vec_len, ℕ, ◌*◌, ◌++◌, ◌+◌, ◌-◌, ◌<◌, ◌∙◌, ◌∷◌, ◌≡◌, ◌≤◌}
 pub use Rattle.std.proofs.lemmas.List.{get_or-map, get_or_default, map-set, set-get_or}
 pub use Rattle.std.proofs.lemmas.List.Elements.{All-cons, All-tail}
@@ -15,7 +15,7 @@ pub use Rattle.xh_calls.specs.Leading.{Leading}
 pub use Rattle.xh_calls.specs.Places.{status_at}
 pub use Rattle.xh_place.proofs.Events.{stays_again, stays_itself}
 pub use Rattle.xh_place.proofs.Seeing.{did_starts}
-pub use Rattle.xh_kernel.specs.Accounts.{AccountOf, AreFresh, IsUnmoved, seen_of}
+pub use Rattle.xh_kernel.specs.Accounts.{AccountOf, AreFresh, IsStill, IsUnmoved, seen_of}
 pub use Rattle.xh_kernel.specs.Calls.{Calls, Noted, Steps}
 pub use Rattle.xh_kernel.specs.Did.{DidGive, DidTake, DidTakeAny}
 pub use Rattle.xh_kernel.specs.Finished.{AreInOrder, AreSeen, LookHasSeen, histories_of, tallies_of}
@@ -28,7 +28,7 @@ pub use Rattle.xh_calls.specs.declared.call.Entry.{Entry}
 pub use Rattle.xh_calls.specs.declared.call.Call.TheVariants.{Close, CloseAgain, Receive, Stop, Take, TakeAny}
 pub use Rattle.xh_kernel.specs.inner.Making.{IsFirstSeat}
 pub use Rattle.xh_model.specs.declared.limits.TheConstants.{END_BYTES, PLACES}
-pub use Rattle.xh_place.specs.Ending.{HasGivenBack, back_of, but_back}
+pub use Rattle.xh_place.specs.Ending.{HasGivenBack}
 pub use Rattle.xh_place.specs.Places.{IsPlaceOf, glance_of, total_of}
 pub use Rattle.xh_place.specs.Seen.{IsSamePlace, PlaceSeen, Stays}
 pub use Rattle.std.proofs.Math.Logic.{∥∥₁_elim, ∥∥₁_map}

@@ -1,6 +1,7 @@
 -- A block's bytes in the hands of a function: the entries that tell of it.
-use Rattle.xh_kernel.proofs.Common.{AccountOf, Bool, Call, Calls, Does, Err, IsSamePlace, IsUnmoved, Leading, LendsAll, LendsAllMut, List, None, Noted, Ok, Option, PartsOf, PlaceSeen, Refused, Result, Some}
-use Rattle.xh_kernel.proofs.Common.{Stays, Steps, [], ap, append-nil, arith, at, cond, drop, false, length, option_map, place_of, status_at, subst, sym, unwrap_or, ℕ, ◌++◌, ◌+◌, ◌∙◌, ◌∷◌, ◌≡◌, ◌≤◌}
+use Rattle.xh_kernel.proofs.Common.{AccountOf, Bool, Call, Calls, Does, Err, IsSamePlace, IsStill, Leading, LendsAll, LendsAllMut, List, None, Noted, Ok}
+use Rattle.xh_kernel.proofs.Common.{Option, PartsOf, PlaceSeen, Refused, Result, Some, Stays, Steps, [], ap, append-nil, arith, at, cond, drop, false, length, option_map, place_of, status_at}
+use Rattle.xh_kernel.proofs.Common.{subst, sym, unwrap_or, ℕ, ◌++◌, ◌+◌, ◌∙◌, ◌∷◌, ◌≡◌, ◌≤◌}
 use Rattle.xh_kernel.proofs.Recorded.{at_step}
 use Rattle.std.proofs.Common.{nat_lt}
 use Rattle.std.proofs.lemmas.Bool.Decides.{nat_tests}
@@ -110,10 +111,11 @@ module _ {F A : Type 0} (g : Mut F (MutBor (List ℕ) × Unit {0}) (A × (MutBor
 module _ (parts : PartsOf) (leads : Leading) (p r : ℕ) where
   -- the call was written down on the process's place, which was `was` before it and `now` after it
   abbrev pub IsNoted : Call → PlaceSeen → PlaceSeen → AccountOf → AccountOf → Type 0
-  IsNoted e was now_ from to =
-      Noted (place_of p) e from.number from.fronts to.fronts × IsUnmoved from to × Steps leads (place_of p) (at to.fronts (place_of p)) (λ old new. (old ≡ was) × (new ≡ now_))
+  IsNoted e was now_ from to = Noted (place_of p) e from.number from.fronts to.fronts × IsStill from to
+      × Steps leads (place_of p) (at to.fronts (place_of p)) (λ old new. (old ≡ was) × (new ≡ now_))
 
-  noted : {e : Call} {was now_ : PlaceSeen} (R : PlaceSeen → PlaceSeen → Type 0) (from to : AccountOf) → IsNoted e was now_ from to → Moves e from to → R was now_ → Calls leads (place_of p) e R from to
+  noted : {e : Call} {was now_ : PlaceSeen} (R : PlaceSeen → PlaceSeen → Type 0) (from to : AccountOf) → IsNoted e was now_ from to → Moves e from to → R was now_
+      → Calls leads (place_of p) e R from to
   noted {e} {was} {now_} R from to n moves so = ((n.0, moves), at_step leads _ _ R was now_ so n.2)
 
   -- of the bytes that a function had

@@ -8,7 +8,8 @@ pub so_too : (leads : Leading) (k : ℕ) (h : History Entry) (R S : PlaceSeen �
 so_too leads k h R S f steps = ∥∥₁_map steps (λ s. (s.0, s.1, s.2, s.3, s.4, s.5, s.6, f s.2 s.3 s.7))
 
 -- what is so of the one place and the other, by a call from the one to the other
-pub at_step : (leads : Leading) (k : ℕ) (h : History Entry) (R : PlaceSeen → PlaceSeen → Type 0) (from to : PlaceSeen) → R from to → Steps leads k h (λ old new. (old ≡ from) × (new ≡ to)) → Steps leads k h R
+pub at_step : (leads : Leading) (k : ℕ) (h : History Entry) (R : PlaceSeen → PlaceSeen → Type 0) (from to : PlaceSeen) → R from to
+    → Steps leads k h (λ old new. (old ≡ from) × (new ≡ to)) → Steps leads k h R
 at_step leads k h R from to so steps =
     so_too leads k h (λ old new. (old ≡ from) × (new ≡ to)) R (λ old new s. subst (λ (x : PlaceSeen × PlaceSeen). R x.0 x.1) (λ j. (sym s.0 j, sym s.1 j)) so) steps
 
@@ -40,10 +41,10 @@ module _ (parts : PartsOf) where
 -- ---- looks in vain
 
 -- the worker made the call as often as it was in vain
-abbrev pub InVain : (AccountOf → AccountOf → Type 0) → AccountOf → AccountOf → Type 0
-InVain Did old new = (n : ℕ) × Repeats Did n old new
+abbrev pub InVain : {A : Type 0} → (Result A Refused → AccountOf → AccountOf → Type 0) → (Result A Refused → Type 0) → AccountOf → AccountOf → Type 0
+InVain {A} Did IsVain old new = (n : ℕ) × Repeats (λ from to. (vain : Result A Refused) × IsVain vain × Did vain from to) n old new
 
 -- one more
-pub in_vain : {A : Type 0} (Did : Result A Refused → AccountOf → AccountOf → Type 0) (vain answer : Result A Refused) (old mid new : AccountOf)
-    → answer ≡ vain → InVain (Did vain) old mid → Did answer mid new → InVain (Did vain) old new
-in_vain Did vain answer old mid new same was now_ = (suc was.0, (mid, was.1, subst (λ a. Did a mid new) same now_))
+pub in_vain : {A : Type 0} (Did : Result A Refused → AccountOf → AccountOf → Type 0) (IsVain : Result A Refused → Type 0) (answer : Result A Refused) (old mid new : AccountOf)
+    → IsVain answer → InVain Did IsVain old mid → Did answer mid new → InVain Did IsVain old new
+in_vain Did IsVain answer old mid new is was now_ = (suc was.0, (mid, was.1, (answer, is, now_)))

@@ -4,7 +4,8 @@ use Rattle.atomic_table.specs.Seated.{TableId}
 use Rattle.xh_arena.specs.Views.{TallyOf, VaultOf}
 use Rattle.xh_calls.specs.Parts.{PartsOf}
 use Rattle.xh_calls.specs.Tallies.{fresh_tally}
-use Rattle.xh_calls.specs.Vaults.{AsksVault}
+use Rattle.xh_calls.specs.Vaults.{AsksVault, Tells}
+use Rattle.xh_core.specs.declared.ledger.ArenaLine.{ArenaLine}
 use Rattle.xh_core.specs.declared.refused.Refused.{Refused}
 use Rattle.xh_history.specs.Histories.{FrontOf, History}
 use Rattle.xh_calls.specs.declared.call.Entry.{Entry}
@@ -30,6 +31,10 @@ moved_of (Some t) = Some (t.taken, t.back)
 abbrev pub IsUnmoved : AccountOf → AccountOf → Type 0
 IsUnmoved old new = (new.number ≡ old.number) × (new.tallies ≡ old.tallies)
 
+-- so, and no arena was asked: of their histories the worker has seen what it had
+abbrev pub IsStill : AccountOf → AccountOf → Type 0
+IsStill old new = IsUnmoved old new × (new.signs ≡ old.signs) × (new.vaults ≡ old.vaults)
+
 -- n bytes of the arena were taken
 abbrev pub HasTaken : ℕ → ℕ → AccountOf → AccountOf → Type 0
 HasTaken arena n old new = (new.number ≡ old.number) × (new.tallies ≡ took arena n old.tallies)
@@ -38,7 +43,7 @@ HasTaken arena n old new = (new.number ≡ old.number) × (new.tallies ≡ took 
 abbrev pub HasGiven : ℕ → ℕ → AccountOf → AccountOf → Type 0
 HasGiven arena n old new = (new.number ≡ old.number) × (new.tallies ≡ gave arena n old.tallies) × (arena < length old.tallies)
 
--- so many bytes were given back, of whatever arenas, and no others moved
+-- so many bytes were given back, of each arena some or none, and no others moved
 abbrev pub HasBack : ℕ → AccountOf → AccountOf → Type 0
 HasBack bytes old new = (new.number ≡ old.number) × HasGivenBack bytes old.tallies new.tallies
 
@@ -58,6 +63,10 @@ AreFresh zs all = (k : ℕ) (d : AccountOf) → k < length all → slice_index_o
 abbrev pub seen_of : PartsOf → AccountOf → FrontOf VaultOf
 seen_of parts a = record { table = parts.vaults; number = a.signs; fronts = a.vaults }
 
--- where the answer was NoSpace or Worn, the vault of the arena refused n bytes for this reason when this call asked it
+-- where the answer was NoSpace or Worn, the vault of the arena refused n bytes for this reason when this call asked it; for other reasons none was asked
 abbrev pub VaultRefuses : PartsOf → ℕ → ℕ → AccountOf → AccountOf → {A : Type 0} → Result A Refused → Type 0
 VaultRefuses parts arena n old new result = IfErr result (AsksVault parts arena n (seen_of parts old) (seen_of parts new))
+
+-- the worker looked at the arena, entered its look in the arena's history, and was told what the ledger would say of it; and nothing else of the account changed
+abbrev pub TellsArena : PartsOf → ℕ → ArenaLine → AccountOf → AccountOf → Type 0
+TellsArena parts arena line old new = Tells parts arena (seen_of parts old) (seen_of parts new) line × (new ≡ record old { vaults = new.vaults })

@@ -1,12 +1,12 @@
 -- What a call is to the worker that made it: an entry of the place's history, what it did to the place, and what it did to the worker's tallies.
-use Rattle.std.specs.Prelude.{◌≡◌, ℕ, ◌/◌, List, [], ◌∷◌, ◌++◌, slice_set, MatchResult}
+use Rattle.std.specs.Prelude.{◌≡◌, ℕ, ◌/◌, List, [], ◌∷◌, ◌++◌, length, slice_set, MatchResult}
 use Rattle.xh_calls.specs.declared.call.Call.{Call}
 use Rattle.xh_calls.specs.declared.call.Call.TheVariants as call
 use Rattle.xh_calls.specs.declared.call.Entry.{Entry}
 use Rattle.xh_calls.specs.Leading.{Leading}
 use Rattle.xh_core.specs.declared.glance.Glance.{Glance}
 use Rattle.xh_history.specs.Histories.{History, at, calls_of}
-use Rattle.xh_kernel.specs.Accounts.{AccountOf, HasBack, HasGiven, HasTaken, IsUnmoved, TakesEnds}
+use Rattle.xh_kernel.specs.Accounts.{AccountOf, HasBack, HasGiven, HasTaken, IsStill, IsUnmoved, TakesEnds}
 use Rattle.xh_model.specs.declared.limits.TheConstants.{MAX_RECORDS}
 use Rattle.xh_place.specs.Seen.{PlaceSeen}
 
@@ -21,17 +21,20 @@ pub record Noted (k : ℕ) (e : Call) (number : ℕ) (old new : List (History En
 abbrev pub Steps : Leading → ℕ → History Entry → (PlaceSeen → PlaceSeen → Type 0) → Type 0
 Steps leads k h R = ∥ ((earlier : History Entry) × (c : ℕ × Entry) × (old : PlaceSeen) × (new : PlaceSeen) × (h ≡ earlier ++ c ∷ []) × leads k earlier old × leads k h new × R old new) ∥₁
 
--- the bytes that the call took and gave back, arena by arena, by the account
+-- the bytes that the call took and gave back, arena by arena, by the account; and where it can have asked no arena, that it hasn't
 abbrev pub Moves : Call → AccountOf → AccountOf → Type 0
 Moves (call.Alloc p n arena result) old new = MatchResult result (λ b. HasTaken arena b.len old new) (λ _. IsUnmoved old new)
-Moves (call.Free p r result) old new = MatchResult result (λ n. HasGiven (r / MAX_RECORDS) n old new) (λ _. IsUnmoved old new)
+Moves (call.Put p xs arena result) old new = MatchResult result (λ b. HasTaken arena b.len old new) (λ _. IsUnmoved old new)
+Moves (call.Free p r result) old new = MatchResult result (λ n. HasGiven (r / MAX_RECORDS) n old new) (λ _. IsStill old new)
+Moves (call.IntoBytes p r result) old new = MatchResult result (λ xs. HasGiven (r / MAX_RECORDS) (length xs) old new) (λ _. IsStill old new)
+Moves (call.Split p r k result) old new = MatchResult result (λ _. IsUnmoved old new) (λ _. IsStill old new)
 Moves (call.Open p arena contract result) old new = TakesEnds arena old new result
 Moves (call.OpenToward p arena contract result) old new = TakesEnds arena old new result
 Moves (call.Receive q r channel bytes result) old new = HasBack bytes old new
 Moves (call.CloseAgain p r channel bytes) old new = HasBack bytes old new
 Moves (call.Close p e bytes result) old new = HasBack bytes old new
 Moves (call.Stop p budget bytes result) old new = HasBack bytes old new
-Moves _ old new = IsUnmoved old new
+Moves _ old new = IsStill old new
 
 -- the worker of the account made the call on the place k, and moved what such a call moves
 abbrev pub Makes : ℕ → Call → AccountOf → AccountOf → Type 0

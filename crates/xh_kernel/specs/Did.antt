@@ -1,5 +1,5 @@
 -- What each call on one place is to the worker that made it, by the call's name.
-use Rattle.std.specs.Prelude.{ℕ, List, Result}
+use Rattle.std.specs.Prelude.{ℕ, List, Result, length}
 use Rattle.xh_calls.specs.Calls.{space_of}
 use Rattle.xh_calls.specs.Leading.{Leading}
 use Rattle.xh_calls.specs.Parts.{PartsOf}
@@ -13,7 +13,7 @@ use Rattle.xh_core.specs.declared.refused.Refused.{Refused}
 use Rattle.xh_kernel.specs.Accounts.{AccountOf, VaultRefuses}
 use Rattle.xh_kernel.specs.Calls.{Calls}
 use Rattle.xh_model.specs.Words.{place_of}
-use Rattle.xh_place.specs.Calls.{Allocates, Closes, FreesBlock, Reads, Splits, Writes}
+use Rattle.xh_place.specs.Calls.{Allocates, Closes, FreesBlock, GivesUp, HasBytes, Makes, Reads, Splits, Writes}
 use Rattle.xh_place.specs.Messages.{Gives, TakesAt}
 use Rattle.xh_place.specs.declared.got.Taken.{Taken}
 
@@ -24,6 +24,11 @@ abbrev pub DidAlloc : PartsOf → Leading → (p n arena : ℕ) → Result Block
 DidAlloc parts leads p n arena result old new =
     Calls leads (place_of p) (call.Alloc p n arena result) (λ from to. Allocates (status_at p from.place) (space_of parts) n arena from to result) old new
     × VaultRefuses parts arena (rounded n) old new result
+
+abbrev pub DidPut : PartsOf → Leading → ℕ → List ℕ → (arena : ℕ) → Result Block Refused → AccountOf → AccountOf → Type 0
+DidPut parts leads p xs arena result old new =
+    Calls leads (place_of p) (call.Put p xs arena result) (λ from to. Makes (status_at p from.place) (space_of parts) (length xs) xs arena from to result) old new
+    × VaultRefuses parts arena (rounded (length xs)) old new result
 
 abbrev pub DidSplit : Leading → (p r k : ℕ) → Result (Block × Block) Refused → AccountOf → AccountOf → Type 0
 DidSplit leads p r k result = Calls leads (place_of p) (call.Split p r k result) (λ from to. Splits (status_at p from.place) r k from to result)
@@ -36,6 +41,10 @@ DidWrite leads p r i xs result = Calls leads (place_of p) (call.Write p r i xs r
 
 abbrev pub DidFree : Leading → (p r : ℕ) → Result ℕ Refused → AccountOf → AccountOf → Type 0
 DidFree leads p r result = Calls leads (place_of p) (call.Free p r result) (λ from to. FreesBlock (status_at p from.place) r from to result)
+
+-- the bytes of the block are the answer
+abbrev pub DidIntoBytes : Leading → (p r : ℕ) → Result (List ℕ) Refused → AccountOf → AccountOf → Type 0
+DidIntoBytes leads p r result = Calls leads (place_of p) (call.IntoBytes p r result) (λ from to. GivesUp (HasBytes r from.place) (status_at p from.place) r from to result)
 
 -- ---- messages
 

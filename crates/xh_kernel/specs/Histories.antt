@@ -1,5 +1,5 @@
 -- The history of a place, and what makes it lawful: each call's answer, and what it did to the place, are that call's relation.
-use Rattle.std.specs.Prelude.{◌≡◌, ◌<◌, ℕ, [], ◌∷◌}
+use Rattle.std.specs.Prelude.{◌≡◌, ◌<◌, ℕ, [], ◌∷◌, length}
 use Rattle.xh_core.specs.declared.status.Status.TheVariants.{Vacant}
 use Rattle.xh_history.specs.Histories.{History}
 use Rattle.xh_calls.specs.Calls.{Looks, Spawns, space_of}
@@ -13,7 +13,7 @@ use Rattle.xh_calls.specs.declared.call.Call.{Call}
 use Rattle.xh_calls.specs.declared.call.Call.TheVariants as call
 use Rattle.xh_calls.specs.declared.call.Entry.{Entry}
 use Rattle.xh_kernel.specs.Places.{IsFound}
-use Rattle.xh_place.specs.Calls.{Allocates, Closes, FreesBlock, Reads, Splits, Stops, Writes}
+use Rattle.xh_place.specs.Calls.{Allocates, Closes, FreesBlock, GivesUp, HasBytes, Makes, Reads, Splits, Stops, Writes}
 use Rattle.xh_place.specs.Messages.{Gives, TakesAt}
 use Rattle.xh_place.specs.Places.{IsPlaceOf, glance_of}
 use Rattle.xh_records.specs.History.{StartsWith}
@@ -26,10 +26,12 @@ abbrev pub Does : PartsOf → Call → PlaceSeen → PlaceSeen → Type 0
 Does parts (call.Spawn result) old new = Spawns parts.generations old new result
 Does parts (call.Look p result) old new = Looks p old new result
 Does parts (call.Alloc p n arena result) old new = Allocates (status_at p old.place) (space_of parts) n arena old new result
+Does parts (call.Put p xs arena result) old new = Makes (status_at p old.place) (space_of parts) (length xs) xs arena old new result
 Does parts (call.Split p r k result) old new = Splits (status_at p old.place) r k old new result
 Does parts (call.Read p r i shown result) old new = Reads (status_at p old.place) r i shown old new result
 Does parts (call.Write p r i xs result) old new = Writes (status_at p old.place) r i xs old new result
 Does parts (call.Free p r result) old new = FreesBlock (status_at p old.place) r old new result
+Does parts (call.IntoBytes p r result) old new = GivesUp (HasBytes r old.place) (status_at p old.place) r old new result
 Does parts (call.Open p arena contract result) old new = OpensChannel parts p arena contract old new result
 Does parts (call.OpenToward p arena contract result) old new = OpensToward parts p arena contract old new result
 Does parts (call.Receive q r channel bytes result) old new = ReceivesOr q (toward_high channel) r bytes old new result

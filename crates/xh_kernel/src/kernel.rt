@@ -20,11 +20,14 @@ ghost use Rattle.xh_model.specs.Words.{place_of};
 ghost use Rattle.xh_place.specs.Places.{IsPlaceOf};
 
 mod blocks;
+mod bytes;
 mod channels;
 mod endings;
+mod memory;
 mod messages;
 
 use crate::account::Account;
+use crate::awaiting::Awaiting;
 use crate::finishing::{Finished, compare};
 use crate::held::Held;
 use crate::looking::Waits;
@@ -37,7 +40,7 @@ use std::alloc::{AllocError, Global};
 use std::marker::PhantomData;
 use std::sync::{Mutex, MutexGuard, Wait};
 use xh_arena::Vault;
-use xh_calls::{Arenas, Bundle, Entry, Heap, Names};
+use xh_calls::{Arenas, Bundle, Entry, Heap, Names, Waiters};
 use xh_core::{Glance, Refused};
 use xh_history::{Front, Histories, Pen};
 use xh_model::limits::PLACES;
@@ -49,7 +52,7 @@ use xh_records::{Records, Seat};
 /// locks share a cache line.
 #[derive(Drop)]
 pub struct Kernel<N: Names> {
-    shared: Shared<N>,
+    pub(crate) shared: Shared<N>,
     places: Vec<CachePadded<Mutex<Held<N>>>>,
     ghost all: { vec_len places ≡ PLACES },
 }
@@ -170,18 +173,25 @@ impl<N: Names> Kernel<N> {
         ensures looks { IfOk result (λ r. (vec_len r.2 ≡ parts.workers) × All (λ l. l ≡ fresh_look N.parts.histories) r.2.items) }
         ensures refused { IfErr result (λ e. e ≡ Refused.OutOfMemory) }
     {
+        let awaiting = Awaiting::new(alloc)?;
         let records = parts.records;
         let places = lock_places(alloc, &records, parts.seats, parts.pens)?;
         let accounts = name_accounts(alloc, parts.bundles, parts.fronts, parts.seen)?;
         let (histories, pens) = (parts.vault_histories, parts.vault_pens);
+        let arenas = Arenas::new(alloc, parts.vaults, parts.config.bytes, histories, pens)?;
         let heap = Heap {
             records,
             channels: parts.channels,
-            arenas: Arenas::new(parts.vaults, parts.config.bytes, histories, pens),
+            arenas,
+            waiters: Waiters::new(),
             generations: parts.generations,
         };
         let histories = parts.histories;
-        let shared = Shared { heap, histories };
+        let shared = Shared {
+            heap,
+            histories,
+            awaiting,
+        };
         Ok((Kernel { shared, places }, accounts, parts.looks))
     }
 
@@ -260,7 +270,11 @@ impl<N: Names> Kernel<N> {
         ensures tables { IfOk result (λ s. (s.records ≡ N.parts.records) × (s.histories ≡ N.parts.histories)) }
         ensures refused { IfErr result (λ e. e ≡ Refused.OutOfMemory) }
     {
-        let Shared { heap, histories } = self.shared;
+        let Shared {
+            heap,
+            histories,
+            awaiting: _awaiting,
+        } = self.shared;
         let vaults = heap.arenas.into_vaults(alloc)?;
         let (places, pens) = unlock_places(alloc, self.places)?;
         Ok(Settled {

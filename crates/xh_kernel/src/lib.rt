@@ -2,6 +2,7 @@
 #![tactic(auto)]
 
 mod account;
+mod awaiting;
 mod finishing;
 mod held;
 mod kernel;
@@ -13,6 +14,7 @@ mod until;
 mod words;
 
 pub use account::Account;
+pub use awaiting::Awaited;
 pub use finishing::Finished;
 pub use kernel::{Kernel, Settled};
 pub use parts::{Look, Parts};

@@ -232,22 +232,30 @@ impl<N: Names> Held<N> {
         answer
     }
 
-    // The place's bell as it is; where it asks, the next take of what the endpoint put rings it after that.
-    fn hear<R: Wait>(&mut self, rt: &R, shared: &Shared<N>, p: u16, e: u16, asks: bool) -> u64
+    // The place's bell as it is; where it asks, the next take of what the endpoint put rings it after that: the endpoint's spot.
+    fn hear<R: Wait>(
+        &mut self,
+        rt: &R,
+        shared: &Shared<N>,
+        p: u16,
+        e: u16,
+        asks: bool,
+    ) -> (u64, Option<Spot>)
         ensures { (self.new.place.place ≡ self.old.place.place) × (self.new.scribe ≡ self.old.scribe) }
     {
         let seen = shared.heap.channels.bell(rt, bell_of(p));
         if !asks {
-            return seen;
+            return (seen, None);
         }
-        if let Some(spot) = self.spot(shared, e) {
+        let spot = self.spot(shared, e);
+        if let Some(spot) = spot {
             shared.heap.channels.await_room(rt, spot, bell_of(p));
         }
-        seen
+        (seen, spot)
     }
 
-    // One look for room. Where it asks, what the bell was is told of a look in vain: a take, a shut and an end of the process
-    // that come after the look ring it past that. Who waits here looks again after any other, as after `Kernel::give`.
+    // One look for room. Of a look in vain is told what the bell was; where it asks a take, a shut and an end of the process
+    // that come after the look ring it past that, and the endpoint's spot is told too. Who waits here looks again after any other, as after `Kernel::give`.
     pub(crate) fn send<R: Wait, G: Gate>(
         &mut self,
         rt: &R,
@@ -259,7 +267,7 @@ impl<N: Names> Held<N> {
         asks: bool,
         account: &mut Account<N>,
         gate: &G,
-    ) -> (Result<u64, Refused>, Option<u64>)
+    ) -> (Result<u64, Refused>, Option<(u64, Option<Spot>)>)
         requires { self.old.scribe.pen.number ≡ place_of p }
         ensures call { DidGive N.leads p e tag blocks.now result.0 account.old account.new }
         ensures vain { MatchOption result.1 (result.0 ≢ no_room blocks.now) (λ _. result.0 ≡ no_room blocks.now) }

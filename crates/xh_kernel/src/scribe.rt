@@ -92,7 +92,8 @@ impl Scribe {
         ensures front { (front.new.table ≡ front.old.table) × (front.new.number ≡ front.old.number) }
         ensures noted { Noted self.old.pen.number call front.old.number front.old.fronts front.new.fronts }
         ensures step { (k : ℕ) → self.old.pen.number ≡ k → Steps N.leads k (at front.new.fronts k) (Does N.parts call) }
-        ensures now { (k : ℕ) (from : PlaceSeen) → self.old.pen.number ≡ k → IsHistoryOf N.parts self.old.pen.number self.old.pen.history from → Steps N.leads k (at front.new.fronts k) (λ old new. (old ≡ from) × (new ≡ place.now)) }
+        ensures now { (k : ℕ) (from : PlaceSeen) → self.old.pen.number ≡ k → IsHistoryOf N.parts self.old.pen.number self.old.pen.history from
+            → Steps N.leads k (at front.new.fronts k) (λ old new. (old ≡ from) × (new ≡ place.now)) }
     {
         let glance = shown(place);
         let word = if same { self.last } else { pack(glance) };

@@ -2,15 +2,17 @@
 ghost use Rattle.std.specs.Prelude.{◌≡◌};
 ghost use Rattle.xh_kernel.specs.Histories.{IsLaw};
 
+use crate::awaiting::Awaiting;
 use crate::words::Glances;
 use xh_calls::{Entry, Heap, Names};
 use xh_history::Histories;
 
-/// What the calls work on, and the histories. A call reaches them with the lock of its place in hand.
+/// What the calls work on, the histories, and what the processes wait for. A call reaches them with the lock of its place in hand.
 #[derive(Drop)]
 pub(crate) struct Shared<N: Names> {
     pub(crate) heap: Heap<N>,
     pub(crate) histories: Histories<Entry, Glances>,
+    pub(crate) awaiting: Awaiting,
     ghost named: { histories ≡ N.parts.histories },
     ghost law: { IsLaw N.parts N.leads },
 }

@@ -1,45 +1,49 @@
 //! The producer: it makes the blocks, round by round, and makes a round again that was lost.
 
-use crate::protocol::{BLOCK, DATA, EACH, END, ROUNDS, WHOLE};
-use xh_heap::{Process, Refused, block_of};
+use crate::protocol::{BLOCK, DATA, EACH, END, ROUNDS, WHOLE, next_end};
+use xh_heap::{End, Items, Process, Refused, Returned};
 
 // Makes the blocks of a round and gives them; the first byte of a block is its number. Where the receiver is gone,
 // the block has come back, and is freed.
-fn give_round<P: Process>(own: &mut P, out: u16, round: u8) -> Result<(), Refused> {
+fn give_round<P: Process>(own: &mut P, out: &End, round: u8) -> Result<(), Refused> {
     for index in 0..EACH {
-        let block = own.alloc(BLOCK)?.rec;
-        own.write(block, 0, &[round.wrapping_mul(EACH).wrapping_add(index)])?;
-        match own.give(out, DATA, &[block]) {
+        let block = own.alloc(BLOCK)?;
+        own.write(&block, 0, &[round.wrapping_mul(EACH).wrapping_add(index)])?;
+        match own.give_block(out, DATA, block) {
             Ok(_number) => {}
-            Err(Refused::PeerClosed { back: _ }) => {
+            Err(
+                Returned {
+                    why: Refused::PeerClosed { back: _ },
+                    value: Some(block),
+                },
+            ) => {
                 own.free(block)?;
             }
-            Err(refused) => return Err(refused),
+            Err(refused) => return Err(refused.why),
         }
     }
     Ok(())
 }
 
-/// Makes each round until it came whole; where one was lost, a new endpoint comes from the supervisor for the one by which
-/// blocks go out.
+/// Makes each round until it came whole. The end by which blocks go out comes from the supervisor, and a new one for it where
+/// a round was lost.
 pub(crate) fn produce<P: Process>(
     own: &mut P,
-    control: u16,
-    mut out: u16,
-    answers: u16,
+    control: &End,
+    answers: &End,
 ) -> Result<(), Refused> {
-    let mut round = 0u8;
+    let (mut round, mut out) = (0u8, next_end(own, control)?);
     for _ in own.rt().forever() {
         if round == ROUNDS {
-            own.give(out, END, &[])?;
+            own.give(&out, END, Items::new())?;
             return Ok(());
         }
-        give_round(own, out, round)?;
+        give_round(own, &out, round)?;
         if own.take_wait(answers)?.tag == WHOLE {
             round = round.wrapping_add(1);
         } else {
             own.close(out)?;
-            out = block_of(&own.take_wait(control)?, 0)?;
+            out = next_end(own, control)?;
         }
     }
     unreachable!()

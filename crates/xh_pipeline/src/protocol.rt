@@ -1,5 +1,7 @@
 //! What the processes of the pipeline agree on.
 
+use xh_heap::{End, Process, Refused};
+
 /// The bytes of a block.
 pub(crate) const BLOCK: u32 = 64 * 1024;
 
@@ -31,3 +33,8 @@ pub(crate) const AGAIN: u16 = 4;
 pub(crate) const ENDS: u16 = 5;
 
 pub(crate) const HUNG: u16 = 6;
+
+/// The endpoint that the supervisor gives next.
+pub(crate) fn next_end<P: Process>(own: &mut P, control: &End) -> Result<End, Refused> {
+    own.take_wait(control)?.end()
+}

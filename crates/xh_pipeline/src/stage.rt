@@ -1,57 +1,57 @@
 //! A stage: it marks each block that comes, and gives it on.
 
-use crate::protocol::{DATA, END, HUNG, LOST, MARK};
-use xh_heap::{Process, Refused, block_of};
+use crate::protocol::{DATA, END, HUNG, LOST, MARK, next_end};
+use xh_heap::{Block, End, Items, Process, Refused};
+
+/// Where a stage stands: its ends to the supervisor, for what comes and for what goes. With a limit it hangs at the block after so
+/// many.
+#[derive(Drop)]
+pub(crate) struct Post {
+    pub(crate) control: End,
+    pub(crate) input: End,
+    pub(crate) out: End,
+    pub(crate) limit: Option<u32>,
+}
 
 // Marks a block and gives it on.
-fn pass<P: Process>(own: &mut P, out: u16, block: u16) -> Result<(), Refused> {
+fn pass<P: Process>(own: &mut P, out: &End, block: Block) -> Result<(), Refused> {
     let mut first = [0];
-    own.read(block, 0, &mut first)?;
-    own.write(block, 0, &[first[0].wrapping_add(MARK)])?;
-    own.give(out, DATA, &[block])?;
+    own.read(&block, 0, &mut first)?;
+    own.write(&block, 0, &[first[0].wrapping_add(MARK)])?;
+    own.give_block(out, DATA, block)?;
     Ok(())
 }
 
-// Tells the supervisor, and does nothing more until it is killed.
-fn hang<P: Process>(own: &mut P, control: u16) -> Result<(), Refused> {
-    own.give(control, HUNG, &[])?;
-    own.take_wait(control)?;
-    Ok(())
-}
-
-// The stage before was killed: the next one learns it, and a new endpoint comes for the old one.
-fn reconnect<P: Process>(own: &mut P, control: u16, old: u16, out: u16) -> Result<u16, Refused> {
-    own.give(out, LOST, &[])?;
-    own.close(old)?;
-    block_of(&own.take_wait(control)?, 0)
-}
-
-/// Marks blocks until no more come. A stage with a limit hangs at the block after so many.
+/// Marks blocks until no more come. Where the stage before was killed, the next one learns it, and a new endpoint comes for the
+/// old one.
 pub(crate) fn stage<P: Process>(
     own: &mut P,
-    control: u16,
-    mut input: u16,
-    out: u16,
+    control: &End,
+    mut input: End,
+    out: &End,
     limit: Option<u32>,
 ) -> Result<(), Refused> {
     let mut passed = 0u32;
     for _ in own.rt().forever() {
-        match own.take_wait(input) {
-            Ok(message) => match block_of(&message, 0) {
-                Ok(_block) if limit == Some(passed) => return hang(own, control),
-                Ok(block) => {
-                    pass(own, out, block)?;
-                    passed = passed.wrapping_add(1);
+        match own.take_wait(&input) {
+            Ok(message) if message.tag == DATA => {
+                if limit == Some(passed) {
+                    own.give(control, HUNG, Items::new())?;
+                    own.take_wait(control)?;
                 }
-                Err(_none) => {
-                    own.give(out, message.tag, &[])?;
-                    if message.tag == END {
-                        return Ok(());
-                    }
+                pass(own, out, message.block()?)?;
+                passed = passed.wrapping_add(1);
+            }
+            Ok(message) => {
+                own.give(out, message.tag, Items::new())?;
+                if message.tag == END {
+                    return Ok(());
                 }
-            },
+            }
             Err(Refused::PeerClosed { back: _ }) => {
-                input = reconnect(own, control, input, out)?;
+                own.give(out, LOST, Items::new())?;
+                own.close(input)?;
+                input = next_end(own, control)?;
             }
             Err(refused) => return Err(refused),
         }

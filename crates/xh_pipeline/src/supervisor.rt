@@ -1,28 +1,45 @@
-//! The supervisor: it kills the first stage once that hangs, and starts a new process in its place.
+//! The supervisor: it starts the first stage, and kills one that hangs and starts a new one in its place.
 
 use crate::pipeline::Plan;
-use crate::protocol::{ENDS, HUNG};
-use crate::stage::stage;
-use xh_heap::{Answered, Process, Refused};
+use crate::protocol::{ENDS, LIMIT};
+use crate::stage::Post;
+use xh_heap::{End, Item, Items, Process, Refused, Starter};
 
-// A new stage stands between the producer and the second stage, which are each given their end of a channel to it. The
-// supervisor's thread does its calls.
-fn replace<P: Process>(own: &mut P, new: &mut P, plan: &Plan) -> Result<(), Refused> {
-    let (to_new, input) = own.wire(new)?;
-    let (from_new, out) = own.wire(new)?;
-    own.give(plan.watched[0].into, ENDS, &[to_new.rec])?;
-    own.give(plan.watched[2].into, ENDS, &[from_new.rec])?;
-    stage(new, input.rec, input.rec, out.rec, None)
+// Gives an end to whoever is at the other end of `to`.
+fn give_end<P: Process>(own: &mut P, to: &End, end: End) -> Result<(), Refused> {
+    let mut items = Items::new();
+    items.push(Item::End(end));
+    own.give(to, ENDS, items)?;
+    Ok(())
 }
 
-/// Waits for a message of any, by which the first stage tells that it hangs, and replaces it.
-pub(crate) fn supervise<P: Process>(own: &mut P, plan: &Plan) -> Result<(), Refused> {
-    let ends = plan.watched.map(|link| link.into);
-    let Answered { at, answer } = own.take_any_wait(&ends)?;
-    if at != 1 || answer?.tag != HUNG {
-        return Err(Refused::NotEndpoint);
+/// A first stage stands between the producer and the second stage, which are each given their end of a channel to it. It
+/// tells when it hangs; the one after it doesn't.
+pub(crate) fn supervise<P: Process>(
+    own: &mut P,
+    plan: &Plan,
+    threads: &Starter<P, Post>,
+) -> Result<(), Refused> {
+    for limit in [Some(LIMIT), None] {
+        let stage = own.spawn()?;
+        let number = stage.number();
+        let (watched, control) = own.wire(&stage)?;
+        let (to_stage, input) = own.wire(&stage)?;
+        let (from_stage, out) = own.wire(&stage)?;
+        threads.start(
+            stage,
+            Post {
+                control,
+                input,
+                out,
+                limit,
+            },
+        )?;
+        give_end(own, &plan.producer.0, to_stage)?;
+        give_end(own, &plan.second.0, from_stage)?;
+        if own.take_wait(&watched).is_ok() {
+            own.kill(number)?;
+        }
     }
-    own.kill(plan.first)?;
-    let mut new = own.spawn()?;
-    replace(own, &mut new, plan)
+    Ok(())
 }

@@ -1,13 +1,16 @@
 -- A worker's tallies and desk.
 use Rattle.xh_place.proofs.Words.{◌≡◌, ℕ, zero, suc, ◌+◌, ◌<◌, List, [], ◌∷◌, length, get_or, set, refl, sym, ap, ◌∙◌, subst, arith, Some, slice_get, TableId, TallyOf, ids_of, took, gave, Held}
 use Rattle.xh_place.proofs.Words.{StartsWith, Body, IsSameDesk, IsSeatAt, Item, with_blocks, IsSamePlace, PlaceSeen}
-use Rattle.xh_place.proofs.Words.{HasGivenBack, back_of}
-use Rattle.xh_place.specs.Ending.{but_back}
+use Rattle.xh_place.proofs.Words.{HasGivenBack}
 use Rattle.xh_place.specs.declared.desk.Desk.{Desk}
 
 -- nothing came back
+stays : (ts : List TallyOf) → HasGivenBack 0 ts ts
+stays [] = refl
+stays (t ∷ ts) = (0, 0, refl, ap (λ (n : ℕ). record t { back = n }) (let same : t.back ≡ t.back + 0 = omega arith in same), stays ts)
+
 pub none_back : {old new : List TallyOf} → new ≡ old → HasGivenBack 0 old new
-none_back {old} {new} e = ((let same : back_of new ≡ back_of old = ap back_of e in let sum : back_of new ≡ back_of old + 0 = omega arith in sum), ap but_back e)
+none_back {old} e = subst (HasGivenBack 0 old) (sym e) (stays old)
 
 pub ids_long : (ts : List TallyOf) → length (ids_of ts) ≡ length ts
 ids_long [] = refl

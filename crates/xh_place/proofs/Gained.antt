@@ -1,7 +1,8 @@
 -- A seat that has gained a record, or two at once.
 use Rattle.xh_place.proofs.Words.{◌≡◌, ℕ, ◌<◌, ◌≤◌, List, [], ◌∷◌, ◌++◌, length, sym, ap, ◌∙◌, subst, true, eq-eqb, eqb, arith, rules, Some, ◌&&◌, nat_le, nat_lt, LotOf, Among, keys, value_at, put}
 use Rattle.xh_place.proofs.Words.{without, last_at, last_put, last_without, IsLotOf, Held, with_lots, HasNow, bare, Body, Nothing, Data, End, bytes, content_of, fits_in}
-use Rattle.xh_place.proofs.Words.{◌≢◌, ◌+◌, ⊎_elim}
+use Rattle.xh_place.proofs.Words.{◌≢◌, ◌+◌, ◌-◌, ⊎_elim, length-append, length-replicate, replicate}
+use Rattle.xh_place.specs.Calls.{padded}
 use Rattle.xh_place.proofs.Words.{append_assoc, refl, Status, among_either, keys_push, last_other, put_split, IsRecord, Item, with_blocks, item_at, item_of, shown, IsPlace, is_over}
 use Rattle.xh_place.specs.inner.Opening.{AreMade, HasTwoMore}
 use Rattle.xh_place.proofs.Words.{◌/◌, Acts, HasLooked, SawFull, SawTaken, SeatFull, SeatLetsGo, append-nil, claimed, vacated}
@@ -26,6 +27,9 @@ fits_bytes Nothing xs n e long some most = let same : [] ≡ xs = cc in let none
 fits_bytes (Data v) xs n e long some most = let same : v.items ≡ xs = cc in let a : eqb (length v.items) n ≡ true = eq-eqb (length v.items) n (ap length same ∙ long) in
     let b : nat_le n 134217728 ≡ true = search rules in let d : nat_lt 0 n ≡ true = search rules in (λ i. a i && (d i && b i))
 fits_bytes (End p) xs n e long some most = absurd (cc)
+
+pub padded_long : (n : ℕ) (xs : List ℕ) → length xs ≤ n → length (padded n xs) ≡ n
+padded_long n xs most = let all = length-append xs (replicate (n - length xs) 0) in let zeros = length-replicate {A = ℕ} (n - length xs) 0 in omega (arith, all, zeros, most)
 
 -- ---- a seat that let go again of what it claimed
 

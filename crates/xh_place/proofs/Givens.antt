@@ -1,4 +1,5 @@
 -- What the tests of a give let through, its loops over its blocks, and the list that it settles with the seat.
+use Rattle.xh_place.specs.Bodies.{content_of, kind_of}
 use Rattle.xh_place.proofs.Words.{dec_among, map-append, arith, eqb, eq-eqb, ◌≡◌, ℕ, Bool, true, false, ⊎_elim, List, [], ◌∷◌, refl, sym, ap, ◌∙◌, ◌==◌, ◌||◌, ◌&&◌, Option, Some, None, is_some}
 use Rattle.xh_place.proofs.Words.{nat_tests, list_all, list_any, first_refusal, Among, Distinct, value_at, given_tests, is_listed, Item, ◌≢◌, ◌+◌, ◌*◌, ◌≤◌, inl, inr, length, subst, cond, dite}
 use Rattle.xh_place.proofs.Words.{ℕ_discrete, LotOf, Status, is_over, keys, put, without, distinct_without, put_at, put_keys, put_other, without_at, without_other, Held, with_lots, HasNow, AreBack}
@@ -298,7 +299,7 @@ accepting d gone given more r bytes n old seat last back new once among is came 
     (λ i. accepted_on p d (shown seat.lots back) ++ (Accept (whose i) r d, item_of l) ∷ [])
     ∙ sym (map-append (λ (x : ℕ × Item). (Accept p x.0 d, x.1)) (shown seat.lots back) ((r, item_of l) ∷ [])) ∙ ap (accepted_on p d) blocks in
     let after = did_starts seat.process (accepted_on seat.process d ((r, item_of l) ∷ [])) seat.front last.front h.3.1 in
-    let got : Got = Here (record { rec = r; len = l.len }) in
+    let got : Got = Here (record { rec = r; len = l.len }) (kind_of (content_of l.body)) in
     let told : AreGot (IsSeenBy old last) d (shown last.lots new) (is.6.0 ++ got ∷ []) =
     subst (λ (ys : List (ℕ × Item)). AreGot (IsSeenBy old last) d ys (is.6.0 ++ got ∷ [])) blocks
     (got_both (IsSeenBy old last) d (shown seat.lots back) ((r, item_of l) ∷ []) is.6.0 (got ∷ []) (before after) (item_of l, [], refl, refl, step seat last after (brings d (item_of l)) h.5, refl)) in

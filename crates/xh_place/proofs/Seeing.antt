@@ -92,7 +92,7 @@ away_as P Q f d r h = (h.0, h.1, f r h.0 h.2)
 module _ (P Q : ℕ → Sight → Type 0) (f : (r : ℕ) (s : Sight) → P r s → Q r s) where
   pub all_got_as : (d : ℕ) (ys : List (ℕ × Item)) (gots : List Got) → AreGot P d ys gots → AreGot Q d ys gots
   all_got_as d ys [] h = h
-  all_got_as d ys (Here block ∷ gots) h = (h.0, h.1, h.2, h.3, f block.rec (brings d h.0) h.4, all_got_as d h.1 gots h.5)
+  all_got_as d ys (Here block kind ∷ gots) h = (h.0, h.1, h.2, h.3, f block.rec (brings d h.0) h.4, all_got_as d h.1 gots h.5)
   all_got_as d ys (Missing r word ∷ gots) h = (h.0, f r (bears word) h.1, all_got_as d ys gots h.2)
 
   pub ends_as : (c : Content) (came : List (ℕ × Item)) → EndsWith P c came → EndsWith Q c came
@@ -125,7 +125,7 @@ module _ (P Q : ℕ → Sight → Type 0) (f : (r : ℕ) (s : Sight) → P r s �
 pub given_got_as : (P Q : ℕ → Sight → Type 0) (d : ℕ) (ys : List (ℕ × Item)) (gots : List Got) → ((r : ℕ) → Among (map record_of gots) r → (s : Sight) → P r s → Q r s)
     → AreGot P d ys gots → AreGot Q d ys gots
 given_got_as P Q d ys [] f h = h
-given_got_as P Q d ys (Here block ∷ gots) f h = (h.0, h.1, h.2, h.3, f block.rec (inl refl) (brings d h.0) h.4, given_got_as P Q d h.1 gots (λ r a. f r (inr a)) h.5)
+given_got_as P Q d ys (Here block kind ∷ gots) f h = (h.0, h.1, h.2, h.3, f block.rec (inl refl) (brings d h.0) h.4, given_got_as P Q d h.1 gots (λ r a. f r (inr a)) h.5)
 given_got_as P Q d ys (Missing r word ∷ gots) f h = (h.0, f r (inl refl) (bears word) h.1, given_got_as P Q d ys gots (λ q a. f q (inr a)) h.2)
 
 -- ---- what is told of a lack, where the arena was full in another sense
@@ -167,6 +167,6 @@ module _ (seat : Held Body) {xs : List (ℕ × Item)} {state : Status} {p : Plac
 module _ (saw : ℕ → Sight → Type 0) where
   pub got_both : (d : ℕ) (ys zs : List (ℕ × Item)) (gots more : List Got) → AreGot saw d ys gots → AreGot saw d zs more → AreGot saw d (ys ++ zs) (gots ++ more)
   got_both d ys zs [] more all two = subst (λ (l : List (ℕ × Item)). AreGot saw d (l ++ zs) more) (sym all) two
-  got_both d ys zs (Here block ∷ gots) more h two =
+  got_both d ys zs (Here block kind ∷ gots) more h two =
       (h.0, h.1 ++ zs, ap (λ (l : List (ℕ × Item)). l ++ zs) h.2, h.3, h.4, got_both d h.1 zs gots more h.5 two)
   got_both d ys zs (Missing r word ∷ gots) more h two = (h.0, h.1, got_both d ys zs gots more h.2 two)

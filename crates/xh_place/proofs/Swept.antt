@@ -5,7 +5,8 @@ use Rattle.xh_place.proofs.Words.{take-append-drop, Option, None, Result, Err, M
 use Rattle.xh_place.proofs.Words.{HasGivenBack, IsSwept, ending, RefusedOr, ending_again, Item, PlaceOf, total_of, with_list, with_more, vacated}
 use Rattle.xh_place.proofs.Words.{append_assoc, append-nil, Some}
 use Rattle.xh_place.proofs.Words.{drop-append-le, drop_at, drop-drop, length-drop, length-take-le, take-append-le, take_at, Event, nat_tests, Among, Distinct, keys, put, value_at, without}
-use Rattle.xh_place.proofs.Words.{keys_append, absent, here_first, not_here, put_keys, put_without, toward, accepted_on, AreEnded, back_of, EndsWith, Clears, gave}
+use Rattle.xh_place.proofs.Words.{keys_append, absent, here_first, not_here, put_keys, put_without, toward, accepted_on, AreEnded, EndsWith, Clears, gave}
+use Rattle.xh_place.proofs.Counted.{none_back}
 use Rattle.std.proofs.Math.Seq.{drop-append_seam, take-append_seam, take-add}
 use Rattle.xh_place.proofs.Words.{toward_in}
 use Rattle.xh_place.proofs.Listing.{total_both, total_last, total_put}
@@ -247,13 +248,26 @@ swept_clear saw from r bytes x more old mid new ys inside first at clear once is
 -- ---- what a worker gave back
 
 pub gave_more : (a b : ℕ) (old mid new : List TallyOf) → HasGivenBack a old mid → HasGivenBack b mid new → HasGivenBack (a + b) old new
-gave_more a b old mid new one two = let first : back_of mid ≡ back_of old + a = one.0 in let second : back_of new ≡ back_of mid + b = two.0 in (omega arith, two.1 ∙ one.1)
+gave_more a b [] [] [] one two = omega (arith, one, two)
+gave_more a b [] [] (w ∷ new) one two = absurd two
+gave_more a b [] (u ∷ mid) new one two = absurd one
+gave_more a b (t ∷ old) [] new one two = absurd one
+gave_more a b (t ∷ old) (u ∷ mid) [] one two = absurd two
+gave_more a b (t ∷ old) (u ∷ mid) (w ∷ new) one two =
+    let first : a ≡ one.0 + one.1 = one.2 in let second : b ≡ two.0 + two.1 = two.2 in
+    let last : w ≡ record t { back = t.back + one.0 + two.0 } = subst (λ (z : TallyOf). w ≡ record z { back = z.back + two.0 }) one.3 two.3 in (
+      one.0 + two.0,
+      one.1 + two.1,
+      omega (arith, first, second),
+      last ∙ ap (λ (n : ℕ). record t { back = n }) (let sum : t.back + one.0 + two.0 ≡ t.back + (one.0 + two.0) = omega arith in sum),
+      gave_more one.1 two.1 old mid new one.4 two.4,
+    )
 
 pub gave_some : (i n : ℕ) (ts : List TallyOf) → i < length ts → HasGivenBack n ts (gave i n ts)
 gave_some i n [] h = absurd (omega arith)
-gave_some zero n (t ∷ ts) h = (omega arith, refl)
-gave_some (suc i) n (t ∷ ts) h = let more = gave_some i n ts (omega arith) in let e : back_of (gave i n ts) ≡ back_of ts + n = more.0 in
-    (omega arith, ap (λ (l : List TallyOf). record t { back = 0 } ∷ l) more.1)
+gave_some zero n (t ∷ ts) h = (n, 0, (let sum : n ≡ n + 0 = omega arith in sum), refl, none_back refl)
+gave_some (suc i) n (t ∷ ts) h =
+    (0, n, (let sum : n ≡ 0 + n = omega arith in sum), ap (λ (n : ℕ). record t { back = n }) (let same : t.back ≡ t.back + 0 = omega arith in same), gave_some i n ts (omega arith))
 
 -- a place whose list changed twice
 pub twice_own : (old mid new : PlaceOf) → mid ≡ with_list old mid → new ≡ with_list mid new → new ≡ with_list old new

@@ -31,7 +31,7 @@ pub use Rattle.xh_model.specs.declared.event.Holder.TheVariants.{Process}
 pub use Rattle.xh_model.specs.declared.limits.TheConstants.{END_BYTES, MAX_BUDGET}
 pub use Rattle.xh_place.specs.Bodies.{Content, away, bytes, content_of, endpoint, fits_in, front, kind_of, part, patched, rest, toward}
 pub use Rattle.xh_place.specs.Desk.{IsSameDesk, IsSeatAt}
-pub use Rattle.xh_place.specs.Ending.{AreEnded, HasGivenBack, IsClosed, IsSwept, back_of, ending, last}
+pub use Rattle.xh_place.specs.Ending.{AreEnded, HasGivenBack, IsClosed, IsSwept, ending, last}
 pub use Rattle.xh_place.specs.Endpoints.{AreGot, EndsWith, IsDrained, Puts, Takes, TakesEach, blocks_of, record_of}
 pub use Rattle.xh_place.specs.Ends.{EndDoes, IsTooLate, RefusedOr, away_in, end_block, ending_again, toward_in}
 pub use Rattle.xh_place.specs.Messages.{Answers, IsSent, IsTaken, IsUntaken, is_listed, settle, settled}

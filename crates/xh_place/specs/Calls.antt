@@ -1,9 +1,10 @@
 -- What the calls of a process do to its place, and why they are refused. In each relation `status` says how far the process that calls has come: of that are its first tests.
 use Rattle.std.specs.Borrow.{Bor, MutBor}
 use Rattle.std.specs.Fn.{CalledAt, CalledAtMut, Mut}
-use Rattle.std.specs.Prelude.{◌≡◌, ℕ, ◌/◌, ◌≤◌, List, [], ◌∷◌, ◌++◌, length, replicate, Some, Result, Err, IfErr, IfOk, MatchOption, OnErr}
+use Rattle.std.specs.Prelude.{◌≡◌, ℕ, ◌-◌, ◌/◌, ◌≤◌, List, [], ◌∷◌, ◌++◌, length, replicate, Some, Result, Err, IfErr, IfOk, MatchOption, OnErr}
 use Rattle.xh_arena.specs.declared.refused.Refused.{Refused as Reason}
 use Rattle.xh_arena.specs.declared.refused.Refused.TheVariants as arena
+use Rattle.xh_arena.specs.Views.{VaultOf}
 use Rattle.xh_core.specs.declared.block.Block.{Block}
 use Rattle.xh_core.specs.declared.refused.Refused.{Refused}
 use Rattle.xh_core.specs.declared.refused.Refused.TheVariants.{NoRecord, NoSpace, OutOfMemory, Worn}
@@ -22,6 +23,7 @@ use Rattle.xh_place.specs.Events.{claimed}
 use Rattle.xh_place.specs.Places.{Item, PlaceOf, found, with_blocks, with_list, with_more}
 use Rattle.xh_place.specs.Seen.{Becomes, Did, FindsFull, Frees, IsSamePlace, IsSeen, LetsGo, PlaceSeen, Stays}
 use Rattle.xh_place.specs.Splitting.{IsSplit, IsUncut}
+use Rattle.xh_place.specs.Vaults.{IsRefusedAt}
 
 -- ---- alloc
 
@@ -31,6 +33,10 @@ pub record SpaceOf : Type 1 where
   pub size : ℕ
   pub refuses : ℕ → ℕ → Reason → Type 0
 
+-- so do the vaults say from old to new
+abbrev pub space_at : {V : Type 0} → (V → V → ℕ → VaultOf → VaultOf → Type 0) → (V → ℕ) → ℕ → V → V → SpaceOf
+space_at changes extent arenas old new = record { arenas = arenas; size = extent old; refuses = IsRefusedAt changes old new }
+
 -- no record was free, as `full` says, or no memory was had; or the vault refused
 abbrev pub IsLack : Type 0 → (Reason → Type 0) → Refused → Type 0
 IsLack full refuses NoRecord = full
@@ -39,13 +45,21 @@ IsLack full refuses NoSpace = refuses arena.NoSpace
 IsLack full refuses Worn = refuses arena.Worn
 IsLack full refuses _ = ⊥
 
--- a new data block of at least n bytes of the arena, all of them zero, is the last of the list, and its record was claimed; or a record was claimed in vain, if any, and none where a test refused
-pub record Allocates (status : Status) (space : SpaceOf) (n arena : ℕ) (old new : PlaceSeen) (result : Result Block Refused) : Type 0 where
-  pub made : IfOk result (λ b. Becomes (with_more ((b.rec, record { len = b.len; content = bytes (replicate b.len 0) }) ∷ []) old.place) (claimed old.place.process (b.rec ∷ [])) old new)
+-- these bytes, and zeros up to n
+abbrev pub padded : ℕ → List ℕ → List ℕ
+padded n xs = xs ++ replicate (n - length xs) 0
+
+-- a new data block of at least n bytes of the arena, these and zeros, is the last of the list, and its record was claimed; or a record was claimed in vain, if any, and none where a test refused
+pub record Makes (status : Status) (space : SpaceOf) (n : ℕ) (xs : List ℕ) (arena : ℕ) (old new : PlaceSeen) (result : Result Block Refused) : Type 0 where
+  pub made : IfOk result (λ b. Becomes (with_more ((b.rec, record { len = b.len; content = bytes (padded b.len xs) }) ∷ []) old.place) (claimed old.place.process (b.rec ∷ [])) old new)
   pub block : IfOk result (λ b. (b.len ≡ rounded n) × (b.rec / MAX_RECORDS ≡ arena))
   pub refused : OnErr result (LetsGo (λ claims. length claims ≤ 1) arena old new)
   pub why : MatchOption (first_refusal (start status ++ alloc_tests arena space.arenas n space.size))
       (IfErr result (IsLack (FindsFull 0 old new arena) (space.refuses arena (rounded n)))) (λ refused. (result ≡ Err refused) × Stays old new)
+
+-- the same of zeros alone
+abbrev pub Allocates : Status → SpaceOf → ℕ → ℕ → PlaceSeen → PlaceSeen → Result Block Refused → Type 0
+Allocates status space n arena old new result = Makes status space n [] arena old new result
 
 -- ---- split
 
@@ -105,10 +119,14 @@ pub record LendsMut {F A : Type 0} (g : Mut F (MutBor (List ℕ) × Unit {0}) (A
 
 -- ---- free
 
--- the block is gone, its record was vacated, and its length is the answer
-pub record FreesBlock (status : Status) (r : ℕ) (old new : PlaceSeen) (result : Result ℕ Refused) : Type 0 where
-  pub freed : Tested (start status ++ data_tests (found old.place r)) result (λ n. (n ≡ len_in (found old.place r)) × Frees r old new)
+-- the block is gone, its record was vacated, and the answer is what `tells` says of it
+pub record GivesUp {A : Type 0} (tells : A → Type 0) (status : Status) (r : ℕ) (old new : PlaceSeen) (result : Result A Refused) : Type 0 where
+  pub freed : Tested (start status ++ data_tests (found old.place r)) result (λ a. tells a × Frees r old new)
   pub refused : OnErr result (Stays old new)
+
+-- the answer is its length
+abbrev pub FreesBlock : Status → ℕ → PlaceSeen → PlaceSeen → Result ℕ Refused → Type 0
+FreesBlock status r old new result = GivesUp (λ n. n ≡ len_in (found old.place r)) status r old new result
 
 -- ---- close, stop
 

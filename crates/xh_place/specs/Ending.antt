@@ -36,18 +36,11 @@ module _ (saw : ℕ → Sight → Type 0) where
     pub within : count ≤ budget
     pub more : from < length new.blocks → count ≡ budget
 
--- the bytes that a worker has given back, of all arenas, and its tallies but for these bytes
-abbrev pub back_of : List TallyOf → ℕ
-back_of [] = 0
-back_of (t ∷ ts) = t.back + back_of ts
-
-abbrev pub but_back : List TallyOf → List TallyOf
-but_back [] = []
-but_back (t ∷ ts) = record t { back = 0 } ∷ but_back ts
-
--- the worker has given so many bytes back, and moved no others
+-- of each arena the worker has given some bytes back, or none: so many of all; and it moved no others
 abbrev pub HasGivenBack : ℕ → List TallyOf → List TallyOf → Type 0
-HasGivenBack bytes old new = (back_of new ≡ back_of old + bytes) × (but_back new ≡ but_back old)
+HasGivenBack bytes [] [] = bytes ≡ 0
+HasGivenBack bytes (t ∷ old) (u ∷ new) = (n : ℕ) × (more : ℕ) × (bytes ≡ n + more) × (u ≡ record t { back = t.back + n }) × HasGivenBack more old new
+HasGivenBack bytes _ _ = ⊥
 
 -- a process is ending while it has blocks
 abbrev pub ending : ℕ → Status

@@ -10,7 +10,7 @@ use Rattle.xh_channel.specs.Endpoint.{EndpointOf}
 use Rattle.xh_place.specs.Bodies.{Content, bytes, endpoint, toward}
 use Rattle.xh_place.specs.declared.got.Got.{Got}
 use Rattle.xh_place.specs.declared.got.Got.TheVariants.{Here, Missing}
-use Rattle.xh_place.specs.Places.{Item}
+use Rattle.xh_place.specs.Places.{Item, header_of}
 use Rattle.xh_place.specs.Seen.{Sight, bears, brings}
 
 -- it puts the blocks with the tag: what the channel's put says
@@ -37,7 +37,7 @@ IsDrained ms old new = (last : EndpointOf) × TakesEach ms old last
 
 -- the record that it is about
 abbrev pub record_of : Got → ℕ
-record_of (Here block) = block.rec
+record_of (Here block kind) = block.rec
 record_of (Missing r word) = r
 
 -- the records of the blocks of messages
@@ -47,10 +47,11 @@ blocks_of (m ∷ ms) = m.blocks.items ++ blocks_of ms
 
 -- `saw r s` says what was seen at the record r
 module _ (saw : ℕ → Sight → Type 0) where
-  -- of each block in turn: it is here, and then the list gained it, in this order; or the word that was seen isn't "in flight on the direction"
+  -- of each block in turn: it is here, of this length and kind, and then the list gained it, in this order; or the word that was seen isn't "in flight on the direction"
   abbrev pub AreGot : ℕ → List (ℕ × Item) → List Got → Type 0
   AreGot d ys [] = ys ≡ []
-  AreGot d ys (Here block ∷ gots) = (x : Item) × (more : List (ℕ × Item)) × (ys ≡ (block.rec, x) ∷ more) × (x.len ≡ block.len) × saw block.rec (brings d x) × AreGot d more gots
+  AreGot d ys (Here block kind ∷ gots) = (x : Item) × (more : List (ℕ × Item)) × (ys ≡ (block.rec, x) ∷ more) × (header_of x ≡ record { len = block.len; kind = kind }) × saw block.rec (brings d x)
+      × AreGot d more gots
   AreGot d ys (Missing r word ∷ gots) = (word ≢ 2 + 4 * d) × saw r (bears word) × AreGot d ys gots
 
   -- bytes, with which nothing came; or an endpoint that was shut and then took all that it found, and each block of its messages, in their order, came or was missing

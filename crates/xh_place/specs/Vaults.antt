@@ -1,4 +1,4 @@
--- Why no bytes came, by what the call saw of the vaults.
+-- What a call does to the vault of an arena, and why no bytes came, by what it saw of the vaults.
 use Rattle.std.specs.Prelude.{◌≡◌, ◌⊎◌, ℕ, ◌<◌}
 use Rattle.xh_arena.specs.declared.refused.Refused.{Refused}
 use Rattle.xh_arena.specs.declared.refused.Refused.TheVariants as arena
@@ -9,6 +9,11 @@ use Rattle.xh_core.specs.declared.refused.Refused.TheVariants as reason
 use Rattle.xh_model.specs.Arena.{IsLawfulArena}
 
 -- `changes old new a v w` says: from old to new the vault of the arena a became w, where it was v, and nothing else changed
+
+-- the vault of the arena became another, and this is what was done to it
+abbrev pub DoesAt : {V : Type 0} → (V → V → ℕ → VaultOf → VaultOf → Type 0) → V → V → ℕ → (VaultOf → VaultOf → Type 0) → Type 0
+DoesAt changes old new a does = (v : VaultOf) × (w : VaultOf) × changes old new a v w × does v w
+
 module _ {V : Type 0} (changes : V → V → ℕ → VaultOf → VaultOf → Type 0) (old new : V) (a n : ℕ) where
   -- the call found a lawful vault that refuses to carve n bytes, and left it as it was
   abbrev pub IsRefusedAt : Refused → Type 0

@@ -8,9 +8,9 @@ ghost use Rattle.xh_core.specs.Refusing.{Tested};
 ghost use Rattle.xh_model.specs.Keyed.{value_at, put};
 ghost use Rattle.xh_place.specs.Bodies.{bytes, content_of, fits_in, kind_of, part, patched, rest};
 ghost use Rattle.xh_place.specs.Calls.{bytes_in, made_of};
-ghost use Rattle.xh_place.specs.Places.{header_of, item_of};
+ghost use Rattle.xh_place.specs.Places.{Item, header_of, item_of};
 ghost use Rattle.xh_place.specs.declared.body.Body.{Body};
-ghost use Rattle.xh_place.specs.inner.Lots.{IsData};
+ghost use Rattle.xh_place.specs.inner.Lots.{IsBodyOf, IsData};
 ghost use Rattle.xh_records.specs.Seats.{IsSeatOf, IsRecord, with_lots};
 ghost use Rattle.xh_records.specs.Showing.{IsFull, IsLotOf};
 
@@ -179,6 +179,18 @@ pub(crate) fn lend_lot<A, F: FnMut(&mut [u8]) -> A>(
             Ok(f(buffer.as_mut_slice()))
         },
     )
+}
+
+// The bytes that a data block carried.
+pub(crate) fn bytes_of(body: Body) -> Vec<u8>
+    requires { (x : Item) × IsBodyOf body x × (kind_of x.content ≡ kind.Data) }
+    ensures { (x : Item) → IsBodyOf body x → x ≡ made_of result.items }
+{
+    match body {
+        Body::Data(bytes) => bytes,
+        Body::Nothing => unreachable!(),
+        Body::End(_end) => unreachable!(),
+    }
 }
 
 // Its bytes past the first `k`, in a buffer of their own.

@@ -1,9 +1,9 @@
 // What a place does to an endpoint, in its lot.
-ghost use Rattle.std.specs.Prelude.{◌≡◌, ◌<◌, MatchOption, Some};
+ghost use Rattle.std.specs.Prelude.{◌≡◌, ◌<◌, ◌≤◌, MatchOption, Some, length};
 ghost use Rattle.xh_arena.specs.Views.{LotOf};
 ghost use Rattle.xh_model.specs.Keyed.{value_at, put};
 ghost use Rattle.xh_core.specs.declared.header.Kind.TheVariants as kind;
-ghost use Rattle.xh_model.specs.declared.limits.TheConstants.{DIRECTIONS};
+ghost use Rattle.xh_model.specs.declared.limits.TheConstants.{DIRECTIONS, MAX_BLOCKS};
 ghost use Rattle.xh_place.specs.Bodies.{IsEndAt, content_of, fits_in, kind_of, toward};
 ghost use Rattle.xh_channel.specs.Calls.{EndpointShuts};
 ghost use Rattle.xh_place.specs.Endpoints.{Puts, Takes};
@@ -45,13 +45,16 @@ pub(crate) fn spot_at(records: &Records<Body>, seat: &mut Seat<Body>, r: u16) ->
     )
 }
 
-fn copy_of(blocks: &ArrayVec<u16, 8>) -> ArrayVec<u16, 8>
-    ensures { result ≡ blocks.now }
+// The blocks of a message.
+fn listed(blocks: &[u16]) -> ArrayVec<u16, 8>
+    requires { length blocks.now ≤ MAX_BLOCKS }
+    ensures { result ≡ record { items = blocks.now } }
 {
-    let Ok(copy) = blocks.clone() else {
+    let mut list = ArrayVec::new();
+    let Ok(()) = list.try_extend_from_slice(blocks) else {
         unreachable!()
     };
-    copy
+    list
 }
 
 // Puts a message by the endpoint.
@@ -60,24 +63,26 @@ pub(crate) fn put_at<R: Wait, V, G>(
     seat: &mut Seat<Body>,
     e: u16,
     tag: u16,
-    given: &ArrayVec<u16, 8>,
+    given: &[u16],
 ) -> Result<u64, Unsent>
     requires own { IsSeatOf desk.now.records.now seat.old × IsRecord desk.now.records.now.shape e }
+    requires few { length given.now ≤ MAX_BLOCKS }
     requires held { (l : LotOf Body) × (value_at e seat.old.lots ≡ Some l) × IsLotOf seat.old.shape e l × IsEnd l }
-    ensures { (l : LotOf Body) → value_at e seat.old.lots ≡ Some l → (m : LotOf Body) × LotDoes (Puts tag given.now result) l m × (seat.new ≡ with_lots seat.old (put e m seat.old.lots)) }
+    ensures { (l : LotOf Body) → value_at e seat.old.lots ≡ Some l → (m : LotOf Body) × LotDoes (Puts tag (record { items = given.now }) result) l m
+        × (seat.new ≡ with_lots seat.old (put e m seat.old.lots)) }
 {
     let (rt, channels) = (desk.rt, desk.channels);
     desk.records.with_lot(
         seat,
         e,
         &mut |lot: &mut Lot<Body>|
-            requires { IsEnd lot.old }
-            ensures { LotDoes (Puts tag given.entry.now result) lot.old lot.new }
+            requires { IsEnd lot.old × (length given.now ≤ MAX_BLOCKS) }
+            ensures { LotDoes (Puts tag (record { items = given.entry.now }) result) lot.old lot.new }
         {
             let Body::End(end) = lot.body_mut() else {
                 unreachable!()
             };
-            channels.put(rt, end, tag, copy_of(given))
+            channels.put(rt, end, tag, listed(given))
         },
     )
 }

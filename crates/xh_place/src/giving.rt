@@ -112,22 +112,23 @@ fn post<R: Wait, V, G: Gate>(
     e: u16,
     spot: Spot,
     tag: u16,
-    given: &ArrayVec<u16, 8>,
+    given: &[u16],
 ) -> (Result<u64, Unsent>, u8, u64)
     requires own { IsSeatOf desk.now.records.now seat.old }
     requires end { (l : LotOf Body) × (value_at e seat.old.lots ≡ Some l) × IsBlock seat.old.shape e l × IsEndAt (content_of l.body) spot.channel spot.side }
-    requires distinct { Distinct given.now.items × (Among given.now.items e → ⊥) }
-    requires held { (r : ℕ) → Among given.now.items r → (l : LotOf Body) × (value_at r seat.old.lots ≡ Some l) × IsBlock seat.old.shape r l }
+    requires few { length given.now ≤ MAX_BLOCKS }
+    requires distinct { Distinct given.now × (Among given.now e → ⊥) }
+    requires held { (r : ℕ) → Among given.now r → (l : LotOf Body) × (value_at r seat.old.lots ≡ Some l) × IsBlock seat.old.shape r l }
     ensures direction { (result.1 ≡ away (item_in (value_at e seat.old.lots)).content) × (result.1 < DIRECTIONS) }
-    ensures passed { Acts (passed_on seat.old.process result.1 (shown seat.old.lots given.now.items)) seat.new.lots seat.old seat.new }
+    ensures passed { Acts (passed_on seat.old.process result.1 (shown seat.old.lots given.now)) seat.new.lots seat.old seat.new }
     ensures end { (l : LotOf Body) → value_at e seat.old.lots ≡ Some l → (m : LotOf Body) × (value_at e seat.new.lots ≡ Some m)
-        × LotDoes (Puts tag given.now result.0) l m × IsBlock seat.old.shape e m }
-    ensures gone { (r : ℕ) → Among given.now.items r → value_at r seat.new.lots ≡ None }
-    ensures others { (r : ℕ) → (Among given.now.items r → ⊥) → e ≢ r → value_at r seat.new.lots ≡ value_at r seat.old.lots }
-    ensures bytes { result.2 ≡ lens given.now.items (λ r. value_at r seat.old.lots) }
+        × LotDoes (Puts tag (record { items = given.now }) result.0) l m × IsBlock seat.old.shape e m }
+    ensures gone { (r : ℕ) → Among given.now r → value_at r seat.new.lots ≡ None }
+    ensures others { (r : ℕ) → (Among given.now r → ⊥) → e ≢ r → value_at r seat.new.lots ≡ value_at r seat.old.lots }
+    ensures bytes { result.2 ≡ lens given.now (λ r. value_at r seat.old.lots) }
 {
     let direction = spot.away();
-    let bytes = pass_all(desk.records, seat, given.as_slice(), direction);
+    let bytes = pass_all(desk.records, seat, given, direction);
     desk.gate.between(place_of(seat), Point::Passed);
     let put = put_at(desk, seat, e, tag, given);
     desk.gate.between(place_of(seat), Point::Put);
@@ -141,22 +142,23 @@ pub(crate) fn give_all<R: Wait, V, G: Gate>(
     e: u16,
     spot: Spot,
     tag: u16,
-    given: &ArrayVec<u16, 8>,
+    given: &[u16],
 ) -> Given
     requires own { IsSeatOf desk.now.records.now seat.old }
     requires end { (l : LotOf Body) × (value_at e seat.old.lots ≡ Some l) × IsBlock seat.old.shape e l × IsEndAt (content_of l.body) spot.channel spot.side }
-    requires distinct { Distinct given.now.items × (Among given.now.items e → ⊥) }
-    requires held { (r : ℕ) → Among given.now.items r → (l : LotOf Body) × (value_at r seat.old.lots ≡ Some l) × IsBlock seat.old.shape r l }
-    ensures moved { Acts (passed_on seat.old.process (away (item_in (value_at e seat.old.lots)).content) (shown seat.old.lots given.now.items)
+    requires few { length given.now ≤ MAX_BLOCKS }
+    requires distinct { Distinct given.now × (Among given.now e → ⊥) }
+    requires held { (r : ℕ) → Among given.now r → (l : LotOf Body) × (value_at r seat.old.lots ≡ Some l) × IsBlock seat.old.shape r l }
+    ensures moved { Acts (passed_on seat.old.process (away (item_in (value_at e seat.old.lots)).content) (shown seat.old.lots given.now)
         ++ accepted_on seat.old.process (away (item_in (value_at e seat.old.lots)).content) (shown seat.new.lots result.back.items)) seat.new.lots seat.old seat.new }
     ensures end { (l : LotOf Body) → value_at e seat.old.lots ≡ Some l → (m : LotOf Body) × (value_at e seat.new.lots ≡ Some m)
-        × LotDoes (Puts tag given.now result.put) l m × IsBlock seat.old.shape e m }
-    ensures others { (r : ℕ) → (Among given.now.items r → ⊥) → e ≢ r → value_at r seat.new.lots ≡ value_at r seat.old.lots }
-    ensures back { AreBack given.now.items result.back.items seat.new }
-    ensures lost { result.lost ≡ lens given.now.items (λ r. value_at r seat.old.lots) }
-    ensures gained { result.gained ≡ lens given.now.items (λ r. value_at r seat.new.lots) }
+        × LotDoes (Puts tag (record { items = given.now }) result.put) l m × IsBlock seat.old.shape e m }
+    ensures others { (r : ℕ) → (Among given.now r → ⊥) → e ≢ r → value_at r seat.new.lots ≡ value_at r seat.old.lots }
+    ensures back { AreBack given.now result.back.items seat.new }
+    ensures lost { result.lost ≡ lens given.now (λ r. value_at r seat.old.lots) }
+    ensures gained { result.gained ≡ lens given.now (λ r. value_at r seat.new.lots) }
     ensures sent { OnOk result.put (result.back.items ≡ []) }
-    ensures seen { OnErr result.put ((gots : List Got) × (map record_of gots ≡ given.now.items)
+    ensures seen { OnErr result.put ((gots : List Got) × (map record_of gots ≡ given.now)
         × AreGot (IsSeenAfter (away (item_in (value_at e seat.old.lots)).content) seat.old.process seat.old.shape seat.old.front seat.new.front)
         (away (item_in (value_at e seat.old.lots)).content) (shown seat.new.lots result.back.items) gots) }
 {
@@ -169,7 +171,7 @@ pub(crate) fn give_all<R: Wait, V, G: Gate>(
             gained: 0,
         };
     };
-    let (back, gained) = accept_back(desk.records, seat, given.as_slice(), direction);
+    let (back, gained) = accept_back(desk.records, seat, given, direction);
     Given {
         put: Err(unsent),
         back,

@@ -1,10 +1,11 @@
 // What a place does to the lots of its seat.
-ghost use Rattle.std.specs.Prelude.{◌≡◌, ◌≢◌, ℕ, MatchBool, ◌+◌, ◌-◌, ◌*◌, ◌%◌, ◌/◌, ◌<◌, ◌≤◌, ◌++◌, ◌∷◌, [], Some, IfOk, IfErr, IfSome, OnOk, OnErr, slice_get, length, replicate, true, vec_capacity};
+ghost use Rattle.std.specs.Prelude.{◌≡◌, ◌≢◌, ℕ, MatchBool, MatchResult, ◌+◌, ◌-◌, ◌*◌, ◌%◌, ◌/◌, ◌<◌, ◌≤◌, ◌++◌, ◌∷◌, [], Some, IfOk, IfErr, OnOk, OnErr, slice_get, length, true, vec_capacity};
 ghost use Rattle.xh_arena.specs.Views.{LotOf};
 ghost use Rattle.xh_model.specs.Arena.{IsGoodCut};
 ghost use Rattle.xh_model.specs.Keyed.{Among, keys, value_at, put, without};
 ghost use Rattle.xh_model.specs.declared.limits.TheConstants.{DIRECTIONS, MAX_BYTES, MAX_RECORDS, UNIT};
 ghost use Rattle.xh_place.specs.Bodies.{bytes, front, content_of, fits_in, kind_of};
+ghost use Rattle.xh_place.specs.Calls.{padded};
 ghost use Rattle.xh_place.specs.Desk.{IsSameDesk, IsSeatAt};
 ghost use Rattle.xh_place.specs.Places.{IsBlock, item_of, header_of};
 ghost use Rattle.xh_place.specs.Seen.{Arrived};
@@ -13,7 +14,6 @@ ghost use Rattle.xh_place.specs.Tallies.{gave, took};
 ghost use Rattle.xh_place.specs.Vaults.{IsNoBlock, IsRefusedAt};
 ghost use Rattle.xh_place.specs.declared.body.Body.{Body};
 ghost use Rattle.xh_place.specs.inner.Lots.{Acts, IsCut, IsData, SeatFull, SeatLetsGo};
-ghost use Rattle.xh_records.specs.History.{StartsWith};
 ghost use Rattle.xh_records.specs.Seats.{IsSeatOf, IsRecord, SawAt, with_lots};
 ghost use Rattle.xh_records.specs.Showing.{IsLotOf, IsFull};
 ghost use Rattle.xh_place.specs.Events.{accepted_on, claimed, passed_on, vacated};
@@ -33,32 +33,46 @@ use xh_core::{Header, Kind, Refused as Reason};
 use xh_model::limits::{MAX_RECORDS, PLACES};
 use xh_records::{OwnerWord, Records, Seat};
 
-// A buffer that has room for so many zeros, with them.
-fn zeroed(mut buffer: Vec<u8>, count: u32) -> Vec<u8>
-    requires { (buffer.items ≡ []) × (count ≤ vec_capacity buffer) }
-    ensures { result.items ≡ replicate count 0 }
+// Gives the buffer room for `n` bytes, and for no more than an eighth above them. It says whether it has.
+fn fit(buffer: &mut Vec<u8>, n: usize) -> bool
+    requires { (length buffer.old.items ≤ n) × (n ≤ MAX_BYTES) }
+    ensures items { buffer.new.items ≡ buffer.old.items }
+    ensures room { result ≡ true → (n ≤ vec_capacity buffer.new) × (vec_capacity buffer.new ≤ n + n / 8) }
 {
-    let Ok(()) = buffer.resize(count as usize, 0) else {
-        unreachable!()
-    };
-    buffer
+    let most = n + n / 8;
+    buffer.shrink_to(most);
+    buffer.reserve_exact(n - buffer.len()).is_ok() && buffer.capacity() <= most
 }
 
-// The record's lot gets bytes, and a buffer of zeros, for which the one that is handed in has room.
+// Hands out the buffer, which has room for them, with zeros up to `n` bytes, and leaves an empty one.
+fn fill_up(buffer: &mut Vec<u8>, n: u32) -> Vec<u8>
+    requires { (length buffer.old.items ≤ n) × (n ≤ vec_capacity buffer.old) }
+    ensures filled { result.items ≡ padded n buffer.old.items }
+    ensures left { buffer.new.items ≡ [] }
+{
+    let Ok(()) = buffer.resize(n as usize, 0) else {
+        unreachable!()
+    };
+    let empty = Vec::new(*buffer.allocator());
+    mem::replace(buffer, empty)
+}
+
+// The record's lot gets `n` bytes, and the buffer, which has room for them, with zeros up to there.
 fn fill<R, V: Vaults, G>(
     desk: &mut Desk<'_, R, V, G>,
     seat: &mut Seat<Body>,
     r: u16,
     n: u32,
-    buffer: Vec<u8>,
+    buffer: &mut Vec<u8>,
 ) -> Result<(), Refused>
     requires at { IsSeatAt V.names desk.old seat.old }
     requires held { (l : LotOf Body) × (value_at r seat.old.lots ≡ Some l) × (l.len ≡ 0) × IsRecord seat.old.shape r × IsLotOf seat.old.shape r l }
     requires size { (0 < n) × (n % UNIT ≡ 0) × (n ≤ V.extent desk.old.vaults.now) }
-    requires room { (buffer.items ≡ []) × (n ≤ vec_capacity buffer) }
+    requires room { (length buffer.old.items ≤ n) × (n ≤ vec_capacity buffer.old) }
     ensures same { IsSameDesk V.names V.extent desk.old desk.new }
     ensures seat { OnOk result ((l : LotOf Body) → value_at r seat.old.lots ≡ Some l → (m : LotOf Body) × (m ≡ record l { len = n; body = m.body })
-        × (content_of m.body ≡ bytes (replicate n 0)) × (seat.new ≡ with_lots seat.old (put r m seat.old.lots))) }
+        × (content_of m.body ≡ bytes (padded n buffer.old.items)) × (seat.new ≡ with_lots seat.old (put r m seat.old.lots))) }
+    ensures buffer { MatchResult result (λ _. buffer.new.items ≡ []) (λ _. buffer.new.items ≡ buffer.old.items) }
     ensures taken { OnOk result (desk.new.tallies.now ≡ took (r / MAX_RECORDS) n desk.old.tallies.now) }
     ensures refused { OnErr result ((seat.new ≡ seat.old) × (desk.new.tallies.now ≡ desk.old.tallies.now)) }
     ensures why { IfErr result (IsRefusedAt V.changes desk.old.vaults.now desk.new.vaults.now (r / MAX_RECORDS) n) }
@@ -66,7 +80,6 @@ fn fill<R, V: Vaults, G>(
     let arena = (r / MAX_RECORDS) as u8;
     let tally = &mut desk.tallies[usize::from(arena)];
     let vaults = &mut *desk.vaults;
-    let mut buffer = Some(buffer);
     desk.records.with_lot(
         seat,
         r,
@@ -74,30 +87,34 @@ fn fill<R, V: Vaults, G>(
             requires ids { (slice_get (V.names vaults.now) arena ≡ Some lot.old.id) × (tally.now.id ≡ lot.old.id) }
             requires empty { lot.old.len ≡ 0 }
             requires size { (0 < n) × (n % UNIT ≡ 0) × (n ≤ V.extent vaults.now) }
-            requires room { IfSome buffer (λ b. (b.items ≡ []) × (n ≤ vec_capacity b)) }
+            requires room { (length buffer.now.items ≤ n) × (n ≤ vec_capacity buffer.now) }
             ensures same { (V.names vaults.exit.now ≡ V.names vaults.entry.now) × (V.extent vaults.exit.now ≡ V.extent vaults.entry.now) × (tally.exit.now.id ≡ tally.entry.now.id) }
-            ensures lot { OnOk result (IfSome buffer.entry (λ b. (lot.new ≡ record lot.old { len = n; body = lot.new.body }) × (content_of lot.new.body ≡ bytes (replicate n 0)))) }
+            ensures lot { OnOk result ((lot.new ≡ record lot.old { len = n; body = lot.new.body }) × (content_of lot.new.body ≡ bytes (padded n buffer.entry.now.items))) }
+            ensures buffer { MatchResult result (λ _. buffer.exit.now.items ≡ []) (λ _. buffer.exit.now.items ≡ buffer.entry.now.items) }
             ensures tally { OnOk result (tally.exit.now ≡ record tally.entry.now { taken = tally.entry.now.taken + n }) }
             ensures refused { OnErr result ((lot.new ≡ lot.old) × (tally.exit.now ≡ tally.entry.now)) }
             ensures why { IfErr result (IsRefusedAt V.changes vaults.entry.now vaults.exit.now arena n) }
         {
             vaults.carve(arena, lot, tally, n)?;
-            if let Some(room) = buffer.take() {
-                *lot.body_mut() = Body::Data(zeroed(room, n));
-            }
+            *lot.body_mut() = Body::Data(fill_up(buffer, n));
             Ok(())
         },
     )
 }
 
-// The bytes of the record's lot go back, and its body is gone. It answers the bytes.
+// The bytes of the record's lot go back, and its body is in `body`. It answers the bytes.
 #[inline(always)]
-fn empty<R, V: Vaults, G>(desk: &mut Desk<'_, R, V, G>, seat: &mut Seat<Body>, r: u16) -> u32
+fn empty<R, V: Vaults, G>(
+    desk: &mut Desk<'_, R, V, G>,
+    seat: &mut Seat<Body>,
+    r: u16,
+    body: &mut Body,
+) -> u32
     requires at { IsSeatAt V.names desk.old seat.old }
     requires held { (l : LotOf Body) × (value_at r seat.old.lots ≡ Some l) × IsBlock seat.old.shape r l }
     ensures same { IsSameDesk V.names V.extent desk.old desk.new }
     ensures emptied { (l : LotOf Body) → value_at r seat.old.lots ≡ Some l → (seat.new ≡ with_lots seat.old (put r (record l { len = 0; body = Nothing }) seat.old.lots))
-        × (desk.new.tallies.now ≡ gave (r / MAX_RECORDS) l.len desk.old.tallies.now) × (result ≡ l.len) }
+        × (desk.new.tallies.now ≡ gave (r / MAX_RECORDS) l.len desk.old.tallies.now) × (result ≡ l.len) × (body.new ≡ l.body) }
 {
     let arena = (r / MAX_RECORDS) as u8;
     let tally = &mut desk.tallies[usize::from(arena)];
@@ -112,10 +129,11 @@ fn empty<R, V: Vaults, G>(desk: &mut Desk<'_, R, V, G>, seat: &mut Seat<Body>, r
             ensures lot { lot.new ≡ record lot.old { len = 0; body = Nothing } }
             ensures tally { tally.exit.now ≡ record tally.entry.now { back = tally.entry.now.back + lot.old.len } }
             ensures bytes { result ≡ lot.old.len }
+            ensures body { body.exit.now ≡ lot.old.body }
         {
             let len = lot.len();
             vaults.give_back(arena, lot, tally);
-            *lot.body_mut() = Body::Nothing;
+            *body = mem::take(lot.body_mut());
             len
         },
     )
@@ -138,36 +156,36 @@ pub(crate) fn place_of(seat: &Seat<Body>) -> u8 {
     (seat.process() % PLACES as u16) as u8
 }
 
-// Claims a record of the arena, and gives it bytes and a buffer of zeros. They are made only once the bytes are carved: a refusal
-// costs no more for a large block.
+// Claims a record of the arena, and gives it `n` bytes and the buffer, with zeros up to there. They are made only once the bytes are
+// carved: a refusal costs no more for a large block.
 pub(crate) fn make_block<R, V: Vaults, G: Gate>(
-    alloc: Global,
     desk: &mut Desk<'_, R, V, G>,
     seat: &mut Seat<Body>,
+    buffer: &mut Vec<u8>,
     n: u32,
     arena: u8,
 ) -> Result<u16, Reason>
     requires at { IsSeatAt V.names desk.old seat.old }
     requires arena { arena < length seat.old.shape.names }
-    requires size { (0 < n) × (n % UNIT ≡ 0) × (n ≤ V.extent desk.old.vaults.now) × (n ≤ MAX_BYTES) }
+    requires size { (0 < n) × (n % UNIT ≡ 0) × (n ≤ V.extent desk.old.vaults.now) × (n ≤ MAX_BYTES) × (length buffer.old.items ≤ n) }
     ensures same { IsSameDesk V.names V.extent desk.old desk.new }
     ensures arena { IfOk result (λ r. r / MAX_RECORDS ≡ arena) }
     ensures block { IfOk result (λ r. (l : LotOf Body) × (Among (keys seat.old.lots) r → ⊥)
         × Acts (claimed seat.old.process (r ∷ [])) (seat.old.lots ++ (r, l) ∷ []) seat.old seat.new × IsBlock seat.old.shape r l
-        × (l.len ≡ n) × (content_of l.body ≡ bytes (replicate n 0))) }
+        × (l.len ≡ n) × (content_of l.body ≡ bytes (padded n buffer.old.items))) }
+    ensures buffer { MatchResult result (λ _. buffer.new.items ≡ []) (λ _. buffer.new.items ≡ buffer.old.items) }
     ensures taken { OnOk result (desk.new.tallies.now ≡ took arena n desk.old.tallies.now) }
     ensures refused { OnErr result (SeatLetsGo (λ claims. length claims ≤ 1) arena seat.old seat.new × (desk.new.tallies.now ≡ desk.old.tallies.now)) }
     ensures why { IfErr result (IsNoBlock V.changes desk.old.vaults.now desk.new.vaults.now arena n (SeatFull 0 seat.old seat.new arena)) }
-    ensures seen { StartsWith seat.new.front seat.old.front }
 {
     let Ok(r) = desk.records.claim(seat, arena) else {
         return Err(Reason::NoRecord);
     };
     desk.gate.between(place_of(seat), Point::Claimed);
-    let Ok(buffer) = Vec::with_capacity(alloc, n as usize) else {
+    if !fit(buffer, n as usize) {
         desk.records.vacate(seat, r);
         return Err(Reason::OutOfMemory);
-    };
+    }
     let filled = fill(desk, seat, r, n, buffer);
     let Err(refused) = filled else {
         return Ok(r);
@@ -176,20 +194,22 @@ pub(crate) fn make_block<R, V: Vaults, G: Gate>(
     Err(reason(refused))
 }
 
-// Gives a block's bytes back, and makes its record free. It answers the bytes.
+// Gives a block's bytes back, and makes its record free. It answers the bytes, and what the block carried is in `body`.
 #[inline(always)]
 pub(crate) fn give_up<R, V: Vaults, G: Gate>(
     desk: &mut Desk<'_, R, V, G>,
     seat: &mut Seat<Body>,
     r: u16,
+    body: &mut Body,
 ) -> u32
     requires at { IsSeatAt V.names desk.old seat.old }
     requires held { (l : LotOf Body) × (value_at r seat.old.lots ≡ Some l) × IsBlock seat.old.shape r l }
     ensures same { IsSameDesk V.names V.extent desk.old desk.new }
     ensures seat { Acts (vacated seat.old.process r) (without r seat.old.lots) seat.old seat.new }
-    ensures back { (l : LotOf Body) → value_at r seat.old.lots ≡ Some l → (desk.new.tallies.now ≡ gave (r / MAX_RECORDS) l.len desk.old.tallies.now) × (result ≡ l.len) }
+    ensures back { (l : LotOf Body) → value_at r seat.old.lots ≡ Some l → (desk.new.tallies.now ≡ gave (r / MAX_RECORDS) l.len desk.old.tallies.now) × (result ≡ l.len)
+        × (body.new ≡ l.body) }
 {
-    let len = empty(desk, seat, r);
+    let len = empty(desk, seat, r, body);
     desk.gate.between(place_of(seat), Point::Returned);
     desk.records.vacate(seat, r);
     len
@@ -335,7 +355,6 @@ pub(crate) fn cut_block<R, V: Vaults, G: Gate>(
     ensures cut { IfOk result (λ t. (l : LotOf Body) → value_at r seat.old.lots ≡ Some l → IsCut seat.old seat.new r k l t) }
     ensures refused { OnErr result (SeatLetsGo (λ claims. length claims ≤ 1) (r / MAX_RECORDS) seat.old seat.new × (desk.new.vaults.now ≡ desk.old.vaults.now)) }
     ensures why { IfErr result (IsUncut (SeatFull 0 seat.old seat.new (r / MAX_RECORDS))) }
-    ensures seen { StartsWith seat.new.front seat.old.front }
 {
     let Ok(t) = desk.records.claim(seat, (r / MAX_RECORDS) as u8) else {
         return Err(Reason::NoRecord);

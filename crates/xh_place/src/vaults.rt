@@ -1,8 +1,9 @@
 //! The vaults, as the calls of a place reach them.
-ghost use Rattle.std.specs.Prelude.{◌≡◌, ◌⊎◌, ℕ, ◌+◌, ◌-◌, ◌%◌, ◌<◌, ◌≤◌, List, length, slice_get, Some, IfErr, OnOk, OnErr};
+ghost use Rattle.std.specs.Prelude.{◌≡◌, ◌⊎◌, ℕ, ◌+◌, ◌-◌, ◌%◌, ◌<◌, ◌≤◌, List, length, slice_get, Some, IfErr, IfOk, OnOk, OnErr};
 ghost use Rattle.atomic_table.specs.Seated.{TableId};
+ghost use Rattle.xh_arena.specs.Sharing.{IsVaultCarved, IsVaultCut, IsVaultGivenBack};
 ghost use Rattle.xh_arena.specs.Views.{VaultOf};
-ghost use Rattle.xh_place.specs.Vaults.{IsRefusedAt};
+ghost use Rattle.xh_place.specs.Vaults.{DoesAt, IsRefusedAt};
 ghost use Rattle.xh_model.specs.declared.limits.TheConstants.{MAX_BYTES, UNIT};
 ghost use Rattle.xh_model.specs.Arena.{IsGoodCut};
 
@@ -43,6 +44,7 @@ pub trait Vaults {
         ensures lot { OnOk result (lot.new ≡ record lot.old { len = n }) }
         ensures tally { OnOk result (tally.new ≡ record tally.old { taken = tally.old.taken + n }) }
         ensures refused { OnErr result ((lot.new ≡ lot.old) × (tally.new ≡ tally.old)) }
+        ensures carved { IfOk result (λ at. DoesAt changes self.old self.new arena (λ v w. IsVaultCarved n at v w lot.old lot.new tally.old tally.new)) }
         ensures reason { IfErr result (λ e. (e ≡ Refused.NoSpace) ⊎ (e ≡ Refused.Worn)) }
         ensures why { IfErr result (IsRefusedAt changes self.old self.new arena n) };
 
@@ -53,7 +55,8 @@ pub trait Vaults {
         requires good { IsGoodCut k head.old.len }
         ensures same { (names self.new ≡ names self.old) × (extent self.new ≡ extent self.old) }
         ensures head { head.new ≡ record head.old { len = k } }
-        ensures tail { tail.new ≡ record tail.old { len = head.old.len - k } };
+        ensures tail { tail.new ≡ record tail.old { len = head.old.len - k } }
+        ensures cut { DoesAt changes self.old self.new arena (λ v w. IsVaultCut k v w head.old head.new tail.old tail.new) };
 
     /// As `Vault::give_back`, of an arena.
     fn give_back(&mut self, arena: u8, lot: &mut Lot<Body>, tally: &mut Tally)
@@ -61,5 +64,6 @@ pub trait Vaults {
         requires some { 0 < lot.old.len }
         ensures same { (names self.new ≡ names self.old) × (extent self.new ≡ extent self.old) }
         ensures lot { lot.new ≡ record lot.old { len = 0 } }
-        ensures tally { tally.new ≡ record tally.old { back = tally.old.back + lot.old.len } };
+        ensures tally { tally.new ≡ record tally.old { back = tally.old.back + lot.old.len } }
+        ensures given_back { DoesAt changes self.old self.new arena (λ v w. IsVaultGivenBack v w lot.old lot.new tally.old tally.new) };
 }

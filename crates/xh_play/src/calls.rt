@@ -12,7 +12,7 @@ use xh_core::Config;
 use xh_kernel::{Account, Kernel, Look, Names, Parts};
 use xh_runner::{Machine, Report, hire, leave_all};
 use xh_script::{Answered, Fault, Name, Script};
-use xh_session::{Names as Bindings, Session};
+use xh_session::{Bindings, Session};
 
 // The replies, and the name of the latest process of each place.
 type Told = (Vec<Answered>, Vec<Name>);
@@ -43,7 +43,7 @@ fn answer_all<M: Machine>(
             reply,
         })?;
     }
-    let names = session.names.by_place(alloc, &script.processes)?;
+    let names = session.names.processes.by_place(alloc, &script.processes)?;
     Ok((answers, names))
 }
 

@@ -1,5 +1,5 @@
 -- Lemmas on how lines are played, and on which reply is whose.
-use Rattle.xh_runner.proofs.Common.{Answered, Bindings, Bool, Line, List, Plays, Reply, World, [], add-one, ap, append-nil, append_assoc, arith, drop, drop-cons, drop_of_length-le, false}
+use Rattle.xh_runner.proofs.Common.{Answered, Bool, Line, List, Plays, Processes, Reply, World, [], add-one, ap, append-nil, append_assoc, arith, drop, drop-cons, drop_of_length-le, false}
 use Rattle.xh_runner.proofs.Common.{filter, get_or, if◌then◌else◌, length, map, nat_tests, nil_from_length, part, part_of, refl, set, subst, suc, sym, true, zero, ℕ, ◌++◌, ◌+◌, ◌<◌, ◌==◌}
 use Rattle.xh_runner.proofs.Common.{◌∙◌, ◌∷◌, ◌≡◌, ◌≤◌}
 use Rattle.std.proofs.Common.{take, ◌≢◌}
@@ -93,7 +93,7 @@ if_more : (own : Bool) (x : Reply) (rs more late : List Reply) → more ≡ rs +
 if_more true x rs more late e = ap (λ l. x ∷ l) e
 if_more false x rs more late e = e
 
-module _ (b : Bindings) (k : ℕ) where
+module _ (b : Processes) (k : ℕ) where
   -- one more answer is the next of its part, and of no other
   replies_more : (lines : List Line) (answers : List Answered) (i : ℕ) (line : Line) (a : Answered) → i < length lines → get_or lines i line ≡ line → length answers ≡ i
       → replies_in b k (take (suc i) lines) (answers ++ a ∷ []) ≡ replies_in b k (take i lines) answers ++ (if part_of b line == k then a.reply ∷ [] else [])
@@ -129,7 +129,7 @@ module _ (b : Bindings) (k : ℕ) where
       (rw (add-one i, replies_more lines answers i line (record { line = line.number; reply = reply }) below e long) told, left)
 
 -- of a line's part a reply is left
-pub some_left : (b : Bindings) (lines : List Line) (i : ℕ) (line : Line) (n : ℕ) → i < length lines → get_or lines i line ≡ line → n ≡ length (part b (part_of b line) (drop i lines)) → 0 < n
+pub some_left : (b : Processes) (lines : List Line) (i : ℕ) (line : Line) (n : ℕ) → i < length lines → get_or lines i line ≡ line → n ≡ length (part b (part_of b line) (drop i lines)) → 0 < n
 some_left b lines i line n below e enough =
     let own : (part_of b line == part_of b line) ≡ true = grind (arith, nat_tests) in
     let more : length (part b (part_of b line) (drop i lines)) ≡ suc (length (part b (part_of b line) (drop (i + 1) lines))) =

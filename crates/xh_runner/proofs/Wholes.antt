@@ -1,16 +1,16 @@
 -- Lemmas on whole runs: what all have played is what the answers tell.
-use Rattle.xh_runner.proofs.Common.{Answered, ArePlayed, Bindings, Bool, DoesLine, DoesAmong, IsHand, Joins, LAST, Left, Line, List, None, PLACES, PlaceIsDone, Plays, Reply}
-use Rattle.xh_runner.proofs.Common.{ap, arith, began, false, get_or, if◌then◌else◌, length, map, nat_tests, number_at, part, process_at, refl, subst, suc, sym, true, world_of, zero, ℕ, ◌+◌, ◌++◌}
+use Rattle.xh_runner.proofs.Common.{Answered, ArePlayed, Bool, DoesLine, DoesAmong, IsHand, Joins, LAST, Left, Line, List, None, PLACES, PlaceIsDone, Plays, Processes, Reply}
+use Rattle.xh_runner.proofs.Common.{ap, arith, began, began_at, false, get_or, if◌then◌else◌, length, map, nat_tests, number_at, part, process_at, refl, subst, suc, sym, true, world_of, zero, ℕ, ◌+◌, ◌++◌}
 use Rattle.xh_runner.proofs.Common.{World, [], ◌<◌, ◌==◌, ◌∙◌, ◌∷◌, ◌≡◌, ◌≤◌}
 use Rattle.std.proofs.Math.Dec.{eqb-suc-zero}
 use Rattle.xh_model.specs.declared.row.Row.{Row}
 use Rattle.xh_runner.proofs.Plays.{plays_length, zips_count}
-use Rattle.xh_runner.specs.inner.Jobs.{AreEnough, AreTold}
+use Rattle.xh_runner.specs.inner.Tasks.{AreEnough, AreTold}
 use Rattle.xh_runner.specs.declared.crew.Hand.{Hand}
 use Rattle.xh_runner.specs.declared.crew.Hand.TheVariants.{Idle, Works}
-use Rattle.xh_runner.specs.declared.job.Done.{Done}
-use Rattle.xh_runner.specs.declared.job.Shared.{Shared}
-use Rattle.xh_runner.specs.Plays.{AllZipFrom, PlayAll, PlaysPlace, is_placed, process_of, replies_in}
+use Rattle.xh_runner.specs.declared.task.Done.{Done}
+use Rattle.xh_runner.specs.declared.task.Crew.{Crew}
+use Rattle.xh_runner.specs.Plays.{AllZipFrom, PlayAll, PlaysPlace, is_placed, line_process, replies_in}
 use Rattle.xh_script.specs.Forms.{is_head}
 use Rattle.xh_session.specs.Questions.{AnswerTo, Question}
 
@@ -22,18 +22,18 @@ zero_at false true n = eqb-suc-zero n
 zero_at false false n = eqb-suc-zero PLACES
 
 -- the head's lines are the same by whatever names stand for
-pub same_head : (b c : Bindings) (lines : List Line) → part b 0 lines ≡ part c 0 lines
+pub same_head : (b c : Processes) (lines : List Line) → part b 0 lines ≡ part c 0 lines
 same_head b c [] = refl
 same_head b c (line ∷ lines) = rw (
-  zero_at (is_head line.command.form) (is_placed b (process_of line)) (number_at b (process_of line)),
-  zero_at (is_head line.command.form) (is_placed c (process_of line)) (number_at c (process_of line)),
+  zero_at (is_head line.command.form) (is_placed b (line_process line)) (number_at b (line_process line)),
+  zero_at (is_head line.command.form) (is_placed c (line_process line)) (number_at c (line_process line)),
   same_head b c lines,
 ) refl
 
 -- ---- a place
 
 -- a place without a process has no lines
-pub no_part : (b : Bindings) (k : ℕ) (lines : List Line) → k < PLACES → process_at b k ≡ None → part b (suc k) lines ≡ []
+pub no_part : (b : Processes) (k : ℕ) (lines : List Line) → k < PLACES → process_at b k ≡ None → part b (suc k) lines ≡ []
 no_part b k [] below none = refl
 no_part b k (line ∷ lines) below none = grind (arith, nat_tests, no_part b k lines below none, none)
 
@@ -51,16 +51,16 @@ behind_count (done ∷ dones) rests = ap suc (behind_count dones rests)
 
 module _ {M S : Type 0} (state : M → S) (did : S → (q : Question) → AnswerTo q → S → Type 0) where
   -- what was joined of a place is what is left of it
-  pub place_joined : {G : Type 0} (shared : Shared G) (k : ℕ) (machine : M) (hand : Hand M G) (done : Done M) → IsHand state shared k machine hand → Joins state did hand done
-      → Left state did shared.ready.now shared.lines.now k (record { machine = state machine; names = shared.ready.now; contracts = shared.contracts.now }) done
-  place_joined shared k machine (Works handle) done (same, job) d =
-      let old = world_of state handle.promise.job.value.session in
-      subst (λ x. Left state did shared.ready.now shared.lines.now k x done) job.world
-      (subst (λ x. Left state did shared.ready.now shared.lines.now x old done) job.place
-      (subst (λ x. Left state did x.ready.now x.lines.now handle.promise.job.value.place old done) same d))
-  place_joined shared k machine (Idle idle) done (same, below, none) (left, nothing) = (
-    record { machine = state machine; names = shared.ready.now; contracts = shared.contracts.now },
-    rw (no_part shared.ready.now k shared.lines.now below none, nothing) refl,
+  pub place_joined : {G : Type 0} (crew : Crew G) (k : ℕ) (machine : M) (hand : Hand M G) (done : Done M) → IsHand state crew k machine hand → Joins state did hand done
+      → Left state did crew.ready.now.processes crew.lines.now k (began_at crew.ready.now crew.contracts.now k (state machine)) done
+  place_joined crew k machine (Works handle) done (same, task) d =
+      let old = world_of state handle.promise.task.value.session in
+      subst (λ x. Left state did crew.ready.now.processes crew.lines.now k x done) task.world
+      (subst (λ x. Left state did crew.ready.now.processes crew.lines.now x old done) task.place
+      (subst (λ x. Left state did x.ready.now.processes x.lines.now handle.promise.task.value.place old done) same d))
+  place_joined crew k machine (Idle idle) done (same, below, none) (left, nothing) = (
+    began_at crew.ready.now crew.contracts.now k (state machine),
+    rw (no_part crew.ready.now.processes k crew.lines.now below none, nothing) refl,
     ap state (sym (left ∙ same)),
   )
 
@@ -68,47 +68,47 @@ module _ {M S : Type 0} (state : M → S) (did : S → (q : Question) → Answer
     abbrev AreDone : ℕ → List M → List (Done M) → Type 0
     AreDone = AllZipFrom (PlaceIsDone state did ready lines)
 
-    enough_behind : (k : ℕ) (olds : List M) (dones : List (Done M)) (rests : List Reply) → AreDone k olds dones → k + length dones ≡ PLACES → length rests ≡ length (part ready.names LAST lines)
-        → (j : ℕ) → k + j ≤ PLACES → length (get_or (behind dones rests) j []) ≡ length (part ready.names (suc (k + j)) lines)
-    enough_behind k [] [] rests p count last zero within = last ∙ ap (λ n. length (part ready.names (suc n) lines)) (omega arith)
+    enough_behind : (k : ℕ) (olds : List M) (dones : List (Done M)) (rests : List Reply) → AreDone k olds dones → k + length dones ≡ PLACES → length rests ≡ length (part ready.names.processes LAST lines)
+        → (j : ℕ) → k + j ≤ PLACES → length (get_or (behind dones rests) j []) ≡ length (part ready.names.processes (suc (k + j)) lines)
+    enough_behind k [] [] rests p count last zero within = last ∙ ap (λ n. length (part ready.names.processes (suc n) lines)) (omega arith)
     enough_behind k [] [] rests p count last (suc j) within = absurd (omega arith)
     enough_behind k [] (done ∷ dones) rests p count last j within = absurd p
     enough_behind k (old ∷ olds) [] rests p count last j within = absurd p
     enough_behind k (old ∷ olds) (done ∷ dones) rests (p, ps) count last zero within =
-        plays_length (DoesAmong did lines) _ _ _ _ p.1 ∙ ap (λ n. length (part ready.names (suc n) lines)) (omega arith)
+        plays_length (DoesAmong did lines) _ _ _ _ p.1 ∙ ap (λ n. length (part ready.names.processes (suc n) lines)) (omega arith)
     enough_behind k (old ∷ olds) (done ∷ dones) rests (p, ps) count last (suc j) within =
-        enough_behind (suc k) olds dones rests ps (omega arith) last j (omega arith) ∙ ap (λ n. length (part ready.names (suc n) lines)) (omega arith)
+        enough_behind (suc k) olds dones rests ps (omega arith) last j (omega arith) ∙ ap (λ n. length (part ready.names.processes (suc n) lines)) (omega arith)
 
     pub all_enough : (olds : List M) (heads rests : List Reply) (dones : List (Done M)) → AreDone 0 olds dones → length dones ≡ PLACES
-        → length heads ≡ length (part ready.names 0 lines) → length rests ≡ length (part ready.names LAST lines) → AreEnough ready.names lines (heads ∷ behind dones rests)
+        → length heads ≡ length (part ready.names.processes 0 lines) → length rests ≡ length (part ready.names.processes LAST lines) → AreEnough ready.names.processes lines (heads ∷ behind dones rests)
     all_enough olds heads rests dones places count head rest zero within = head
     all_enough olds heads rests dones places count head rest (suc k) within =
-        enough_behind 0 olds dones rests places (omega (arith, count)) rest k (omega arith) ∙ ap (λ n. length (part ready.names (suc n) lines)) (omega arith)
+        enough_behind 0 olds dones rests places (omega (arith, count)) rest k (omega arith) ∙ ap (λ n. length (part ready.names.processes (suc n) lines)) (omega arith)
 
     -- and each place has its replies
     module _ (contracts : List (List Row)) (answers : List Answered) where
       places_played : (k : ℕ) (olds : List M) (dones : List (Done M)) (rests : List Reply) → AreDone k olds dones
-          → ((j : ℕ) → j < length dones → get_or (behind dones rests) j [] ≡ replies_in ready.names (suc (k + j)) lines answers)
+          → ((j : ℕ) → j < length dones → get_or (behind dones rests) j [] ≡ replies_in ready.names.processes (suc (k + j)) lines answers)
           → AllZipFrom (PlaysPlace did contracts lines answers ready) k (map state olds) (map state (map (λ done. done.machine) dones))
       places_played k [] [] rests p told = tt
       places_played k [] (done ∷ dones) rests p told = absurd p
       places_played k (old ∷ olds) [] rests p told = absurd p
       places_played k (old ∷ olds) (done ∷ dones) rests (p, ps) told =
-          let own = told 0 (omega arith) ∙ ap (λ n. replies_in ready.names (suc n) lines answers) (omega arith) in (
-            (p.0, subst (λ rs. Plays (DoesAmong did lines) (record ready { machine = state old }) (part ready.names (suc k) lines) rs p.0) own p.1, p.2),
-            places_played (suc k) olds dones rests ps (λ j below. told (suc j) (omega arith) ∙ ap (λ n. replies_in ready.names (suc n) lines answers) (omega arith)),
+          let own = told 0 (omega arith) ∙ ap (λ n. replies_in ready.names.processes (suc n) lines answers) (omega arith) in (
+            (p.0, subst (λ rs. Plays (DoesAmong did lines) (began_at ready.names ready.contracts k (state old)) (part ready.names.processes (suc k) lines) rs p.0) own p.1, p.2),
+            places_played (suc k) olds dones rests ps (λ j below. told (suc j) (omega arith) ∙ ap (λ n. replies_in ready.names.processes (suc n) lines answers) (omega arith)),
           )
 
       pub all_played : (first : S) (end : World S) (olds : List M) (heads rests : List Reply) (dones : List (Done M)) → length dones ≡ PLACES
-          → Plays (DoesLine did) (began first contracts) (part ready.names 0 lines) heads ready → AreDone 0 olds dones → Plays (DoesLine did) ready (part ready.names LAST lines) rests end
-          → AreTold ready.names lines answers (heads ∷ behind dones rests)
+          → Plays (DoesLine did) (began first contracts) (part ready.names.processes 0 lines) heads ready → AreDone 0 olds dones → Plays (DoesLine did) ready (part ready.names.processes LAST lines) rests end
+          → AreTold ready.names.processes lines answers (heads ∷ behind dones rests)
           → PlayAll did contracts lines answers first (map state olds) end.machine (map state (map (λ done. done.machine) dones))
       all_played first end olds heads rests dones count head places rest told = record {
         ready = ready;
         end = end;
-        head = subst (λ rs. Plays (DoesLine did) (began first contracts) (part ready.names 0 lines) rs ready) (sym (told 0 (omega arith))) head;
-        places = places_played 0 olds dones rests places (λ j below. sym (told (suc j) (omega (arith, count))) ∙ ap (λ n. replies_in ready.names (suc n) lines answers) (omega arith));
-        rest = subst (λ rs. Plays (DoesLine did) ready (part ready.names LAST lines) rs end)
+        head = subst (λ rs. Plays (DoesLine did) (began first contracts) (part ready.names.processes 0 lines) rs ready) (sym (told 0 (omega arith))) head;
+        places = places_played 0 olds dones rests places (λ j below. sym (told (suc j) (omega (arith, count))) ∙ ap (λ n. replies_in ready.names.processes (suc n) lines answers) (omega arith));
+        rest = subst (λ rs. Plays (DoesLine did) ready (part ready.names.processes LAST lines) rs end)
             (sym (told LAST (omega arith) ∙ ap (λ n. get_or (behind dones rests) n []) (sym count) ∙ at_last dones rests)) rest;
         left = refl;
       }

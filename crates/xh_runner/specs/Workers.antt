@@ -29,7 +29,7 @@ pub record WorkerState : Type 0 where
 
 -- a block that was got, where it is there
 abbrev pub gotten : Got → Option Block
-gotten (Here block) = Some block
+gotten (Here block kind) = Some block
 gotten (Missing rec word) = None
 
 -- a message whose blocks were got

@@ -1,11 +1,12 @@
 //! A thread for each place that has a process.
-ghost use Rattle.std.specs.Prelude.{◌≡◌, ◌<◌, ◌≤◌, [], IfOk, MatchResult, OnOk, vec_len};
+ghost use Rattle.std.specs.Prelude.{◌≡◌, ◌<◌, ◌≤◌, [], IfOk, MatchResult, OnOk, Some, vec_len};
 ghost use Rattle.xh_model.specs.declared.limits.TheConstants.{PLACES};
-ghost use Rattle.xh_runner.specs.inner.Jobs.{ArePlacesDone, IsHand, IsJob, Joins};
+ghost use Rattle.xh_runner.specs.inner.Tasks.{ArePlacesDone, IsHand, IsTask, Joins};
 ghost use Rattle.xh_runner.specs.Plays.{AllZipFrom, MayStop};
+ghost use Rattle.xh_session.specs.Bindings.{process_at};
 
-use crate::job::{Done, Job, Shared};
 use crate::play::part_of;
+use crate::task::{Crew, Done, Task};
 use std::alloc::{AllocError, Global};
 use std::snapshot::Snapshot;
 use std::sync::Wait;
@@ -15,45 +16,46 @@ use xh_place::Gate;
 use xh_script::{Fault, Line};
 use xh_session::{Machine, Session};
 
-/// That a worker's job is done, or it was stopped.
+/// That a worker's task is done, or it was stopped.
 #[derive(Drop)]
-struct Does<'s, 'a, M, G> {
-    job: Snapshot<Job<'a, M>>,
-    shared: &'s Shared<'a, G>,
+struct DoesTask<'s, 'a, M, G> {
+    task: Snapshot<Task<'a, M>>,
+    crew: &'s Crew<'a, G>,
 }
 
-impl<'s, 'a, M: Machine, G: Gate> Promise<Result<Done<M>, Fault>> for Does<'s, 'a, M, G> {
-    ghost use Rattle.xh_runner.specs.inner.Jobs.{Leaves};
+impl<'s, 'a, M: Machine, G: Gate> Promise<Result<Done<M>, Fault>> for DoesTask<'s, 'a, M, G> {
+    ghost use Rattle.xh_runner.specs.inner.Tasks.{LeavesTask};
 
-    ghost kept_by = { λ p left. Leaves M.state M.did G.always p.shared.now p.job.value left };
+    ghost kept_by = { λ p left. LeavesTask M.state M.did G.always p.crew.now p.task.value left };
 }
 
 /// A worker of a place, or the machine of one without a process.
 #[derive(Drop)]
 enum Hand<'s, 'a, M: Machine, G: Gate> {
-    Works(PromisedHandle<Result<Done<M>, Fault>, Does<'s, 'a, M, G>>),
+    Works(PromisedHandle<Result<Done<M>, Fault>, DoesTask<'s, 'a, M, G>>),
     Idle(M),
 }
 
-// The job of a place, with what the names stand for after the head, and room for its replies.
-fn job<'a, M: Machine, G>(
+// The task of a place, with what the names of its process stand for after the head, and room for its replies.
+fn task<'a, M: Machine, G>(
     alloc: Global,
     machine: M,
     place: u8,
-    shared: &Shared<'a, G>,
-) -> Result<Job<'a, M>, AllocError>
-    requires { place < PLACES }
-    ensures { IfOk result (IsJob M.state shared.now place machine) }
+    process: u8,
+    crew: &Crew<'a, G>,
+) -> Result<Task<'a, M>, AllocError>
+    requires { (place < PLACES) × (process_at crew.now.ready.now.processes place ≡ Some process) }
+    ensures { IfOk result (IsTask M.state crew.now place machine) }
 {
     let number = place + 1;
-    let own = |line: &&Line| part_of(shared.ready, line) == number;
-    let room = Vec::with_capacity(alloc, shared.lines.iter().filter(own).count())?;
-    let names = shared.ready.copy(alloc)?;
-    Ok(Job {
+    let own = |line: &&Line| part_of(&crew.ready.processes, line) == number;
+    let room = Vec::with_capacity(alloc, crew.lines.iter().filter(own).count())?;
+    let names = crew.ready.of_process(alloc, process)?;
+    Ok(Task {
         session: Session {
             machine,
             names,
-            contracts: shared.contracts,
+            contracts: crew.contracts,
         },
         place,
         room,
@@ -67,20 +69,20 @@ fn start<'s, 'a: 's, E, M: Machine + Send + 's, R: Threads + Wait + Sync + 's, G
     alloc: Global,
     machine: M,
     place: u8,
-    shared: &'s Shared<'a, G>,
+    crew: &'s Crew<'a, G>,
 ) -> Result<Hand<'s, 'a, M, G>, AllocError>
     requires { place < PLACES }
-    ensures { IfOk result (IsHand M.state shared.now place machine) }
+    ensures { IfOk result (IsHand M.state crew.now place machine) }
 {
-    if shared.ready.process_at(place).is_none() {
+    let Some(process) = crew.ready.processes.process_at(place) else {
         return Ok(Hand::Idle(machine));
-    }
-    let job = job(alloc, machine, place, shared)?;
-    let promise = Does {
-        job: Snapshot::of(&job),
-        shared,
     };
-    let handle = scope.spawn_with(promise, move || job.work(rt, alloc, shared))?;
+    let task = task(alloc, machine, place, process, crew)?;
+    let promise = DoesTask {
+        task: Snapshot::of(&task),
+        crew,
+    };
+    let handle = scope.spawn_with(promise, move || task.work(rt, alloc, crew))?;
     Ok(Hand::Works(handle))
 }
 
@@ -97,17 +99,17 @@ fn start_all<
     rt: &'s R,
     alloc: Global,
     machines: Vec<M>,
-    shared: &'s Shared<'a, G>,
+    crew: &'s Crew<'a, G>,
     hands: &mut Vec<Hand<'s, 'a, M, G>>,
 ) -> Result<(), AllocError>
     requires empty { hands.old.items ≡ [] }
     requires count { vec_len machines ≤ PLACES }
-    ensures { OnOk result (AllZipFrom (IsHand M.state shared.now) 0 machines.items hands.new.items) }
+    ensures { OnOk result (AllZipFrom (IsHand M.state crew.now) 0 machines.items hands.new.items) }
 {
-    let mut started = shared.started.lock(rt);
+    let mut started = crew.started.lock(rt);
     let mut place = 0u8;
     for machine in machines {
-        hands.push(start(scope, rt, alloc, machine, place, shared)?)?;
+        hands.push(start(scope, rt, alloc, machine, place, crew)?)?;
         place += 1;
     }
     *started = true;
@@ -163,14 +165,14 @@ fn run_in<
     rt: &'s R,
     alloc: Global,
     machines: Vec<M>,
-    shared: &'s Shared<'a, G>,
+    crew: &'s Crew<'a, G>,
 ) -> Result<Vec<Done<M>>, Fault>
     requires { vec_len machines ≤ PLACES }
-    ensures { MatchResult result (λ dones. ArePlacesDone M.state M.did shared.now machines.items dones.items) (MayStop G.always) }
+    ensures { MatchResult result (λ dones. ArePlacesDone M.state M.did crew.now machines.items dones.items) (MayStop G.always) }
 {
     let dones = Vec::with_capacity(alloc, machines.len())?;
     let mut hands = Vec::with_capacity(alloc, machines.len())?;
-    let started = start_all(scope, rt, alloc, machines, shared, &mut hands);
+    let started = start_all(scope, rt, alloc, machines, crew, &mut hands);
     let dones = join_all(rt, alloc, hands, dones);
     match started {
         Ok(()) => dones,
@@ -184,17 +186,17 @@ pub(crate) fn work_all<'s, 'a: 's, M: Machine + Send, R: Threads + Wait + Sync, 
     rt: &'s R,
     alloc: Global,
     machines: Vec<M>,
-    shared: &'s Shared<'a, G>,
+    crew: &'s Crew<'a, G>,
 ) -> Result<Vec<Done<M>>, Fault>
     requires { vec_len machines ≤ PLACES }
-    ensures { MatchResult result (λ dones. ArePlacesDone M.state M.did shared.now machines.items dones.items) (MayStop G.always) }
+    ensures { MatchResult result (λ dones. ArePlacesDone M.state M.did crew.now machines.items dones.items) (MayStop G.always) }
 {
     thread::scope(
         thread::scope_env(),
         rt,
         |scope| -> Result<Vec<Done<M>>, Fault>
             requires { vec_len machines ≤ PLACES }
-            ensures { MatchResult result (λ dones. ArePlacesDone M.state M.did shared.entry.now machines.items dones.items) (MayStop G.always) }
-        { run_in(scope, rt, alloc, machines, shared) },
+            ensures { MatchResult result (λ dones. ArePlacesDone M.state M.did crew.entry.now machines.items dones.items) (MayStop G.always) }
+        { run_in(scope, rt, alloc, machines, crew) },
     )
 }

@@ -2,10 +2,10 @@
 #![tactic(auto)]
 
 mod crew;
-mod job;
 mod play;
 mod replies;
 mod run;
+mod task;
 mod threads;
 mod worker;
 

@@ -1,38 +1,38 @@
-//! How a worker does its job.
+//! How a worker does its task.
 ghost use Rattle.std.specs.Prelude.{◌≡◌, ◌<◌, ◌≤◌, [], suc, IfOk, IfErr};
 ghost use Rattle.std.specs.List.{list_any};
 ghost use Rattle.xh_model.specs.declared.limits.TheConstants.{PLACES};
 ghost use Rattle.xh_runner.specs.Plays.{DoesAmong, LAST, MayStop, Plays, is_placed, names_renewed, part, part_of, renews};
-ghost use Rattle.xh_runner.specs.inner.Jobs.{Hears, Leaves};
+ghost use Rattle.xh_runner.specs.inner.Tasks.{Hears, LeavesTask};
 ghost use Rattle.xh_session.specs.Plans.{world_of};
 
-use crate::job::{Done, Job, Shared};
+use crate::task::{Crew, Done, Task};
 use std::alloc::Global;
 use std::sync::Wait;
 use xh_model::limits::PLACES;
 use xh_place::Gate;
 use xh_script::{Fault, Form, Line, Reply};
-use xh_session::{Machine, Names as Bindings, Session};
+use xh_session::{Bindings, Machine, Processes, Session};
 
 // Whether the process has the place of its number.
-fn is_placed(names: &Bindings, process: u8) -> bool
-    ensures { result ≡ is_placed names.now process }
+fn is_placed(processes: &Processes, process: u8) -> bool
+    ensures { result ≡ is_placed processes.now process }
 {
-    let number = names.number(process);
+    let number = processes.number(process);
     number < u16::from(PLACES)
-        && matches!(names.process_at(number as u8), Some(latest) if latest == process)
+        && matches!(processes.process_at(number as u8), Some(latest) if latest == process)
 }
 
 /// The part of a run to which a line belongs.
-pub(crate) fn part_of(names: &Bindings, line: &Line) -> u8
-    ensures is { result ≡ part_of names.now line.now }
+pub(crate) fn part_of(processes: &Processes, line: &Line) -> u8
+    ensures is { result ≡ part_of processes.now line.now }
     ensures within { result ≤ LAST }
 {
     let process = line.command.name(0);
     if line.command.form.is_head() {
         0
-    } else if is_placed(names, process) {
-        1 + names.number(process) as u8
+    } else if is_placed(processes, process) {
+        1 + processes.number(process) as u8
     } else {
         1 + PLACES
     }
@@ -65,13 +65,13 @@ fn names_renewed(lines: &[Line], line: &Line) -> bool
 }
 
 // By which number the process goes by now that the line's command names, where another worker may start it again.
-fn hear<R: Wait, G>(rt: &R, shared: &Shared<'_, G>, names: &mut Bindings, line: &Line)
-    ensures { Hears shared.now.lines.now line.now names.old names.new }
+fn hear<R: Wait, G>(rt: &R, crew: &Crew<'_, G>, names: &mut Bindings, line: &Line)
+    ensures { Hears crew.now.lines.now line.now names.old names.new }
 {
-    if names_renewed(shared.lines, line) {
+    if names_renewed(crew.lines, line) {
         let other = line.command.name(1);
-        let number = shared.names.lock(rt).number(other);
-        names.renumber(other, number);
+        let number = crew.processes.lock(rt).number(other);
+        names.processes.renumber(other, number);
     }
 }
 
@@ -79,16 +79,16 @@ fn hear<R: Wait, G>(rt: &R, shared: &Shared<'_, G>, names: &mut Bindings, line: 
 fn step<'a, M: Machine, R: Wait, G>(
     rt: &R,
     alloc: Global,
-    shared: &Shared<'_, G>,
+    crew: &Crew<'_, G>,
     session: &mut Session<'a, M>,
     line: &Line,
 ) -> Reply
-    ensures { DoesAmong M.did shared.now.lines.now (world_of M.state session.old) line.now result (world_of M.state session.new) }
+    ensures { DoesAmong M.did crew.now.lines.now (world_of M.state session.old) line.now result (world_of M.state session.new) }
 {
-    hear(rt, shared, &mut session.names, line);
+    hear(rt, crew, &mut session.names, line);
     let reply = session.step(alloc, &line.command);
     if let Reply::Started(number) = reply {
-        shared.names.lock(rt).start(line.command.name(0), number);
+        crew.processes.lock(rt).start(line.command.name(0), number);
     }
     reply
 }
@@ -97,48 +97,48 @@ fn step<'a, M: Machine, R: Wait, G>(
 fn play<'a, M: Machine, R: Wait, G: Gate>(
     rt: &R,
     alloc: Global,
-    shared: &Shared<'_, G>,
+    crew: &Crew<'_, G>,
     session: &mut Session<'a, M>,
     place: u8,
     mut replies: Vec<Reply>,
 ) -> Result<Vec<Reply>, Fault>
     requires { (place < PLACES) × (replies.items ≡ []) }
-    ensures played { IfOk result (λ replies. Plays (DoesAmong M.did shared.now.lines.now) (world_of M.state session.old) (part shared.now.ready.now (suc place) shared.now.lines.now) replies.items
+    ensures played { IfOk result (λ replies. Plays (DoesAmong M.did crew.now.lines.now) (world_of M.state session.old) (part crew.now.ready.now.processes (suc place) crew.now.lines.now) replies.items
         (world_of M.state session.new)) }
     ensures stopped { IfErr result (MayStop G.always) }
 {
     let mut command = 0u32;
-    for line in shared.lines {
-        if part_of(shared.ready, line) == place + 1 {
-            if !shared.gate.before(place, command) {
+    for line in crew.lines {
+        if part_of(&crew.ready.processes, line) == place + 1 {
+            if !crew.gate.before(place, command) {
                 return Err(Fault::Gate);
             }
-            replies.push(step(rt, alloc, shared, session, line))?;
-            shared.gate.after(place, command);
+            replies.push(step(rt, alloc, crew, session, line))?;
+            crew.gate.after(place, command);
             command = command.saturating_add(1);
         }
     }
     Ok(replies)
 }
 
-impl<'a, M: Machine> Job<'a, M> {
+impl<'a, M: Machine> Task<'a, M> {
     /// Does the commands once all workers were started; none where one could not be.
     pub(crate) fn work<R: Wait, G: Gate>(
         self,
         rt: &R,
         alloc: Global,
-        shared: &Shared<'_, G>,
+        crew: &Crew<'_, G>,
     ) -> Result<Done<M>, Fault>
-        ensures { Leaves M.state M.did G.always shared.now self.entry result }
+        ensures { LeavesTask M.state M.did G.always crew.now self.entry result }
     {
-        let Job {
+        let Task {
             mut session,
             place,
             room,
         } = self;
-        let started = *shared.started.lock(rt);
+        let started = *crew.started.lock(rt);
         let played = if started {
-            play(rt, alloc, shared, &mut session, place, room)
+            play(rt, alloc, crew, &mut session, place, room)
         } else {
             Err(Fault::Memory)
         };

@@ -1,19 +1,19 @@
 //! The replies to the lines of a script, out of those of its parts, and what they tell.
 ghost use Rattle.std.specs.Prelude.{◌≡◌, [], ◌∷◌, ◌++◌, IfOk, map, replicate, suc, vec_len};
 ghost use Rattle.std.specs.Vec.Iter.{into_iter_items};
-ghost use Rattle.xh_runner.specs.inner.Jobs.{AreEnough, AreTold};
-ghost use Rattle.xh_runner.specs.Plays.{AreAnswersTo, LAST, names_after, numbers_after, told};
+ghost use Rattle.xh_runner.specs.inner.Tasks.{AreEnough, AreTold};
+ghost use Rattle.xh_runner.specs.Plays.{AreAnswersTo, LAST, numbers_after, processes_after, told};
 ghost use Rattle.xh_model.specs.declared.limits.TheConstants.{PLACES};
-ghost use Rattle.xh_session.specs.Bindings.{no_bindings};
+ghost use Rattle.xh_session.specs.Bindings.{no_processes};
 
-use crate::job::Done;
 use crate::play::part_of;
+use crate::task::Done;
 use std::alloc::{AllocError, Global};
 use std::vec::IntoIter;
 use xh_core::PLACE_LINES;
 use xh_model::limits::{MAX_WORKERS, PLACES};
 use xh_script::{Answered, Line, Reply};
-use xh_session::Names as Bindings;
+use xh_session::Processes;
 
 /// The machines of the places, and the replies of all parts. There is room for one more machine.
 pub(crate) fn parts_of<M: Drop>(
@@ -40,18 +40,18 @@ pub(crate) fn parts_of<M: Drop>(
 /// An answer to each line: the next of the replies of its part.
 pub(crate) fn answers_of(
     alloc: Global,
-    names: &Bindings,
+    processes: &Processes,
     lines: &[Line],
     mut parts: Vec<IntoIter<Reply>>,
 ) -> Result<Vec<Answered>, AllocError>
     requires count { vec_len parts ≡ suc LAST }
-    requires enough { AreEnough names.now lines.now (map into_iter_items parts.items) }
+    requires enough { AreEnough processes.now lines.now (map into_iter_items parts.items) }
     ensures same { IfOk result (λ answers. AreAnswersTo lines.now answers.items) }
-    ensures told { IfOk result (λ answers. AreTold names.now lines.now answers.items (map into_iter_items parts.items)) }
+    ensures told { IfOk result (λ answers. AreTold processes.now lines.now answers.items (map into_iter_items parts.items)) }
 {
     let mut answers = Vec::with_capacity(alloc, lines.len())?;
     for line in lines {
-        let part = usize::from(part_of(names, line));
+        let part = usize::from(part_of(processes, line));
         let Some(reply) = parts[part].next() else {
             unreachable!()
         };
@@ -65,32 +65,28 @@ pub(crate) fn answers_of(
 
 // The line has this reply. Where it tells that a process was started, that is the latest of its place, unless one with a
 // greater number is.
-fn tell(line: &Line, reply: &Reply, numbers: &mut [u16; PLACE_LINES], names: &mut Bindings)
-    ensures names { names.new ≡ names_after numbers.old names.old line.now reply.now }
+fn tell(line: &Line, reply: &Reply, numbers: &mut [u16; PLACE_LINES], processes: &mut Processes)
+    ensures processes { processes.new ≡ processes_after numbers.old processes.old line.now reply.now }
     ensures numbers { numbers.new ≡ numbers_after numbers.old reply.now }
 {
     if let Reply::Started(number) = reply {
         let place = usize::from(number % u16::from(PLACES));
         if numbers[place] <= *number {
             numbers[place] = *number;
-            names.start(line.command.name(0), *number);
+            processes.start(line.command.name(0), *number);
         }
     }
 }
 
-/// What the names stand for once all replies were told.
-pub(crate) fn latest(
-    alloc: Global,
-    lines: &[Line],
-    answers: &[Answered],
-) -> Result<Bindings, AllocError>
+/// What the names of processes stand for once all replies were told.
+pub(crate) fn latest(lines: &[Line], answers: &[Answered]) -> Processes
     requires { AreAnswersTo lines.now answers.now }
-    ensures { IfOk result (λ names. names ≡ told (replicate PLACES 0) no_bindings lines.now answers.now) }
+    ensures { result ≡ told (replicate PLACES 0) no_processes lines.now answers.now }
 {
-    let mut names = Bindings::new(alloc)?;
+    let mut processes = Processes::new();
     let mut numbers = [0u16; PLACE_LINES];
     for at in 0..lines.len() {
-        tell(&lines[at], &answers[at].reply, &mut numbers, &mut names);
+        tell(&lines[at], &answers[at].reply, &mut numbers, &mut processes);
     }
-    Ok(names)
+    processes
 }

@@ -2,25 +2,25 @@
 ghost use Rattle.std.specs.Prelude.{◌≡◌, ◌≤◌, IfErr, IfOk, MatchResult, length, map, vec_len};
 ghost use Rattle.xh_model.specs.declared.limits.TheConstants.{MAX_WORKERS, PLACES};
 ghost use Rattle.xh_runner.specs.Plays.{AllZipFrom, AreAnswersTo, ArePlayed, DoesLine, HasNames, MayStop, PlayAll, Plays, part};
-ghost use Rattle.xh_runner.specs.inner.Jobs.{PlaceIsDone};
+ghost use Rattle.xh_runner.specs.inner.Tasks.{PlaceIsDone};
 ghost use Rattle.xh_session.specs.Bindings.{no_bindings};
 ghost use Rattle.xh_session.specs.Plans.{world_of};
 
 use crate::crew::work_all;
-use crate::job::{Done, Shared};
 use crate::play::part_of;
 use crate::replies::{answers_of, latest, parts_of};
+use crate::task::{Crew, Done};
 use std::alloc::{AllocError, Global};
 use std::sync::{Mutex, Wait};
 use std::thread::Threads;
 use xh_model::limits::{MAX_WORKERS, PLACES};
 use xh_place::Gate;
 use xh_script::{Answered, Fault, Line, Name, Reply, Script};
-use xh_session::{Machine, Names as Bindings, Session};
+use xh_session::{Bindings, Machine, Processes, Session};
 
 /// What a run leaves: the machines, the replies, and the name of the latest process of each place.
 #[derive(Drop)]
-pub(crate) struct Outcome<M> {
+pub(crate) struct Remains<M> {
     pub(crate) machines: Vec<M>,
     pub(crate) answers: Vec<Answered>,
     pub(crate) names: Vec<Name>,
@@ -30,15 +30,15 @@ pub(crate) struct Outcome<M> {
 fn run_part<'a, M: Machine>(
     alloc: Global,
     head: &mut Session<'a, M>,
-    names: &Bindings,
+    processes: &Processes,
     lines: &[Line],
     number: u8,
 ) -> Result<Vec<Reply>, AllocError>
-    ensures { IfOk result (λ replies. Plays (DoesLine M.did) (world_of M.state head.old) (part names.now number lines.now) replies.items (world_of M.state head.new)) }
+    ensures { IfOk result (λ replies. Plays (DoesLine M.did) (world_of M.state head.old) (part processes.now number lines.now) replies.items (world_of M.state head.new)) }
 {
     let mut replies = Vec::new(alloc);
     for line in lines {
-        if part_of(names, line) == number {
+        if part_of(processes, line) == number {
             replies.push(head.step(alloc, &line.command))?;
         }
     }
@@ -57,15 +57,15 @@ fn work<'a, M: Machine + Send, R: Threads + Wait + Sync, G: Gate + Sync>(
     requires { vec_len machines ≤ PLACES }
     ensures { MatchResult result (λ dones. AllZipFrom (PlaceIsDone M.state M.did (world_of M.state head.entry.now) lines.entry.now) 0 machines.items dones.items) (MayStop G.always) }
 {
-    let shared = Shared {
+    let crew = Crew {
         lines,
         contracts: head.contracts,
         ready: &head.names,
         gate,
-        names: Mutex::new(head.names.copy(alloc)?),
+        processes: Mutex::new(head.names.processes),
         started: Mutex::new(false),
     };
-    work_all(rt, alloc, machines, &shared)
+    work_all(rt, alloc, machines, &crew)
 }
 
 // Plays all lines, with the head's machine and one for each place: the machines of the places, and the answers.
@@ -84,9 +84,8 @@ fn play_all<M: Machine + Send, R: Threads + Wait + Sync, G: Gate + Sync>(
     ensures answers { IfOk result (λ r. AreAnswersTo lines.now r.1.items) }
     ensures stopped { IfErr result (MayStop G.always) }
 {
-    let names = Bindings::new(alloc)?;
-    let first = run_part(alloc, head, &names, lines, 0)?;
-    let ready = head.names.copy(alloc)?;
+    let first = run_part(alloc, head, &Processes::new(), lines, 0)?;
+    let ready = head.names.processes;
     let dones = work(rt, alloc, machines, head, lines, gate)?;
     let last = run_part(alloc, head, &ready, lines, 1 + PLACES)?;
     let (machines, parts) = parts_of(alloc, first, dones, last)?;
@@ -105,7 +104,7 @@ pub(crate) fn run_on<M: Machine + Send, R: Threads + Wait + Sync, G: Gate + Sync
     mut machines: Vec<M>,
     script: &Script,
     gate: &G,
-) -> Result<Outcome<M>, Fault>
+) -> Result<Remains<M>, Fault>
     requires { vec_len machines ≡ MAX_WORKERS }
     ensures played { IfOk result (λ o. ArePlayed M.did script.now.contracts.items script.now.lines.items o.answers.items (map M.state machines.items) (map M.state o.machines.items)) }
     ensures answers { IfOk result (λ o. AreAnswersTo script.now.lines.items o.answers.items) }
@@ -122,9 +121,9 @@ pub(crate) fn run_on<M: Machine + Send, R: Threads + Wait + Sync, G: Gate + Sync
     let Session { machine, .. } = head;
     let (mut machines, answers) = played?;
     machines.insert(0, machine)?;
-    let names = latest(alloc, lines, answers.as_slice())?;
-    let names = names.by_place(alloc, &script.processes)?;
-    Ok(Outcome {
+    let processes = latest(lines, answers.as_slice());
+    let names = processes.by_place(alloc, &script.processes)?;
+    Ok(Remains {
         machines,
         answers,
         names,

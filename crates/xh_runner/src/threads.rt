@@ -13,7 +13,7 @@ ghost use Rattle.xh_script.specs.declared.limits.TheConstants.{MAX_SCRIPT};
 ghost use Rattle.xh_session.specs.Ends.{Done, Stopped};
 ghost use Rattle.xh_session.specs.Reading.{ReadsAtMost};
 
-use crate::run::{Outcome, run_on};
+use crate::run::{Remains, run_on};
 use crate::worker::{hire, leave_all};
 use std::alloc::Global;
 use std::io::{Read, Write};
@@ -51,7 +51,7 @@ fn run_script<N: Names + Send + Sync, R: Threads + Wait + Sync, G: Gate + Sync>(
     ensures stopped { IfErr result (MayStop G.always) }
 {
     let workers = hire(rt, alloc, kernel, gate, accounts, looks)?;
-    let Outcome {
+    let Remains {
         machines,
         answers,
         names,

@@ -28,7 +28,7 @@ fn block_of(got: &Got) -> Option<Block>
     ensures { result ≡ gotten got.now }
 {
     match got {
-        Got::Here(block) => Some(*block),
+        Got::Here(block, _) => Some(*block),
         Got::Missing { .. } => None,
     }
 }

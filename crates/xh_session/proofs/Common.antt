@@ -7,7 +7,8 @@ pub use Rattle.xh_script.specs.declared.fault.Fault.{Fault}
 pub use Rattle.xh_script.specs.declared.limits.TheConstants.{MAX_BLOCK_NAMES, MAX_SCRIPT}
 pub use Rattle.xh_script.specs.declared.streams.Watched.{Watched}
 pub use Rattle.xh_serial.specs.Machine.{Machine}
-pub use Rattle.xh_session.specs.Bindings.{Bindings, bound_each, cleared, name_at, record_at, unbound_below, unbound_each}
-pub use Rattle.xh_session.specs.Meaning.{after, answers, new_world, outcome, step}
+pub use Rattle.xh_session.specs.declared.bindings.Bindings.{Bindings}
+pub use Rattle.xh_session.specs.BlockNames.{BlockNames, bound_each, cleared, record_at, row, unbound_below, unbound_each}
+pub use Rattle.xh_session.specs.Meaning.{after, answers, new_world, comes_to, step}
 pub use Rattle.xh_session.specs.Output.{text_of, told_text}
 pub use Rattle.xh_session.specs.declared.report.Report.{Report}

@@ -1,4 +1,4 @@
 pub mod Common
 pub mod Ends
-pub mod Bindings
+pub mod Rows
 pub mod Plans

@@ -1,5 +1,5 @@
 -- Lemmas on plans: what one comes to on the serial machine, where memory isn't refused; and on the plans of line after line.
-use Rattle.xh_session.proofs.Common.{Bindings, Bool, Err, List, Machine, Ok, Result, Word, ℕ, after, answers, ap, drop, false, if◌then◌else◌, length, outcome, refl, step, subst, true, ◌++◌}
+use Rattle.xh_session.proofs.Common.{Bindings, Bool, Err, List, Machine, Ok, Result, Word, ℕ, after, answers, ap, drop, false, if◌then◌else◌, length, comes_to, refl, step, subst, true, ◌++◌}
 use Rattle.std.proofs.Common.{[], add-one, append_assoc, drop-cons, get_or, ◌+◌, ◌<◌, ◌∙◌, ◌∷◌, ◌≡◌, ◌≢◌}
 use Rattle.xh_model.specs.declared.row.Row.{Row}
 use Rattle.xh_core.specs.declared.refused.Refused.{Refused}
@@ -12,8 +12,8 @@ use Rattle.xh_script.specs.Texts.{done}
 use Rattle.xh_script.specs.declared.replies.Answered.{Answered}
 use Rattle.xh_script.specs.declared.replies.Reply.{Reply}
 use Rattle.xh_script.specs.declared.replies.Reply.TheVariants.{No}
-use Rattle.xh_session.specs.Machines.{Does, Lacks, command}
-use Rattle.xh_session.specs.Plans.{Follows, Plan, World, asks, given, plan, plan_by, replied, says}
+use Rattle.xh_session.specs.Machines.{DoesCommand, Lacks, command}
+use Rattle.xh_session.specs.Plans.{FollowsPlan, Plan, World, asks, given_plan, plan, plan_by, replied, says}
 use Rattle.xh_session.specs.Questions.{AnswerTo, Question}
 
 -- a plan says that memory was refused
@@ -25,13 +25,13 @@ Heeds : Plan → Type 0
 Heeds (says reply names) = Unit {0}
 Heeds (asks q next) = (a : AnswerTo q) → (Lacks q a → SaysLack (next a)) × Heeds (next a)
 
-came : (p : Plan) (old : World Machine) (reply : Reply) (new : World Machine) → Heeds p → Follows Does p old reply new → reply ≢ No OutOfMemory → outcome p old ≡ (reply, new)
+came : (p : Plan) (old : World Machine) (reply : Reply) (new : World Machine) → Heeds p → FollowsPlan DoesCommand p old reply new → reply ≢ No OutOfMemory → comes_to p old ≡ (reply, new)
 unfolding SaysLack Heeds
 came (says r names) old reply new heeds f granted = rw (f.0, f.1) refl
 came (asks q next) old reply new heeds f granted =
-    let said : Lacks q f.0 → reply ≡ No OutOfMemory = λ lack. (subst (λ p. Follows Does p (record old { machine = f.1 }) reply new) ((heeds f.0).0 lack).1 f.3).0 in
+    let said : Lacks q f.0 → reply ≡ No OutOfMemory = λ lack. (subst (λ p. FollowsPlan DoesCommand p (record old { machine = f.1 }) reply new) ((heeds f.0).0 lack).1 f.3).0 in
     let e : command q old.machine ≡ (f.0, f.1) = f.2 (λ lack. granted (said lack)) in
-    ap (λ (x : AnswerTo q × Machine). outcome (next x.0) (record old { machine = x.1 })) e ∙ came (next f.0) _ reply new (heeds f.0).1 f.3 granted
+    ap (λ (x : AnswerTo q × Machine). comes_to (next x.0) (record old { machine = x.1 })) e ∙ came (next f.0) _ reply new (heeds f.0).1 f.3 granted
 
 -- ---- each command's plan heeds lack of memory
 
@@ -52,7 +52,7 @@ unfolding Heeds
 heeds_replied reply change names (Ok x) = tt
 heeds_replied reply change names (Err refused) = tt
 
-heeds_given : (names : Bindings) (p : ℕ) (rs : List ℕ) (a : Result ℕ Refused) → Heeds (given names p rs a)
+heeds_given : (names : Bindings) (p : ℕ) (rs : List ℕ) (a : Result ℕ Refused) → Heeds (given_plan names p rs a)
 unfolding Heeds
 heeds_given names p rs (Ok number) = tt
 heeds_given names p rs (Err refused) = tt
@@ -71,7 +71,7 @@ heeds_plan b contracts form ws = search (heeds_if, heeds_says, heeds_asks, heeds
 
 -- where memory isn't refused, a session on the serial machine does what a command means there
 pub stepped : (w : World Machine) (c : Command) (reply : Reply) (new : World Machine)
-    → Follows Does (plan w.names w.contracts c) w reply new → reply ≢ No OutOfMemory → step w c ≡ (reply, new)
+    → FollowsPlan DoesCommand (plan w.names w.contracts c) w reply new → reply ≢ No OutOfMemory → step w c ≡ (reply, new)
 stepped w c reply new f granted = came _ w reply new (heeds_plan w.names w.contracts c.form c.words.items) f granted
 
 -- one more line is answered

@@ -1,4 +1,5 @@
 pub mod Reading
+pub mod BlockNames
 pub mod Bindings
 pub mod Questions
 pub mod Plans

@@ -45,5 +45,5 @@ Lacks (Split p r at) answer = answer ≡ Err OutOfMemory
 Lacks q answer = ⊥
 
 -- unless memory was refused, a call answers what its command answers, and leaves the machine as the command does
-abbrev pub Does : Machine → (q : Question) → AnswerTo q → Machine → Type 0
-Does old q answer new = ¬ Lacks q answer → command q old ≡ (answer, new)
+abbrev pub DoesCommand : Machine → (q : Question) → AnswerTo q → Machine → Type 0
+DoesCommand old q answer new = ¬ Lacks q answer → command q old ≡ (answer, new)

@@ -16,13 +16,13 @@ abbrev pub new_world : Config → List (List Row) → World Machine
 new_world config contracts = record { machine = new_machine config; names = no_bindings; contracts = contracts }
 
 -- what a plan comes to: its reply, and the world after it
-abbrev pub outcome : Plan → World Machine → Reply × World Machine
-outcome (says reply names) w = (reply, record w { names = names })
-outcome (asks q next) w = outcome (next (command q w.machine).0) (record w { machine = (command q w.machine).1 })
+abbrev pub comes_to : Plan → World Machine → Reply × World Machine
+comes_to (says reply names) w = (reply, record w { names = names })
+comes_to (asks q next) w = comes_to (next (command q w.machine).0) (record w { machine = (command q w.machine).1 })
 
 -- the reply to a command, and the world after it
 abbrev pub step : World Machine → Command → Reply × World Machine
-step w c = outcome (plan w.names w.contracts c) w
+step w c = comes_to (plan w.names w.contracts c) w
 
 -- the reply to each line's command, in order
 abbrev pub answers : World Machine → List Line → List Answered

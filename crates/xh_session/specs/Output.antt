@@ -20,7 +20,7 @@ told_text flight r = text_of r ++ (if flight then flight_texts r.flight.items el
 
 -- the ledger of a world, with the names of the script's processes
 abbrev pub world_text : List (List ℕ) → World Machine → List ℕ
-world_text processes w = ledger_text (ledger_of w.machine) (names_by_place processes w.names)
+world_text processes w = ledger_text (ledger_of w.machine) (names_by_place processes w.names.processes)
 
 -- what is written for a script's commands, done from a world on: the replies, and then the ledger
 abbrev pub run_text : World Machine → Listing → List ℕ

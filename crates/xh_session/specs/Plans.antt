@@ -19,7 +19,9 @@ use Rattle.xh_serial.specs.MessageCommands.{without}
 use Rattle.xh_script.specs.Operands.{name, number, number_or, contract, bytes}
 use Rattle.xh_session.specs.declared.machine.Received.{Received}
 use Rattle.xh_session.specs.declared.session.Session.{Session}
-use Rattle.xh_session.specs.Bindings.{Bindings, number_at, has_place, record_at, records_of, started, bound, bound_each, unbound, unbound_each, unbound_all}
+use Rattle.xh_session.specs.declared.bindings.Bindings.{Bindings}
+use Rattle.xh_session.specs.Bindings.{number_at, has_place, started}
+use Rattle.xh_session.specs.BlockNames.{BlockNames, record_at, records_of, bound, bound_each, unbound, unbound_each, unbound_all}
 use Rattle.xh_session.specs.Questions.{Question, AnswerTo}
 use Rattle.xh_session.specs.Questions as ask
 
@@ -39,9 +41,9 @@ abbrev pub world_of : {M S : Type 0} → (M → S) → Session M → World S
 world_of state s = record { machine = state s.machine; names = s.names; contracts = s.contracts.now }
 
 -- where a machine does what it says at each question, a plan may come to this reply, and leave this world
-abbrev pub Follows : {S : Type 0} → (S → (q : Question) → AnswerTo q → S → Type 0) → Plan → World S → Reply → World S → Type 0
-Follows did (says r names) old reply new = (reply ≡ r) × (new ≡ record old { names = names })
-Follows {S} did (asks q next) old reply new = (a : AnswerTo q) × (mid : S) × did old.machine q a mid × Follows did (next a) (record old { machine = mid }) reply new
+abbrev pub FollowsPlan : {S : Type 0} → (S → (q : Question) → AnswerTo q → S → Type 0) → Plan → World S → Reply → World S → Type 0
+FollowsPlan did (says r names) old reply new = (reply ≡ r) × (new ≡ record old { names = names })
+FollowsPlan {S} did (asks q next) old reply new = (a : AnswerTo q) × (mid : S) × did old.machine q a mid × FollowsPlan did (next a) (record old { machine = mid }) reply new
 
 -- the contract with a number, where a line names one
 abbrev pub contract_at : List (List Row) → Option ℕ → Option (List Row)
@@ -55,23 +57,23 @@ replied reply change names (Err refused) = says (No refused) names
 
 -- the two ends of a new channel get their names, side 0 the first
 abbrev pub with_ends : Bindings → ℕ → ℕ → ℕ → ℕ → Block × Block → Bindings
-with_ends names p e q f ends = bound (bound names p e ends.0.rec) q f ends.1.rec
+with_ends names p e q f ends = record names { blocks = bound (bound names.blocks p e ends.0.rec) q f ends.1.rec }
 
 -- of the blocks that a refused give does not hand back, the names are unbound
-abbrev pub handed_back : ℕ → List ℕ → Refused → Bindings → Bindings
+abbrev pub handed_back : ℕ → List ℕ → Refused → BlockNames → BlockNames
 handed_back p rs (Full back) names = unbound_each names p (without back.items rs)
 handed_back p rs (PeerClosed back) names = unbound_each names p (without back.items rs)
 handed_back p rs (Protocol back) names = unbound_each names p (without back.items rs)
 handed_back p rs _ names = names
 
 -- the names of blocks that went are unbound
-abbrev pub given : Bindings → ℕ → List ℕ → Result ℕ Refused → Plan
-given names p rs (Ok number) = says (done (number ∷ [])) (unbound_each names p rs)
-given names p rs (Err refused) = says (NotGiven refused) (handed_back p rs refused names)
+abbrev pub given_plan : Bindings → ℕ → List ℕ → Result ℕ Refused → Plan
+given_plan names p rs (Ok number) = says (done (number ∷ [])) (record names { blocks = unbound_each names.blocks p rs })
+given_plan names p rs (Err refused) = says (NotGiven refused) (record names { blocks = handed_back p rs refused names.blocks })
 
 -- a taken message
-abbrev pub taken : Received → Reply
-taken message = Taken message.number message.tag (record { items = map (option_map (λ b. b.len)) message.blocks.items })
+abbrev pub taken_reply : Received → Reply
+taken_reply message = Taken message.number message.tag (record { items = map (option_map (λ b. b.len)) message.blocks.items })
 
 -- what a place shows of a process: Ended where it shows a later one
 abbrev pub shown : ℕ → Result Look Refused → Result Look Refused
@@ -84,24 +86,24 @@ is_alive (Ok look) = not (is_ended look.state)
 is_alive (Err refused) = false
 
 -- a new process has this name, and none of its blocks
-abbrev pub renewed : Bindings → ℕ → ℕ → Bindings
-renewed names p n = unbound_all (started names p n) p
+abbrev pub started_again : Bindings → ℕ → ℕ → Bindings
+started_again names p n = record { processes = started names.processes p n; blocks = unbound_all names.blocks p }
 
 -- ---- each command
 
 -- the process that a word names, by its number, and the record of a block of the line's process
-abbrev pub process_in : Bindings → List Word → ℕ → ℕ
-process_in b ws i = number_at b (name ws i)
+abbrev pub number_in : Bindings → List Word → ℕ → ℕ
+number_in b ws i = number_at b.processes (name ws i)
 
 abbrev pub record_in : Bindings → List Word → ℕ → ℕ
-record_in b ws i = record_at b (name ws 0) (name ws i)
+record_in b ws i = record_at b.blocks (name ws 0) (name ws i)
 
 -- a tag is at most so great
 abbrev pub give_plan : Bindings → ℕ → ℕ → ℕ → List Word → Plan
-give_plan b p e tag xs = asks (ask.Give (number_at b p) (record_at b p e) (min tag MAX_TAG) (records_of b p xs)) (given b p (records_of b p xs))
+give_plan b p e tag xs = asks (ask.Give (number_at b.processes p) (record_at b.blocks p e) (min tag MAX_TAG) (records_of b.blocks p xs)) (given_plan b p (records_of b.blocks p xs))
 
 abbrev pub take_plan : Bool → Bindings → List Word → Plan
-take_plan waits b ws = asks (ask.Take (process_in b ws 0) (record_in b ws 1) waits) (replied taken (λ message. bound_each b (name ws 0) (drop 2 ws) message.blocks.items) b)
+take_plan waits b ws = asks (ask.Take (number_in b ws 0) (record_in b ws 1) waits) (replied taken_reply (λ message. record b { blocks = bound_each b.blocks (name ws 0) (drop 2 ws) message.blocks.items }) b)
 
 -- what a place shows, asked of the place of a process
 abbrev pub glance_at : ℕ → Question
@@ -111,29 +113,29 @@ glance_at n = ask.Glance (n % PLACES)
 -- and a sweep has the greatest budget where none is named
 unfoldable pub plan_by : Bindings → List (List Row) → Form → List Word → Plan
 plan_by b contracts Contract ws = says (done []) b
-plan_by b contracts Process ws = if has_place b (name ws 0) then says (No Twice) b else asks ask.Spawn (replied Started (λ n. started b (name ws 0) n) b)
-plan_by b contracts Wire ws = asks (ask.Wire (process_in b ws 0) (process_in b ws 2) (number ws 4) (contract_at contracts (contract ws 5)))
+plan_by b contracts Process ws = if has_place b.processes (name ws 0) then says (No Twice) b else asks ask.Spawn (replied Started (λ n. record b { processes = started b.processes (name ws 0) n }) b)
+plan_by b contracts Wire ws = asks (ask.Wire (number_in b ws 0) (number_in b ws 2) (number ws 4) (contract_at contracts (contract ws 5)))
     (replied (λ _. done []) (λ ends. with_ends b (name ws 0) (name ws 1) (name ws 2) (name ws 3) ends) b)
-plan_by b contracts Open ws = asks (ask.Open (process_in b ws 0) (number ws 3) (contract_at contracts (contract ws 4)))
+plan_by b contracts Open ws = asks (ask.Open (number_in b ws 0) (number ws 3) (contract_at contracts (contract ws 4)))
     (replied (λ _. done []) (λ ends. with_ends b (name ws 0) (name ws 1) (name ws 0) (name ws 2) ends) b)
-plan_by b contracts Alloc ws = asks (ask.Alloc (process_in b ws 0) (number ws 2) (number ws 3)) (replied (λ k. done (k.len ∷ [])) (λ k. bound b (name ws 0) (name ws 1) k.rec) b)
-plan_by b contracts Split ws = asks (ask.Split (process_in b ws 0) (record_in b ws 1) (number ws 2))
-    (replied (λ parts. done (parts.0.len ∷ parts.1.len ∷ [])) (λ parts. bound b (name ws 0) (name ws 3) parts.1.rec) b)
-plan_by b contracts Read ws = asks (ask.Read (process_in b ws 0) (record_in b ws 1) (number ws 2) (min (number ws 3) MAX_LEN)) (replied (λ bytes. Bytes (record { items = bytes })) (λ _. b) b)
-plan_by b contracts Write ws = asks (ask.Write (process_in b ws 0) (record_in b ws 1) (number ws 2) (bytes ws 3)) (replied (λ _. done []) (λ _. b) b)
+plan_by b contracts Alloc ws = asks (ask.Alloc (number_in b ws 0) (number ws 2) (number ws 3)) (replied (λ k. done (k.len ∷ [])) (λ k. record b { blocks = bound b.blocks (name ws 0) (name ws 1) k.rec }) b)
+plan_by b contracts Split ws = asks (ask.Split (number_in b ws 0) (record_in b ws 1) (number ws 2))
+    (replied (λ parts. done (parts.0.len ∷ parts.1.len ∷ [])) (λ parts. record b { blocks = bound b.blocks (name ws 0) (name ws 3) parts.1.rec }) b)
+plan_by b contracts Read ws = asks (ask.Read (number_in b ws 0) (record_in b ws 1) (number ws 2) (min (number ws 3) MAX_LEN)) (replied (λ bytes. Bytes (record { items = bytes })) (λ _. b) b)
+plan_by b contracts Write ws = asks (ask.Write (number_in b ws 0) (record_in b ws 1) (number ws 2) (bytes ws 3)) (replied (λ _. done []) (λ _. b) b)
 plan_by b contracts Give ws = give_plan b (name ws 0) (name ws 1) (number ws 2) (drop 3 ws)
 plan_by b contracts Take ws = take_plan false b ws
 plan_by b contracts Await ws = take_plan true b ws
-plan_by b contracts Free ws = asks (ask.Free (process_in b ws 0) (record_in b ws 1)) (replied (λ n. done (n ∷ [])) (λ _. unbound b (name ws 0) (record_in b ws 1)) b)
-plan_by b contracts Close ws = asks (ask.Close (process_in b ws 0) (record_in b ws 1)) (replied (λ n. done (n ∷ [])) (λ _. unbound b (name ws 0) (record_in b ws 1)) b)
-plan_by b contracts Exit ws = asks (ask.Exit (process_in b ws 0) (number_or ws 1 MAX_BUDGET)) (replied (λ n. done (n ∷ [])) (λ _. b) b)
-plan_by b contracts Kill ws = asks (ask.Kill (process_in b ws 0) (process_in b ws 1) (number_or ws 2 MAX_BUDGET)) (replied (λ n. done (n ∷ [])) (λ _. b) b)
+plan_by b contracts Free ws = asks (ask.Free (number_in b ws 0) (record_in b ws 1)) (replied (λ n. done (n ∷ [])) (λ _. record b { blocks = unbound b.blocks (name ws 0) (record_in b ws 1) }) b)
+plan_by b contracts Close ws = asks (ask.Close (number_in b ws 0) (record_in b ws 1)) (replied (λ n. done (n ∷ [])) (λ _. record b { blocks = unbound b.blocks (name ws 0) (record_in b ws 1) }) b)
+plan_by b contracts Exit ws = asks (ask.Exit (number_in b ws 0) (number_or ws 1 MAX_BUDGET)) (replied (λ n. done (n ∷ [])) (λ _. b) b)
+plan_by b contracts Kill ws = asks (ask.Kill (number_in b ws 0) (number_in b ws 1) (number_or ws 2 MAX_BUDGET)) (replied (λ n. done (n ∷ [])) (λ _. b) b)
 plan_by b contracts Glance ws =
-    if not (has_place b (name ws 0)) || not (has_place b (name ws 1)) then says (No NoProcess) b
-    else asks (glance_at (process_in b ws 1)) (λ a. replied (λ look. done (look.blocks ∷ look.bytes ∷ [])) (λ _. b) b (shown (process_in b ws 1) a))
+    if not (has_place b.processes (name ws 0)) || not (has_place b.processes (name ws 1)) then says (No NoProcess) b
+    else asks (glance_at (number_in b ws 1)) (λ a. replied (λ look. done (look.blocks ∷ look.bytes ∷ [])) (λ _. b) b (shown (number_in b ws 1) a))
 plan_by b contracts Again ws =
-    if not (has_place b (name ws 0)) then says (No NoProcess) b
-    else asks (glance_at (process_in b ws 0)) (λ a. if is_alive (shown (process_in b ws 0) a) then says (No Twice) b else asks ask.Spawn (replied Started (λ n. renewed b (name ws 0) n) b))
+    if not (has_place b.processes (name ws 0)) then says (No NoProcess) b
+    else asks (glance_at (number_in b ws 0)) (λ a. if is_alive (shown (number_in b ws 0) a) then says (No Twice) b else asks ask.Spawn (replied Started (λ n. started_again b (name ws 0) n) b))
 
 abbrev pub plan : Bindings → List (List Row) → Command → Plan
 plan b contracts c = plan_by b contracts c.form c.words.items

@@ -24,24 +24,24 @@ pub data Question : Type 0 where
   Glance : (place : ℕ) → Question
 
 -- what the machine tells where it doesn't refuse: a number, the blocks, the bytes that were read, a message, or how much came back
-abbrev pub Told : Question → Type 0
-Told Spawn = ℕ
-Told (Open p arena contract) = Block × Block
-Told (Wire p q arena contract) = Block × Block
-Told (Alloc p bytes arena) = Block
-Told (Split p r at) = Block × Block
-Told (Read p r at len) = List ℕ
-Told (Write p r at bytes) = Unit {0}
-Told (Give p e tag blocks) = ℕ
-Told (Take p e waits) = Received
-Told (Free p r) = ℕ
-Told (Close p e) = ℕ
-Told (Exit p budget) = ℕ
-Told (Kill by victim budget) = ℕ
-Told (Glance place) = Look
+abbrev pub Granted : Question → Type 0
+Granted Spawn = ℕ
+Granted (Open p arena contract) = Block × Block
+Granted (Wire p q arena contract) = Block × Block
+Granted (Alloc p bytes arena) = Block
+Granted (Split p r at) = Block × Block
+Granted (Read p r at len) = List ℕ
+Granted (Write p r at bytes) = Unit {0}
+Granted (Give p e tag blocks) = ℕ
+Granted (Take p e waits) = Received
+Granted (Free p r) = ℕ
+Granted (Close p e) = ℕ
+Granted (Exit p budget) = ℕ
+Granted (Kill by victim budget) = ℕ
+Granted (Glance place) = Look
 
 abbrev pub AnswerTo : Question → Type 0
-AnswerTo q = Result (Told q) Refused
+AnswerTo q = Result (Granted q) Refused
 
 -- what a read answers that fills a room
 abbrev pub filled : List ℕ → Result (Unit {0}) Refused → Result (List ℕ) Refused

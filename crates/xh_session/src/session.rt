@@ -4,10 +4,10 @@
 ghost use Rattle.std.specs.Prelude.{◌≡◌, ◌%◌, ◌≤◌, length, map, option_map};
 ghost use Rattle.xh_model.specs.declared.limits.TheConstants.{MAX_BLOCKS, PLACES};
 ghost use Rattle.xh_script.specs.declared.limits.TheConstants.{MAX_HEX, MAX_WORDS};
-ghost use Rattle.xh_session.specs.Plans.{Follows, contract_at, give_plan, handed_back, is_alive, plan, plan_by, shown, take_plan, world_of};
+ghost use Rattle.xh_session.specs.Plans.{FollowsPlan, contract_at, give_plan, handed_back, is_alive, plan, plan_by, shown, take_plan, world_of};
 
+use crate::bindings::{Bindings, BlockNames, without};
 use crate::machine::Machine;
-use crate::names::{Names, without};
 use arrayvec::ArrayVec;
 use std::alloc::Global;
 use xh_core::{Block, Contract, Glance, Refused, Status};
@@ -19,7 +19,7 @@ use xh_script::{Command, Form, Reply, Word};
 #[derive(Drop)]
 pub struct Session<'a, M> {
     pub machine: M,
-    pub names: Names,
+    pub names: Bindings,
     pub contracts: &'a [Contract],
 }
 
@@ -76,9 +76,9 @@ fn lengths_of(blocks: &[Option<Block>]) -> ArrayVec<Option<u32>, MAX_BLOCKS>
 }
 
 /// A refused give unbinds the names of the blocks that were not handed back.
-fn keep_back(names: &mut Names, process: u8, records: &[u16], refused: &Refused)
+fn keep_back(blocks: &mut BlockNames, process: u8, records: &[u16], refused: &Refused)
     requires { length records.now ≤ MAX_WORDS }
-    ensures { names.new ≡ handed_back process records.now refused.now names.old }
+    ensures { blocks.new ≡ handed_back process records.now refused.now blocks.old }
 {
     let back = match refused {
         Refused::Full { back } => back,
@@ -86,13 +86,13 @@ fn keep_back(names: &mut Names, process: u8, records: &[u16], refused: &Refused)
         Refused::Protocol { back } => back,
         _ => return,
     };
-    names.unbind_each(process, without(back.as_slice(), records).as_slice());
+    blocks.unbind_each(process, without(back.as_slice(), records).as_slice());
 }
 
 impl<'a, M: Machine> Session<'a, M> {
     /// Does a command: asks the machine what its plan asks, and replies what that says of the answer.
     pub fn step(&mut self, alloc: Global, c: &Command) -> Reply
-        ensures { Follows M.did (plan self.old.names self.old.contracts.now c.now) (world_of M.state self.old) result (world_of M.state self.new) }
+        ensures { FollowsPlan M.did (plan self.old.names self.old.contracts.now c.now) (world_of M.state self.old) result (world_of M.state self.new) }
     {
         match c.form {
             Form::Contract => Reply::done(&[]),
@@ -116,14 +116,14 @@ impl<'a, M: Machine> Session<'a, M> {
     }
 
     fn process(&mut self, c: &Command) -> Reply
-        ensures { Follows M.did (plan_by self.old.names self.old.contracts.now Form.Process c.now.words.items) (world_of M.state self.old) result (world_of M.state self.new) }
+        ensures { FollowsPlan M.did (plan_by self.old.names self.old.contracts.now Form.Process c.now.words.items) (world_of M.state self.old) result (world_of M.state self.new) }
     {
-        if self.names.has_place(c.name(0)) {
+        if self.names.processes.has_place(c.name(0)) {
             return Reply::No(Refused::Twice);
         }
         match self.machine.spawn() {
             Ok(number) => {
-                self.names.start(c.name(0), number);
+                self.names.processes.start(c.name(0), number);
                 Reply::Started(number)
             }
             Err(refused) => Reply::No(refused),
@@ -131,15 +131,15 @@ impl<'a, M: Machine> Session<'a, M> {
     }
 
     fn wire(&mut self, c: &Command) -> Reply
-        ensures { Follows M.did (plan_by self.old.names self.old.contracts.now Form.Wire c.now.words.items) (world_of M.state self.old) result (world_of M.state self.new) }
+        ensures { FollowsPlan M.did (plan_by self.old.names self.old.contracts.now Form.Wire c.now.words.items) (world_of M.state self.old) result (world_of M.state self.new) }
     {
-        let number = self.names.number(c.name(0));
-        let other = self.names.number(c.name(2));
+        let number = self.names.processes.number(c.name(0));
+        let other = self.names.processes.number(c.name(2));
         let contract = contract_at(self.contracts, c.contract(5));
         match self.machine.wire(number, other, c.number(4), contract) {
             Ok((first, second)) => {
-                self.names.bind(c.name(0), c.name(1), first.rec);
-                self.names.bind(c.name(2), c.name(3), second.rec);
+                self.names.blocks.bind(c.name(0), c.name(1), first.rec);
+                self.names.blocks.bind(c.name(2), c.name(3), second.rec);
                 Reply::done(&[])
             }
             Err(refused) => Reply::No(refused),
@@ -147,14 +147,14 @@ impl<'a, M: Machine> Session<'a, M> {
     }
 
     fn open(&mut self, c: &Command) -> Reply
-        ensures { Follows M.did (plan_by self.old.names self.old.contracts.now Form.Open c.now.words.items) (world_of M.state self.old) result (world_of M.state self.new) }
+        ensures { FollowsPlan M.did (plan_by self.old.names self.old.contracts.now Form.Open c.now.words.items) (world_of M.state self.old) result (world_of M.state self.new) }
     {
-        let number = self.names.number(c.name(0));
+        let number = self.names.processes.number(c.name(0));
         let contract = contract_at(self.contracts, c.contract(4));
         match self.machine.open(number, c.number(3), contract) {
             Ok((first, second)) => {
-                self.names.bind(c.name(0), c.name(1), first.rec);
-                self.names.bind(c.name(0), c.name(2), second.rec);
+                self.names.blocks.bind(c.name(0), c.name(1), first.rec);
+                self.names.blocks.bind(c.name(0), c.name(2), second.rec);
                 Reply::done(&[])
             }
             Err(refused) => Reply::No(refused),
@@ -162,12 +162,12 @@ impl<'a, M: Machine> Session<'a, M> {
     }
 
     fn alloc(&mut self, alloc: Global, c: &Command) -> Reply
-        ensures { Follows M.did (plan_by self.old.names self.old.contracts.now Form.Alloc c.now.words.items) (world_of M.state self.old) result (world_of M.state self.new) }
+        ensures { FollowsPlan M.did (plan_by self.old.names self.old.contracts.now Form.Alloc c.now.words.items) (world_of M.state self.old) result (world_of M.state self.new) }
     {
-        let number = self.names.number(c.name(0));
+        let number = self.names.processes.number(c.name(0));
         match self.machine.alloc(alloc, number, c.number(2), c.number(3)) {
             Ok(made) => {
-                self.names.bind(c.name(0), c.name(1), made.rec);
+                self.names.blocks.bind(c.name(0), c.name(1), made.rec);
                 Reply::done(&[u64::from(made.len)])
             }
             Err(refused) => Reply::No(refused),
@@ -175,13 +175,13 @@ impl<'a, M: Machine> Session<'a, M> {
     }
 
     fn split(&mut self, alloc: Global, c: &Command) -> Reply
-        ensures { Follows M.did (plan_by self.old.names self.old.contracts.now Form.Split c.now.words.items) (world_of M.state self.old) result (world_of M.state self.new) }
+        ensures { FollowsPlan M.did (plan_by self.old.names self.old.contracts.now Form.Split c.now.words.items) (world_of M.state self.old) result (world_of M.state self.new) }
     {
-        let number = self.names.number(c.name(0));
-        let rec = self.names.record_of(c.name(0), c.name(1));
+        let number = self.names.processes.number(c.name(0));
+        let rec = self.names.blocks.record_of(c.name(0), c.name(1));
         match self.machine.split(alloc, number, rec, c.number(2)) {
             Ok((head, rest)) => {
-                self.names.bind(c.name(0), c.name(3), rest.rec);
+                self.names.blocks.bind(c.name(0), c.name(3), rest.rec);
                 Reply::done(&[u64::from(head.len), u64::from(rest.len)])
             }
             Err(refused) => Reply::No(refused),
@@ -189,10 +189,10 @@ impl<'a, M: Machine> Session<'a, M> {
     }
 
     fn read(&mut self, c: &Command) -> Reply
-        ensures { Follows M.did (plan_by self.old.names self.old.contracts.now Form.Read c.now.words.items) (world_of M.state self.old) result (world_of M.state self.new) }
+        ensures { FollowsPlan M.did (plan_by self.old.names self.old.contracts.now Form.Read c.now.words.items) (world_of M.state self.old) result (world_of M.state self.new) }
     {
-        let number = self.names.number(c.name(0));
-        let rec = self.names.record_of(c.name(0), c.name(1));
+        let number = self.names.processes.number(c.name(0));
+        let rec = self.names.blocks.record_of(c.name(0), c.name(1));
         let mut bytes = [0u8; MAX_HEX];
         let room = &mut bytes[..c.number(3).min(MAX_LEN) as usize];
         match self.machine.read(number, rec, c.number(2), room) {
@@ -202,10 +202,10 @@ impl<'a, M: Machine> Session<'a, M> {
     }
 
     fn write(&mut self, c: &Command) -> Reply
-        ensures { Follows M.did (plan_by self.old.names self.old.contracts.now Form.Write c.now.words.items) (world_of M.state self.old) result (world_of M.state self.new) }
+        ensures { FollowsPlan M.did (plan_by self.old.names self.old.contracts.now Form.Write c.now.words.items) (world_of M.state self.old) result (world_of M.state self.new) }
     {
-        let number = self.names.number(c.name(0));
-        let rec = self.names.record_of(c.name(0), c.name(1));
+        let number = self.names.processes.number(c.name(0));
+        let rec = self.names.blocks.record_of(c.name(0), c.name(1));
         match self.machine.write(number, rec, c.number(2), c.bytes(3)) {
             Ok(()) => Reply::done(&[]),
             Err(refused) => Reply::No(refused),
@@ -214,19 +214,24 @@ impl<'a, M: Machine> Session<'a, M> {
 
     fn give(&mut self, process: u8, endpoint: u8, tag: u32, words: &[Word]) -> Reply
         requires { length words.now ≤ MAX_WORDS }
-        ensures { Follows M.did (give_plan self.old.names process endpoint tag words.now) (world_of M.state self.old) result (world_of M.state self.new) }
+        ensures { FollowsPlan M.did (give_plan self.old.names process endpoint tag words.now) (world_of M.state self.old) result (world_of M.state self.new) }
     {
-        let number = self.names.number(process);
-        let rec = self.names.record_of(process, endpoint);
-        let records = self.names.records_of(process, words);
+        let number = self.names.processes.number(process);
+        let rec = self.names.blocks.record_of(process, endpoint);
+        let records = self.names.blocks.records_of(process, words);
         let tag = tag.min(MAX_TAG) as u16;
         match self.machine.give(number, rec, tag, records.as_slice()) {
             Ok(message) => {
-                self.names.unbind_each(process, records.as_slice());
+                self.names.blocks.unbind_each(process, records.as_slice());
                 Reply::done(&[message])
             }
             Err(refused) => {
-                keep_back(&mut self.names, process, records.as_slice(), &refused);
+                keep_back(
+                    &mut self.names.blocks,
+                    process,
+                    records.as_slice(),
+                    &refused,
+                );
                 Reply::NotGiven(refused)
             }
         }
@@ -234,14 +239,14 @@ impl<'a, M: Machine> Session<'a, M> {
 
     /// Takes a message, and waits for one where others can send it.
     fn take(&mut self, waits: bool, c: &Command) -> Reply
-        ensures { Follows M.did (take_plan waits self.old.names c.now.words.items) (world_of M.state self.old) result (world_of M.state self.new) }
+        ensures { FollowsPlan M.did (take_plan waits self.old.names c.now.words.items) (world_of M.state self.old) result (world_of M.state self.new) }
     {
-        let number = self.names.number(c.name(0));
-        let rec = self.names.record_of(c.name(0), c.name(1));
+        let number = self.names.processes.number(c.name(0));
+        let rec = self.names.blocks.record_of(c.name(0), c.name(1));
         match self.machine.take(number, rec, waits) {
             Ok(message) => {
                 let blocks = message.blocks.as_slice();
-                self.names.bind_each(c.name(0), c.from(2), blocks);
+                self.names.blocks.bind_each(c.name(0), c.from(2), blocks);
                 Reply::Taken {
                     number: message.number,
                     tag: message.tag,
@@ -253,13 +258,13 @@ impl<'a, M: Machine> Session<'a, M> {
     }
 
     fn free(&mut self, c: &Command) -> Reply
-        ensures { Follows M.did (plan_by self.old.names self.old.contracts.now Form.Free c.now.words.items) (world_of M.state self.old) result (world_of M.state self.new) }
+        ensures { FollowsPlan M.did (plan_by self.old.names self.old.contracts.now Form.Free c.now.words.items) (world_of M.state self.old) result (world_of M.state self.new) }
     {
-        let number = self.names.number(c.name(0));
-        let rec = self.names.record_of(c.name(0), c.name(1));
+        let number = self.names.processes.number(c.name(0));
+        let rec = self.names.blocks.record_of(c.name(0), c.name(1));
         match self.machine.free(number, rec) {
             Ok(len) => {
-                self.names.unbind(c.name(0), rec);
+                self.names.blocks.unbind(c.name(0), rec);
                 Reply::done(&[u64::from(len)])
             }
             Err(refused) => Reply::No(refused),
@@ -267,13 +272,13 @@ impl<'a, M: Machine> Session<'a, M> {
     }
 
     fn close(&mut self, c: &Command) -> Reply
-        ensures { Follows M.did (plan_by self.old.names self.old.contracts.now Form.Close c.now.words.items) (world_of M.state self.old) result (world_of M.state self.new) }
+        ensures { FollowsPlan M.did (plan_by self.old.names self.old.contracts.now Form.Close c.now.words.items) (world_of M.state self.old) result (world_of M.state self.new) }
     {
-        let number = self.names.number(c.name(0));
-        let rec = self.names.record_of(c.name(0), c.name(1));
+        let number = self.names.processes.number(c.name(0));
+        let rec = self.names.blocks.record_of(c.name(0), c.name(1));
         match self.machine.close(number, rec) {
             Ok(bytes) => {
-                self.names.unbind(c.name(0), rec);
+                self.names.blocks.unbind(c.name(0), rec);
                 Reply::done(&[bytes])
             }
             Err(refused) => Reply::No(refused),
@@ -281,9 +286,9 @@ impl<'a, M: Machine> Session<'a, M> {
     }
 
     fn exit(&mut self, c: &Command) -> Reply
-        ensures { Follows M.did (plan_by self.old.names self.old.contracts.now Form.Exit c.now.words.items) (world_of M.state self.old) result (world_of M.state self.new) }
+        ensures { FollowsPlan M.did (plan_by self.old.names self.old.contracts.now Form.Exit c.now.words.items) (world_of M.state self.old) result (world_of M.state self.new) }
     {
-        let number = self.names.number(c.name(0));
+        let number = self.names.processes.number(c.name(0));
         let budget = c.number_or(1, u32::from(MAX_BUDGET));
         match self.machine.exit(number, budget) {
             Ok(bytes) => Reply::done(&[bytes]),
@@ -292,10 +297,10 @@ impl<'a, M: Machine> Session<'a, M> {
     }
 
     fn kill(&mut self, c: &Command) -> Reply
-        ensures { Follows M.did (plan_by self.old.names self.old.contracts.now Form.Kill c.now.words.items) (world_of M.state self.old) result (world_of M.state self.new) }
+        ensures { FollowsPlan M.did (plan_by self.old.names self.old.contracts.now Form.Kill c.now.words.items) (world_of M.state self.old) result (world_of M.state self.new) }
     {
-        let by = self.names.number(c.name(0));
-        let victim = self.names.number(c.name(1));
+        let by = self.names.processes.number(c.name(0));
+        let victim = self.names.processes.number(c.name(1));
         let budget = c.number_or(2, u32::from(MAX_BUDGET));
         match self.machine.kill(by, victim, budget) {
             Ok(bytes) => Reply::done(&[bytes]),
@@ -304,12 +309,14 @@ impl<'a, M: Machine> Session<'a, M> {
     }
 
     fn glance(&mut self, c: &Command) -> Reply
-        ensures { Follows M.did (plan_by self.old.names self.old.contracts.now Form.Glance c.now.words.items) (world_of M.state self.old) result (world_of M.state self.new) }
+        ensures { FollowsPlan M.did (plan_by self.old.names self.old.contracts.now Form.Glance c.now.words.items) (world_of M.state self.old) result (world_of M.state self.new) }
     {
-        if !self.names.has_place(c.name(0)) || !self.names.has_place(c.name(1)) {
+        if !self.names.processes.has_place(c.name(0))
+            || !self.names.processes.has_place(c.name(1))
+        {
             return Reply::No(Refused::NoProcess);
         }
-        let number = self.names.number(c.name(1));
+        let number = self.names.processes.number(c.name(1));
         match shown(number, self.machine.glance(place_of(number))) {
             Ok(look) => Reply::done(&[u64::from(look.blocks), look.bytes]),
             Err(refused) => Reply::No(refused),
@@ -317,19 +324,19 @@ impl<'a, M: Machine> Session<'a, M> {
     }
 
     fn again(&mut self, c: &Command) -> Reply
-        ensures { Follows M.did (plan_by self.old.names self.old.contracts.now Form.Again c.now.words.items) (world_of M.state self.old) result (world_of M.state self.new) }
+        ensures { FollowsPlan M.did (plan_by self.old.names self.old.contracts.now Form.Again c.now.words.items) (world_of M.state self.old) result (world_of M.state self.new) }
     {
-        if !self.names.has_place(c.name(0)) {
+        if !self.names.processes.has_place(c.name(0)) {
             return Reply::No(Refused::NoProcess);
         }
-        let number = self.names.number(c.name(0));
+        let number = self.names.processes.number(c.name(0));
         if is_alive(&shown(number, self.machine.glance(place_of(number)))) {
             return Reply::No(Refused::Twice);
         }
         match self.machine.spawn() {
             Ok(number) => {
-                self.names.start(c.name(0), number);
-                self.names.unbind_all(c.name(0));
+                self.names.processes.start(c.name(0), number);
+                self.names.blocks.unbind_all(c.name(0));
                 Reply::Started(number)
             }
             Err(refused) => Reply::No(refused),

@@ -8,7 +8,7 @@ ghost use Rattle.xh_script.specs.Scripts.{listing_of};
 ghost use Rattle.xh_session.specs.Meaning.{new_world, step, answers, after};
 ghost use Rattle.xh_session.specs.Output.{run_text, text_of};
 
-use crate::names::Names;
+use crate::bindings::Bindings;
 use crate::report::Report;
 use crate::session::Session;
 use std::alloc::{AllocError, Global};
@@ -52,7 +52,7 @@ impl<'a> Stage<'a> {
     {
         Ok(Stage {
             session: Session {
-                names: Names::new(alloc)?,
+                names: Bindings::new(alloc)?,
                 machine: new_machine(alloc, config)?,
                 contracts,
             },
@@ -96,7 +96,11 @@ impl<'a> Stage<'a> {
         ensures places { IfOk result (λ r. (length r.names.items ≡ PLACES) × All (λ line. line.place < PLACES) r.ledger.places.items) }
     {
         let answers = self.run(alloc, &script.lines)?;
-        let names = self.session.names.by_place(alloc, &script.processes)?;
+        let names = self
+            .session
+            .names
+            .processes
+            .by_place(alloc, &script.processes)?;
         Ok(Report {
             answers,
             ledger: self.session.machine.ledger(),
@@ -114,8 +118,8 @@ impl<'a> Stage<'a> {
 
     /// By place, the number of the name of its latest process.
     pub fn latest(&self) -> &[u8]
-        ensures { result.now ≡ self.now.names.latest }
+        ensures { result.now ≡ self.now.names.processes.latest }
     {
-        &self.session.names.latest
+        &self.session.names.processes.latest
     }
 }

@@ -25,7 +25,7 @@ pub(crate) const HELD: u16 = 192;
 
 pub(crate) const OWNED: u16 = 256;
 
-/// The processes that a kernel of the soak can start: each place is used 128 times.
+/// More processes than a round starts.
 pub(crate) const PROCESSES: u16 = PLACES as u16 * USUAL_GENERATIONS;
 
 /// Which processes have started, and which of them somebody meant to end.

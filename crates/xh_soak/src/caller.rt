@@ -17,6 +17,7 @@ pub(crate) enum Call<'a> {
     Write(u16, u16, u32, u64),
     InPlace(u16, u16, u64),
     Free(u16, u16),
+    IntoBytes(u16, u16),
     Give(u16, u16, u16, &'a [u16], Option<Instant>),
     GiveWait(u16, u16, u16, &'a [u16]),
     Close(u16, u16),
@@ -25,13 +26,15 @@ pub(crate) enum Call<'a> {
 }
 
 /// A worker, by its calls, which answer what the kernel does. A take is at one endpoint, or at any of these, at once or until a
-/// time.
+/// time, and so is an alloc; a put is of so many bytes, all the same.
 pub(crate) trait Caller: Drop {
     fn call(&mut self, call: Call) -> Told<u64>;
 
     fn wire(&mut self, p: u16, q: u16, arena: u32) -> Told<(Block, Block)>;
 
-    fn alloc(&mut self, p: u16, bytes: u32, arena: u32) -> Told<Block>;
+    fn alloc(&mut self, p: u16, bytes: u32, arena: u32, by: Option<Instant>) -> Told<Block>;
+
+    fn put(&mut self, p: u16, bytes: u32, arena: u32, byte: u8) -> Told<Block>;
 
     fn take(&mut self, p: u16, e: u16, any: Option<&[u16]>, by: Option<Instant>) -> Told<Taken>;
 }
@@ -73,6 +76,10 @@ impl<'a, N: Names, R: Wait + Clock> Caller for Hired<'a, N, R> {
                 kernel.with_bytes_mut(rt, p, r, &mut write, to, gate)
             }
             Call::Free(p, r) => kernel.free(rt, p, r, to, gate).map(u64::from),
+            Call::IntoBytes(p, r) => {
+                let bytes = kernel.into_bytes(rt, p, r, to, gate);
+                bytes.map(|bytes| bytes.len() as u64)
+            }
             Call::Give(p, e, tag, load, None) => kernel.give(rt, p, e, tag, load, to, gate),
             Call::Give(p, e, tag, load, Some(until)) => {
                 kernel.give_wait_until(rt, p, e, tag, load, until, to, gate)
@@ -88,11 +95,20 @@ impl<'a, N: Names, R: Wait + Clock> Caller for Hired<'a, N, R> {
         told(self.2.wire(self.0, p, q, arena, self.3, &OpenGate))
     }
 
-    fn alloc(&mut self, p: u16, bytes: u32, arena: u32) -> Told<Block> {
-        told(
-            self.2
-                .alloc(self.0, self.1, p, bytes, arena, self.3, &OpenGate),
-        )
+    fn alloc(&mut self, p: u16, bytes: u32, arena: u32, by: Option<Instant>) -> Told<Block> {
+        let (rt, alloc, kernel, to, gate) = (self.0, self.1, self.2, &mut *self.3, &OpenGate);
+        told(match by {
+            None => kernel.alloc(rt, alloc, p, bytes, arena, to, gate),
+            Some(by) => kernel.alloc_wait_until(rt, alloc, p, bytes, arena, by, to, gate),
+        })
+    }
+
+    fn put(&mut self, p: u16, bytes: u32, arena: u32, byte: u8) -> Told<Block> {
+        let mut buffer = Vec::new(self.1);
+        if buffer.resize(bytes as usize, byte).is_err() {
+            return Err("OutOfMemory");
+        }
+        told(self.2.put(self.0, p, &mut buffer, arena, self.3, &OpenGate))
     }
 
     fn take(&mut self, p: u16, e: u16, any: Option<&[u16]>, by: Option<Instant>) -> Told<Taken> {

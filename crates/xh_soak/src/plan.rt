@@ -24,8 +24,8 @@ impl Chance {
 }
 
 /// How a round goes: how many processes run at once, whose calls each worker does; in how many groups, between which no
-/// channel leads; how many commands each worker does; whether all processes end at the end; and whether a growth of memory
-/// may be refused.
+/// channel leads; how many commands each worker does; whether all processes end at the end; whether channels come back, and
+/// numbers of processes go as far as they can; and whether a growth of memory may be refused.
 #[derive(Clone, Copy, Debug)]
 pub(crate) struct Plan {
     pub(crate) seed: u64,
@@ -35,6 +35,7 @@ pub(crate) struct Plan {
     pub(crate) groups: u8,
     pub(crate) commands: u16,
     pub(crate) ends: bool,
+    pub(crate) renewed: bool,
     pub(crate) scarce: bool,
 }
 
@@ -47,7 +48,7 @@ const LARGEST: Config = Config {
 };
 
 impl Plan {
-    /// The plan of a seed. One round of four has the largest heap.
+    /// The plan of a seed. One round of four has the largest heap; in one of two channels come back.
     pub(crate) fn new(seed: u64, scarce: bool) -> Plan {
         let mut chance = Chance(seed.wrapping_mul(1024).wrapping_add(1023));
         let _first = chance.below(1);
@@ -69,6 +70,7 @@ impl Plan {
             groups: 1 << chance.below(4),
             commands: (chance.below(600) + 200) as u16,
             ends: config.arenas > 1 && chance.one_in(2),
+            renewed: seed % 2 == 0,
             scarce,
         }
     }

@@ -68,7 +68,10 @@ pub(crate) fn play_round<R: Threads + Wait + Clock + Sync>(
     plan: Plan,
 ) -> Result<Told<u64>, Refused> {
     let board = Board::new(alloc)?;
-    let parts = Parts::new(alloc, plan.config, plan.workers)?;
+    let mut parts = Parts::new(alloc, plan.config, plan.workers)?;
+    if plan.renewed {
+        parts = parts.with_all_numbers().with_channels_that_come_back(alloc);
+    }
     let (taken, books) = play_named::<Brand, R>(rt, alloc, plan, &board, parts)?;
     let judged = judge(&books.ledger, &board, plan.ends);
     Ok(taken.and_then(|taken| judged.map(|()| taken)))

@@ -114,6 +114,7 @@ impl<'a, C: Caller, R: Wait + Clock> Worker<'a, C, R> {
             240..=367 => self.read_or_write(),
             368..=495 => self.free(),
             496..=719 => self.give(),
+            984..=1003 if self.plan.renewed => self.close(),
             720..=1003 => self.take(),
             1004..=1005 => self.close(),
             1006 => self.end(),
@@ -159,7 +160,7 @@ impl<'a, C: Caller, R: Wait + Clock> Worker<'a, C, R> {
     }
 
     fn named(&mut self, p: u16) -> u16 {
-        self.is_known &= self.board.get(STARTED, p) != 0;
+        self.is_known &= p < PROCESSES && self.board.get(STARTED, p) != 0;
         p
     }
 
@@ -222,7 +223,19 @@ impl<'a, C: Caller, R: Wait + Clock> Worker<'a, C, R> {
         let most = self.plan.config.bytes >> (2 * self.chance.below(8));
         let bytes = self.chance.below(most).saturating_add(1);
         let may = ["NoRecord", "NoSpace", "Worn", "OutOfMemory"];
-        let told = self.caller.alloc(p, bytes, arena);
+        let is_put = self.chance.one_in(4);
+        let until = self.until().filter(|_| !is_put);
+        let told = if is_put {
+            let byte = (self.mark(p) % 256) as u8;
+            let whole = bytes.div_ceil(16).saturating_mul(16);
+            self.caller.put(p, whole, arena, byte)
+        } else {
+            self.caller.alloc(p, bytes, arena, until)
+        };
+        if let Err("NoRecord" | "NoSpace") = told {
+            let now = Instant::now(self.rt).ok();
+            self.claim(now.is_none() || now >= until, "refused before its time");
+        }
         if let Some(block) = self.judge(p, told, &may) {
             let is_so = block.len == bytes.div_ceil(16).saturating_mul(16);
             self.claim(is_so, "another length");
@@ -245,7 +258,12 @@ impl<'a, C: Caller, R: Wait + Clock> Worker<'a, C, R> {
 
     fn free(&mut self) {
         let (p, r) = self.seen(BLOCKS, true);
-        if let Some(bytes) = self.ask(p, Call::Free(p, r), &["NotOwned", "NotData"]) {
+        let call = if self.chance.one_in(4) {
+            Call::IntoBytes(p, r)
+        } else {
+            Call::Free(p, r)
+        };
+        if let Some(bytes) = self.ask(p, call, &["NotOwned", "NotData"]) {
             self.claim(bytes > 0 && bytes % 16 == 0, "no whole units");
         }
     }
@@ -267,8 +285,9 @@ impl<'a, C: Caller, R: Wait + Clock> Worker<'a, C, R> {
         let told = self.caller.wire(p, q, arena);
         let is_safe = self.board.get(AIMED_AT, p) == 0;
         let by = if is_safe { q } else { p };
-        let may = ["NoChannel", "NoRecord", "NoSpace", "Worn"];
-        if let Some((low, high)) = self.judge(by, told, &may) {
+        let may = ["NoChannel", "NoRecord", "NoSpace", "Worn", "OutOfMemory"];
+        let count = 4 + usize::from(self.plan.renewed);
+        if let Some((low, high)) = self.judge(by, told, may.get(..count).unwrap_or(&[])) {
             self.meet(p, low.rec);
             self.meet(q, high.rec);
         }
@@ -324,7 +343,7 @@ impl<'a, C: Caller, R: Wait + Clock> Worker<'a, C, R> {
         if let Some(message) = self.judge(p, told, &may) {
             let mut sum = 1;
             for got in &message.blocks {
-                if let Got::Here(block) = got {
+                if let Got::Here(block, _) = got {
                     sum = joined(sum, &block.rec);
                     self.meet(p, block.rec);
                 }

@@ -6,13 +6,15 @@ use xh_core::{Block, Glance, Refused, Status};
 use xh_runner::{Machine, Received};
 
 /// A call, by the numbers of processes, records and arenas. A wire's ends are of arena 0. `Spawns` starts so many processes; `Lives` starts and ends
-/// so many at each place in turn, each place's generations one after the other and then the next place's. A read is of at most six bytes.
+/// so many at each place in turn, each place's generations one after the other and then the next place's. `Fills` allocates 256 blocks of 16
+/// bytes of each of eight arenas. A read is of at most six bytes.
 /// `Moved` asks what was taken of an arena and given back.
 #[derive(Clone, Copy)]
 pub enum Call<'a> {
     Spawn,
     Spawns(u16),
     Lives(u16),
+    Fills(u16),
     Alloc(u16, u32, u32),
     Split(u16, u16, u32),
     Read(u16, u16, u32, usize),
@@ -124,12 +126,24 @@ fn lives_of<M: Machine>(machine: &mut M, generations: u16) -> Answer {
     Answer::Done
 }
 
+/// What the last of the allocs answers.
+fn filled<M: Machine>(machine: &mut M, alloc: Global, p: u16) -> Answer {
+    let mut last = Answer::Done;
+    for block in 0..2_048 {
+        last = machine
+            .alloc(alloc, p, 16, block / 256)
+            .map_or_else(of_refused, of_block);
+    }
+    last
+}
+
 /// What the call answers.
 pub fn answer_of<M: Booked>(machine: &mut M, alloc: Global, call: Call) -> Answer {
     match call {
         Call::Spawn => last_of(machine, 1),
         Call::Spawns(count) => last_of(machine, count),
         Call::Lives(generations) => lives_of(machine, generations),
+        Call::Fills(p) => filled(machine, alloc, p),
         Call::Alloc(p, n, arena) => {
             let made = machine.alloc(alloc, p, n, arena);
             made.map_or_else(of_refused, of_block)
@@ -190,7 +204,7 @@ fn seen_of<M: Booked>(machine: &mut M, alloc: Global) -> [Answer; 7] {
 }
 
 /// Nor the bytes out and the holes of each of four arenas.
-fn held_of<M: Booked>(machine: &M) -> [Option<(u32, u32)>; 4] {
+fn held_of<M: Booked>(machine: &mut M) -> [Option<(u32, u32)>; 4] {
     [
         machine.held(0),
         machine.held(1),

@@ -2,7 +2,8 @@
 use crate::answers::Answer::{self, Block, Bytes, Done, Moved, No, Number, Place, Two};
 use crate::answers::Call::{self, Alloc, Free, Glance, Moved as Count, Read, Spawn, Split, Write};
 use crate::answers::{LACKING, answer_of, answer_or_same, assert_row};
-use crate::machines::{Booked, Case, Trial, arenas_of, assert_same, on_kernel, on_serial};
+use crate::ledgers::assert_same;
+use crate::machines::{Booked, Case, Trial, arenas_of, on_kernel, on_serial};
 use std::alloc::Global;
 use std::process::Abort;
 use std::sync::Wait;
@@ -34,7 +35,7 @@ pub fn assert_again<M: Booked>(
 }
 
 /// Whether a growth was refused to the making of a machine, or to its taking apart.
-fn is_lacking(made: &Result<Ledger, Refused>) -> bool {
+pub fn is_lacking(made: &Result<Ledger, Refused>) -> bool {
     matches!(made, Err(Refused::OutOfMemory))
 }
 

@@ -7,6 +7,8 @@
 #[cfg(test)]
 mod answers;
 #[cfg(test)]
+mod bytes;
+#[cfg(test)]
 mod fronts;
 #[cfg(test)]
 mod gates;
@@ -15,7 +17,11 @@ mod growths;
 #[cfg(test)]
 mod harness;
 #[cfg(test)]
+mod ledgers;
+#[cfg(test)]
 mod machines;
+#[cfg(test)]
+mod memory;
 #[cfg(test)]
 mod passing;
 #[cfg(test)]

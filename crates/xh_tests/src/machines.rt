@@ -3,11 +3,14 @@ ghost use Rattle.std.specs.Prelude.{◌≡◌, All, IfOk, vec_len};
 ghost use Rattle.xh_kernel.specs.Histories.{IsLaw};
 
 use crate::answers::{Answer, Call, assert_answers};
+use crate::bytes::{self, assert_bytes};
 use crate::growths::assert_again;
+use crate::ledgers::assert_same;
+use crate::memory::{Memory, assert_memory};
 use crate::passing::{Passing, assert_passes};
 use crate::serving::assert_served;
 use crate::several::{Step, assert_deadlines, assert_steps, assert_turns};
-use crate::waiting::{Waiting, assert_wait};
+use crate::waiting::{Waiting, assert_both_woken, assert_wait};
 use crate::wiring::{Hold, assert_refused};
 use crate::without_memory::assert_whole;
 use std::alloc::Global;
@@ -17,7 +20,7 @@ use std::sync::Wait;
 use std::thread::Threads;
 use std::time::{Clock, Instant};
 use xh_books::close_kernel;
-use xh_core::{ArenaLine, Config, Ledger, PlaceLine, Refused, State};
+use xh_core::{Block, Config, Ledger, Refused};
 use xh_kernel::{Account, Answered, Kernel, Look, MAX_ENDS, Names, Parts};
 use xh_place::{Got, Taken};
 use xh_runner::{Gate, Machine, OpenGate, Worker, hire, leave_all};
@@ -28,9 +31,8 @@ pub trait Booked: Machine {
     /// How many bytes of an arena were taken and given back. None where there is no such arena.
     fn moved(&self, arena: u8) -> Option<(u64, u64)>;
 
-    /// How many bytes of an arena are out, and how many holes it has. None where there is no such arena, or the machine
-    /// can't tell before it is taken apart.
-    fn held(&self, arena: u8) -> Option<(u32, u32)>;
+    /// How many bytes of an arena are out, and how many holes it has. None where there is no such arena.
+    fn held(&mut self, arena: u8) -> Option<(u32, u32)>;
 }
 
 impl Booked for Serial {
@@ -40,7 +42,7 @@ impl Booked for Serial {
         Some((line.taken, line.back))
     }
 
-    fn held(&self, arena: u8) -> Option<(u32, u32)> {
+    fn held(&mut self, arena: u8) -> Option<(u32, u32)> {
         let ledger = self.ledger();
         let line = ledger.arenas.get(usize::from(arena))?;
         Some((line.out, line.holes))
@@ -52,8 +54,9 @@ impl<'a, N: Names, R: Wait, G: Gate> Booked for Worker<'a, N, R, G> {
         self.account.moved(arena)
     }
 
-    fn held(&self, _arena: u8) -> Option<(u32, u32)> {
-        None
+    fn held(&mut self, arena: u8) -> Option<(u32, u32)> {
+        let line = self.kernel.arena_line(self.rt, arena, &mut self.account)?;
+        Some((line.out, line.holes))
     }
 }
 
@@ -109,6 +112,19 @@ pub trait Shared: Booked {
     fn take_any(&mut self, p: u16, ends: &[u16]) -> Told;
 
     fn take_any_wait(&mut self, p: u16, ends: &[u16], until: Option<Instant>) -> Told;
+
+    fn put(&mut self, p: u16, bytes: &mut Vec<u8>, arena: u32) -> Result<Block, Refused>;
+
+    fn into_bytes(&mut self, p: u16, r: u16) -> Result<Vec<u8>, Refused>;
+
+    /// What an alloc of 16 bytes of arena 0 is told that waits by the clock, once the block was freed.
+    fn alloc_wait<C: Wait + Clock>(
+        &mut self,
+        clock: &C,
+        alloc: Global,
+        p: u16,
+        until: Option<Instant>,
+    ) -> &'static str;
 }
 
 impl<'a, N: Names, R: Wait + Clock, G: Gate> Shared for Worker<'a, N, R, G> {
@@ -150,6 +166,39 @@ impl<'a, N: Names, R: Wait + Clock, G: Gate> Shared for Worker<'a, N, R, G> {
         };
         told_at(answer)
     }
+
+    fn put(&mut self, p: u16, bytes: &mut Vec<u8>, arena: u32) -> Result<Block, Refused> {
+        let (rt, gate) = (self.rt, self.gate);
+        self.kernel
+            .put(rt, p, bytes, arena, &mut self.account, gate)
+    }
+
+    fn into_bytes(&mut self, p: u16, r: u16) -> Result<Vec<u8>, Refused> {
+        let (rt, gate) = (self.rt, self.gate);
+        self.kernel.into_bytes(rt, p, r, &mut self.account, gate)
+    }
+
+    fn alloc_wait<C: Wait + Clock>(
+        &mut self,
+        clock: &C,
+        alloc: Global,
+        p: u16,
+        until: Option<Instant>,
+    ) -> &'static str {
+        let (kernel, account, gate) = (self.kernel, &mut self.account, self.gate);
+        let answer = match until {
+            Some(until) => kernel.alloc_wait_until(clock, alloc, p, 16, 0, until, account, gate),
+            None => kernel.alloc_wait(clock, alloc, p, 16, 0, account, gate),
+        };
+        let freed = match answer {
+            Ok(block) => kernel.free(clock, p, block.rec, account, gate),
+            Err(refused) => Err(refused),
+        };
+        match freed {
+            Ok(_bytes) => "",
+            Err(refused) => refused.name(),
+        }
+    }
 }
 
 /// What is tried on a machine: calls and what they answer; the same, each made again where a growth was refused; calls
@@ -161,13 +210,17 @@ pub enum Trial<'a> {
     WithoutMemory,
 }
 
-/// What is tried on a kernel: the same by its one worker; messages from one thread to another; a process that waits; a wire to a
-/// process that ends; takes at several endpoints, by what they answer, by their deadlines and by turns; a server of eight clients.
+/// What is tried on a kernel: the same by its one worker; messages from one thread to another; a process that waits, for a message
+/// or room, or for memory; two threads of one that wait; buffers and blocks; a wire to a process that ends; takes at several
+/// endpoints, by what they answer, by their deadlines and by turns; a server of eight clients.
 #[derive(Clone, Copy)]
 pub enum Case<'a> {
     Alone(Trial<'a>),
     Passes(Passing),
     Waits(Waiting<'a>),
+    Memory(Memory<'a>),
+    Bytes(&'a [bytes::Step<'a>]),
+    BothWait,
     Wires(&'a Hold),
     Steps(&'a [Step<'a>]),
     Deadlines,
@@ -213,6 +266,9 @@ fn try_case<W: Shared + Send, R: Threads + Wait + Clock + Abort + Sync>(
         Case::Alone(trial) => try_on(rt, alloc, mine, trial),
         Case::Passes(what) => assert_passes(rt, alloc, mine, others, what),
         Case::Waits(waiting) => assert_wait(rt, alloc, mine, others, waiting),
+        Case::Memory(memory) => assert_memory(rt, alloc, mine, others, memory),
+        Case::Bytes(steps) => assert_bytes(rt, alloc, mine, steps),
+        Case::BothWait => assert_both_woken(rt, alloc, mine, others),
         Case::Wires(hold) => assert_refused(rt, mine, others, hold),
         Case::Steps(steps) => assert_steps(rt, alloc, mine, steps),
         Case::Deadlines => assert_deadlines(rt, alloc, mine),
@@ -295,40 +351,6 @@ pub fn on_long_kernel<R: Threads + Wait + Clock + Abort + Sync>(
 ) -> Result<Ledger, Refused> {
     let parts = Parts::new(alloc, config, 1)?.with_all_numbers();
     on_parts::<Brand, R, OpenGate>(rt, alloc, parts, &OpenGate, case)
-}
-
-/// What a line of an arena tells.
-fn of_arena(line: &ArenaLine) -> (u32, u32, u32, u64, u64) {
-    (line.size, line.out, line.holes, line.taken, line.back)
-}
-
-/// What a line of a place tells.
-fn of_place(line: &PlaceLine) -> (u16, State, u32, u64) {
-    (line.process, line.state, line.blocks, line.bytes)
-}
-
-fn assert_same_arenas(rt: &impl Abort, one: &[ArenaLine], other: &[ArenaLine]) {
-    assert_eq!(rt; one.len(), other.len());
-    for (line, other_line) in one.iter().zip(other.iter()) {
-        assert!(rt; of_arena(line) == of_arena(other_line));
-    }
-}
-
-fn assert_same_places(rt: &impl Abort, one: &[PlaceLine], other: &[PlaceLine]) {
-    assert_eq!(rt; one.len(), other.len());
-    for (line, other_line) in one.iter().zip(other.iter()) {
-        assert!(rt; of_place(line) == of_place(other_line));
-    }
-}
-
-/// Both ledgers have the same lines, and so the same sums.
-pub fn assert_same(rt: &impl Abort, one: &Ledger, other: &Ledger) {
-    assert_same_arenas(rt, one.arenas.as_slice(), other.arenas.as_slice());
-    assert_same_places(rt, one.places.as_slice(), other.places.as_slice());
-    assert_eq!(rt;
-        (one.owned, one.flight, one.out),
-        (other.owned, other.flight, other.out)
-    );
 }
 
 /// Makes each call on a new serial machine and on a new kernel, compares what it answers, and then both ledgers.

@@ -28,9 +28,9 @@ const BEFORE: &[(Call, Answer)] = &[
 /// How often what finds no room is tried again.
 const TRIES: u32 = 1_000_000;
 
-// The tag of the message of a number; its low half is the first byte of its blocks.
+// The tag of the message of a number; its low half is the first byte of its blocks: 1 in the first message.
 fn tag_of(no: u16) -> u16 {
-    65_535u16.wrapping_sub(no)
+    65_280u16.wrapping_add(no)
 }
 
 // A new block, tried again while there is no room.

@@ -1,10 +1,11 @@
 //! Places and glances, by calls.
 use crate::answers::Answer::{self, Block, Bytes, Done, Moved, No, Number, Place, Two};
 use crate::answers::Call::{
-    self, Alloc, Exit, Free, Glance, Kill, Lives, Moved as Count, Read, Spawn, Spawns, Split, Write,
+    self, Alloc, Exit, Fills, Free, Glance, Kill, Lives, Moved as Count, Read, Spawn, Spawns,
+    Split, Write,
 };
 use crate::machines::{Case, Trial, arenas_of, assert_on, on_kernel, on_long_kernel};
-use xh_core::{Refused, Status};
+use xh_core::{Config, Refused, Status};
 
 /// A look sees each change of a place once the call that made it has answered.
 #[test]
@@ -101,6 +102,23 @@ fn place_calls(rt: HostRuntime) {
         (Count(1), No("NoArena")),
     ];
     assert_on(&rt, rt.alloc(), arenas_of(1, 256, 8), CALLS);
+}
+
+/// One process has all blocks that there can be.
+#[test]
+fn all_blocks(rt: HostRuntime) {
+    const CALLS: &[(Call, Answer)] = &[
+        (Spawn, Number(0)),
+        (Fills(0), Block(2_047, 16)),
+        (Alloc(0, 16, 7), No("NoRecord")),
+        (Glance(0), Place(0, Status::Running, 2_048, 32_768)),
+        (Exit(0, 4_096), Number(32_768)),
+    ];
+    let config = Config {
+        wear: 4_096,
+        ..arenas_of(8, 8_192, 256)
+    };
+    assert_on(&rt, rt.alloc(), config, CALLS);
 }
 
 /// A kernel in which nothing ran has a ledger without places, whose sums are 0.

@@ -1,5 +1,5 @@
 //! A process that waits for a message at one endpoint or at one of two, or for room, on threads.
-use crate::answers::Call::{self, Alloc, Close, Exit, Give, Kill, Spawn, Take, Wire};
+use crate::answers::Call::{self, Alloc, Close, Exit, Free, Give, Kill, Open, Spawn, Take, Wire};
 use crate::answers::{Answer, answer_of, assert_row};
 use crate::machines::{Case, Shared, Told, arenas_of, on_kernel};
 use std::alloc::Global;
@@ -34,7 +34,8 @@ pub struct Waiting<'a> {
     want: (u16, &'static str),
 }
 
-fn pause(turns: u64) {
+/// Lets so many turns of a loop go by.
+pub fn pause(turns: u64) {
     for _ in 0..turns {
         spin_loop();
     }
@@ -51,10 +52,12 @@ const BEFORE: &[Call] = &[
     Wire(0, 1),
 ];
 
-// The call by processes that came so much later to their places.
-fn later(call: Call, by: u16) -> Call {
+/// The call by processes that came so much later to their places.
+pub fn later(call: Call, by: u16) -> Call {
     match call {
         Alloc(p, n, arena) => Alloc(p | by, n, arena),
+        Free(p, r) => Free(p | by, r),
+        Open(p, arena) => Open(p | by, arena),
         Wire(p, q) => Wire(p | by, q | by),
         Give(p, e, tag, blocks) => Give(p | by, e, tag, blocks),
         Take(p, e) => Take(p | by, e),
@@ -86,8 +89,8 @@ fn wait_late<W: Shared, R: Clock>(
     }
 }
 
-// Does what ends the wait, after a pause.
-fn end_late<W: Shared>(alloc: Global, worker: &mut W, ender: Call, seed: u64) -> Answer {
+/// Does what ends the wait, after a pause.
+pub fn end_late<W: Shared>(alloc: Global, worker: &mut W, ender: Call, seed: u64) -> Answer {
     pause((seed / 211) % 4001);
     answer_of(worker, alloc, ender)
 }
@@ -229,4 +232,49 @@ fn waits_for_room(rt: HostRuntime) {
     for (ender, tag, refused) in ENDERS {
         assert_waits(&rt, rt.alloc(), For::Room, *ender, (*tag, *refused));
     }
+}
+
+/// Two threads of process 0 wait at its end 2; each takes one of the two messages that come.
+pub fn assert_both_woken<W: Shared + Send, R: Threads + Clock + Abort + Sync>(
+    rt: &R,
+    alloc: Global,
+    mine: &mut W,
+    others: &mut [W],
+) {
+    let [first, second] = others else {
+        panic!(rt; "no two other workers");
+    };
+    for call in BEFORE {
+        let _made = answer_of(mine, alloc, *call);
+    }
+    for round in 0..256 {
+        let (seed, twice, thrice) = (round * 977, round * 1_954, round * 2_931);
+        let (taken, _given) = thread::join(
+            rt,
+            || {
+                thread::join(
+                    rt,
+                    || wait_late(rt, first, For::One, 0, seed),
+                    || wait_late(rt, second, For::One, 0, twice),
+                )
+            },
+            || {
+                (
+                    end_late(alloc, mine, Give(1, 3, 7, &[]), seed),
+                    end_late(alloc, mine, Give(1, 3, 8, &[]), thrice),
+                )
+            },
+        );
+        let ((_, one, _), (_, other, _)) = taken;
+        assert!(rt;
+            (one, other) == (7, 8) || (one, other) == (8, 7),
+            "{one} {other}"
+        );
+    }
+}
+
+#[test]
+fn two_threads_of_one_process_wait(rt: HostRuntime) {
+    let ledger = on_kernel(&rt, rt.alloc(), arenas_of(1, 256, 16), 3, Case::BothWait);
+    assert!(&rt; ledger.is_ok());
 }

@@ -1,4 +1,5 @@
 //! The whole program, over any reader and writers.
+ghost use Rattle.std.specs.Prelude.{codes, map, string_bytes};
 ghost use Rattle.xheap.specs.Status.{Ended, RanBy};
 
 use std::alloc::Global;
@@ -60,7 +61,7 @@ pub(crate) fn run_main<T: Threads + Wait + Sync, R: Read, W: Write, E: Write>(
     out: &mut Watched<W>,
     err: &mut E,
 ) -> u8
-    ensures { Ended R.remaining W.contents reader.old reader.new out.old out.new result }
+    ensures { Ended R.remaining W.contents (codes "xheap") (map string_bytes words.now) reader.old reader.new out.old out.new result }
 {
     match read_options(alloc, PROGRAM, words, out, err) {
         Ok(options) => run(rt, alloc, options, reader, out, err),

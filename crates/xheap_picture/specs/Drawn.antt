@@ -1,9 +1,9 @@
 -- How a run of the program over a reader and a writer may end.
 use Rattle.std.specs.Prelude.{◌≡◌, ◌⊎◌, ℕ, List, Option}
+use Rattle.xh_command_line.specs.Asked.{AskRun}
 use Rattle.xh_command_line.specs.Unasked.{IsUnasked}
 use Rattle.xh_command_line.specs.Status.{status_of}
-use Rattle.xh_script.specs.Config.{IsScriptConfig}
-use Rattle.xh_model.specs.declared.config.Config.{Config}
+use Rattle.xh_command_line.specs.declared.options.Options.{Options}
 use Rattle.xh_picture.specs.Pictures.{IsPicture}
 use Rattle.xh_session.specs.Ends.{EndsWith}
 use Rattle.xh_script.specs.declared.streams.Watched.{Watched}
@@ -14,7 +14,8 @@ abbrev pub IsDrawn : Listing → List ℕ → Type 0
 IsDrawn script bytes = IsPicture bytes
 
 module _ {R W : Type 0} (remaining : R → Option (List ℕ)) (contents : W → Option (List ℕ)) where
-  -- a script is drawn with limits that a machine can be made with; else nothing is read
-  abbrev pub Ended : Watched R → Watched R → Watched W → Watched W → ℕ → Type 0
-  Ended reader reader' out out' status = ((config : Config) × IsScriptConfig config × EndsWith remaining contents IsDrawn status_of config reader reader' out out' status)
-      ⊎ ((reader' ≡ reader) × IsUnasked out out' status)
+  -- a script is drawn with the limits that the words ask for; or they ask for no run, and nothing is read
+  abbrev pub Ended : List ℕ → List (List ℕ) → Watched R → Watched R → Watched W → Watched W → ℕ → Type 0
+  Ended name words reader reader' out out' status =
+      ((options : Options) × AskRun name words options × EndsWith remaining contents IsDrawn status_of options.config reader reader' out out' status)
+      ⊎ ((reader' ≡ reader) × IsUnasked name words out out' status)

@@ -1,4 +1,5 @@
 //! The whole program, over any reader and writers.
+ghost use Rattle.std.specs.Prelude.{codes, map, string_bytes};
 ghost use Rattle.xh_command_line.specs.Status.{status_of};
 ghost use Rattle.xh_session.specs.Ends.{EndsWith};
 ghost use Rattle.xheap_picture.specs.Drawn.{Ended, IsDrawn};
@@ -49,7 +50,7 @@ pub(crate) fn run_main<R: Read, W: Write, E: Write>(
     out: &mut Watched<W>,
     err: &mut E,
 ) -> u8
-    ensures { Ended R.remaining W.contents reader.old reader.new out.old out.new result }
+    ensures { Ended R.remaining W.contents (codes "xheap_picture") (map string_bytes words.now) reader.old reader.new out.old out.new result }
 {
     match read_options(alloc, PROGRAM, words, out, err) {
         Ok(options) => run(alloc, options, reader, out, err),

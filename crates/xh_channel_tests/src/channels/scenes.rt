@@ -4,7 +4,7 @@ use super::calls::{Call, Ends, Row as Step, assert_rows};
 use super::opening::{
     Opening, assert_all_open, assert_goes_back, assert_openings, assert_own_room, opened,
 };
-use super::threads::{assert_put_and_shut, assert_side_by_side};
+use super::threads::{assert_each_alone, assert_put_and_shut, assert_side_by_side};
 use std::alloc::Global;
 use std::process::Abort;
 use std::sync::Wait;
@@ -27,7 +27,7 @@ pub(super) enum Act {
 }
 
 /// What is done on new channels: an act on so many of them, one after the other, or what opens ends by itself. The channels
-/// go by the contract of the rows, or by none. `Again` is `Each`, and this and `Openings` are where numbers come back.
+/// go by the contract of the rows, or by none. `Again` is `Each`, and this, `EachAlone` and `Openings` are where numbers come back.
 #[derive(Clone, Copy)]
 pub(super) enum Scene {
     Each(&'static [Row], Act, u8),
@@ -35,6 +35,7 @@ pub(super) enum Scene {
     GoesBack,
     OwnRooms(&'static [Row]),
     Again(&'static [Row], Act, u8),
+    EachAlone(u16),
     Openings(&'static [Opening]),
 }
 
@@ -93,6 +94,7 @@ fn play_on<R: Clock + Threads + Wait + Abort + Sync>(
         Scene::GoesBack => assert_goes_back(rt, channels, others),
         Scene::OwnRooms(rows) => assert_own_room(rt, channels, others, rows),
         Scene::Again(rows, act, count) => act_on_each(rt, others, rows, act, count),
+        Scene::EachAlone(count) => assert_each_alone(rt, others, count),
         Scene::Openings(rows) => assert_openings(rt, others, rows),
     }
 }

@@ -2,11 +2,13 @@
 use super::calls::Answer::{Count, Done, Refused as No, Sent, Taken};
 use super::calls::Call::{Follow, Put, Puts, Rest, Rouse, Shut, Take, Takes, Turn, Wait as WaitAt};
 use super::calls::Manner::{Busily, Once, Promptly, Slowly};
-use super::calls::{Ends, REST, Row, assert_same, by_end, follow, put_all, take_all};
-use super::opening::{FREE, ONE_WAY};
+use super::calls::{Ends, REST, Row, assert_rows, assert_same, by_end, follow, put_all, take_all};
+use super::opening::{FREE, ONE_WAY, opened};
 use super::scenes::{Act, Scene, play};
 use std::process::Abort;
 use std::sync::Wait;
+use std::sync::atomic::AtomicU64;
+use std::sync::atomic::Ordering::SeqCst;
 use std::thread;
 use std::thread::Threads;
 use std::time::Clock;
@@ -74,6 +76,54 @@ pub(super) fn assert_put_and_shut<R: Clock + Threads + Wait + Abort + Sync>(
     );
     let all = take_all(rt, channels, &mut ends.high, taken, 64, Once);
     assert!(rt; taken >= sent && all <= sent.wrapping_add(1));
+}
+
+// A channel that nobody used opens, and its ends go again. Meanwhile it is the only one of its number.
+fn assert_next_is_alone<R: Clock + Wait + Abort>(rt: &R, channels: &Channels, open: &AtomicU64) {
+    match opened(rt, channels, FREE) {
+        Some(mut ends) => {
+            let number = 1u64.wrapping_shl(u32::from(ends.low.spot().channel));
+            assert!(rt; open.fetch_or(number, SeqCst) & number == 0);
+            assert_rows(rt, channels, &mut ends, UNUSED);
+            open.fetch_and(!number, SeqCst);
+            drop(ends);
+        }
+        None => panic!(rt; "a channel is free"),
+    }
+}
+
+/// So many open and go on each of eight threads.
+pub(super) fn assert_each_alone<R: Clock + Threads + Wait + Abort + Sync>(
+    rt: &R,
+    channels: &Channels,
+    count: u16,
+) {
+    let open = AtomicU64::new(0);
+    thread::for_each_mut(
+        rt,
+        &mut [(); 8],
+        8,
+        &|_at, ()| {
+            for _ in 0..count {
+                assert_next_is_alone(rt, channels, &open);
+            }
+        },
+    );
+}
+
+// What a channel answers that nobody used.
+const UNUSED: &[Row] = &[
+    (1, Take, No(16)),
+    (0, Put(1, Some(7)), Sent(1)),
+    (1, Take, Taken(1, 1, Some(7))),
+    (1, Shut, Done),
+    (0, Put(1, Some(8)), No(15)),
+];
+
+/// 10,000 channels by 8 threads.
+#[test]
+fn channels_open_while_others_close(rt: HostRuntime) {
+    play(&rt, rt.alloc(), 1, Scene::EachAlone(1_250));
 }
 
 // Each message is there as soon as the turn has risen for it.

@@ -5,12 +5,14 @@ ghost use Rattle.xh_kernel.specs.Did.{DidGive, DidTake, DidTakeAny};
 ghost use Rattle.xh_kernel.specs.Waits.{AtLast, no_room};
 
 use crate::account::Account;
+use crate::awaiting::Awaited;
 use crate::kernel::Kernel;
 use crate::looking::bell_of;
 use crate::until::{Never, Until};
 use std::sync::Wait;
 use std::time::{Clock, Instant};
 use xh_calls::{Answered, Names};
+use xh_channel::Spot;
 use xh_core::Refused;
 use xh_place::{Gate, Taken};
 
@@ -218,7 +220,11 @@ impl<N: Names> Kernel<N> {
             if past {
                 return answer;
             }
+            let Spot { channel, side } = spot;
+            let awaited = Awaited::Message { channel, side };
+            let word = self.shared.awaiting.begin(p, awaited);
             until.sleep(rt, &self.shared.heap.channels, spot, seen);
+            self.shared.awaiting.end(p, word);
         }
         unreachable!()
     }
@@ -247,7 +253,9 @@ impl<N: Names> Kernel<N> {
             if past {
                 return answer;
             }
+            let word = self.shared.awaiting.begin(p, Awaited::AnyMessage);
             until.sleep_at(rt, &self.shared.heap.channels, bell_of(p), seen);
+            self.shared.awaiting.end(p, word);
         }
         unreachable!()
     }
@@ -275,14 +283,16 @@ impl<N: Names> Kernel<N> {
             let mut held = self.held(rt, p);
             let (answer, bell) = held.send(rt, shared, p, e, tag, blocks, asks, account, gate);
             drop(held);
-            let Some(seen) = bell else {
+            let Some((seen, spot)) = bell else {
                 return answer;
             };
             if past {
                 return answer;
             }
-            if asks {
+            if let Some(Spot { channel, side }) = spot {
+                let word = shared.awaiting.begin(p, Awaited::Room { channel, side });
                 until.sleep_at(rt, &shared.heap.channels, bell_of(p), seen);
+                shared.awaiting.end(p, word);
             }
             asks = !asks;
         }

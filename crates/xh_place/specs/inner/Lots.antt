@@ -11,7 +11,7 @@ use Rattle.xh_place.specs.declared.body.Body.TheVariants.{End}
 use Rattle.xh_core.specs.declared.header.Kind.TheVariants as kind
 use Rattle.xh_place.specs.Bodies.{content_of, fits_in, front, kind_of, rest}
 use Rattle.xh_place.specs.Events.{claimed, let_go}
-use Rattle.xh_place.specs.Places.{IsBlock, Item}
+use Rattle.xh_place.specs.Places.{IsBlock, IsWhole, Item}
 use Rattle.xh_place.specs.Seen.{Did, SawFull}
 
 -- a seat, of which it doesn't count what it has seen
@@ -36,6 +36,10 @@ SeatFull most old new arena = SeatLetsGo (λ claims. (length claims ≤ most) ×
 -- a data block's lot: a buffer of its length, which isn't 0
 abbrev pub IsData : LotOf Body → Type 0
 IsData l = (kind_of (content_of l.body) ≡ kind.Data) × (fits_in l.body l.len ≡ true) × (0 < l.len)
+
+-- what a whole block carries
+abbrev pub IsBodyOf : Body → Item → Type 0
+IsBodyOf body x = (content_of body ≡ x.content) × IsWhole x
 
 -- the lot l of the record r keeps its first k bytes, and those past them are in a record t of the same arena that the seat didn't hold
 abbrev pub IsCut : Held Body → Held Body → ℕ → ℕ → LotOf Body → ℕ → Type 0

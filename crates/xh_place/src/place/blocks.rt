@@ -1,5 +1,5 @@
 //! Data blocks of a place.
-ghost use Rattle.std.specs.Prelude.{◌≡◌, ◌≢◌, ℕ, ◌+◌, ◌/◌, ◌%◌, ◌<◌, ◌≤◌, ◌∷◌, [], ◌++◌, is_none, length, Some, IfErr, MatchResult, OnErr, OnOk};
+ghost use Rattle.std.specs.Prelude.{◌≡◌, ◌≢◌, ℕ, ◌+◌, ◌/◌, ◌%◌, ◌<◌, ◌≤◌, ◌∷◌, [], ◌++◌, is_none, length, Some, IfErr, IfOk, MatchResult, OnErr, OnOk};
 ghost use Rattle.xh_core.specs.Calls.{data_tests, split_tests, start};
 ghost use Rattle.xh_core.specs.declared.refused.Refused.TheVariants.{NotOwned};
 ghost use Rattle.xh_core.specs.Refusing.{Tested};
@@ -12,14 +12,14 @@ ghost use Rattle.xh_place.specs.Ending.{HasGivenBack};
 ghost use Rattle.xh_place.specs.Places.{Item, IsPlaceOf, found, total_of};
 ghost use Rattle.xh_place.specs.Seen.{Frees, Stays};
 ghost use Rattle.xh_place.specs.Tallies.{gave, took};
-ghost use Rattle.xh_place.specs.Vaults.{IsRefusedAt};
 ghost use Rattle.xh_core.specs.Headers.{len_in};
 ghost use Rattle.xh_core.specs.Space.{rounded};
-ghost use Rattle.xh_place.specs.Calls.{Allocates, FreesBlock, Lends, LendsMut, Reads, Splits, Writes};
+ghost use Rattle.xh_place.specs.Calls.{Allocates, FreesBlock, GivesUp, HasBytes, Lends, LendsMut, Makes, Reads, Splits, Writes, space_at};
+ghost use Rattle.xh_place.specs.inner.Lots.{IsBodyOf};
 ghost use Rattle.xh_core.specs.declared.header.Kind.TheVariants as kind;
 
 use crate::body::Body;
-use crate::bytes::{lend_lot, read_lot, show_lot, write_lot};
+use crate::bytes::{bytes_of, lend_lot, read_lot, show_lot, write_lot};
 use crate::desk::Desk;
 use crate::gate::Gate;
 use crate::list::remove;
@@ -35,7 +35,7 @@ use xh_records::Records;
 fn round_up(n: u32) -> u32
     requires { (0 < n) × (n ≤ MAX_BYTES) }
     ensures result { result ≡ rounded n }
-    ensures some { (0 < result) × (result % UNIT ≡ 0) × (result ≤ MAX_BYTES) }
+    ensures room { (n ≤ result) × (result % UNIT ≡ 0) × (result ≤ MAX_BYTES) }
     ensures least { (size : ℕ) → size % UNIT ≡ 0 → n ≤ size → result ≤ size }
 {
     (n + (UNIT - 1)) / UNIT * UNIT
@@ -54,33 +54,75 @@ impl Place {
     ) -> Result<Block, Refused>
         requires at { IsAt V.names desk.old self.old.place }
         ensures same { StaysAt V.names V.extent desk.old desk.new self.old self.new }
-        ensures made { Allocates self.old.place.state
-            (record { arenas = length self.old.place.shape.names; size = V.extent desk.old.vaults.now; refuses = IsRefusedAt V.changes desk.old.vaults.now desk.new.vaults.now })
-            n arena self.old self.new result }
+        ensures made { Allocates self.old.place.state (space_at V.changes V.extent (length self.old.place.shape.names) desk.old.vaults.now desk.new.vaults.now) n arena self.old self.new result }
         ensures tallies { MatchResult result (λ b. desk.new.tallies.now ≡ took arena b.len desk.old.tallies.now) (λ _. desk.new.tallies.now ≡ desk.old.tallies.now) }
         ensures untouched { IfErr result (λ e. e ≢ Refused.NoSpace → e ≢ Refused.Worn → desk.new.vaults.now ≡ desk.old.vaults.now) }
+    {
+        let mut zeros = Vec::new(alloc);
+        self.make(desk, &mut zeros, n as usize, arena)
+    }
+
+    /// As `alloc`, of a block of these bytes, up to a multiple of 16 followed by zeros: the buffer itself is the block's, and an empty
+    /// one is left. It grows once where it has no room for the zeros; one whose capacity is more than an eighth above the block is
+    /// shrunk, and where that isn't done it is refused as OutOfMemory. Refused, the bytes are as they were; the capacity may not be.
+    pub fn put<R, V: Vaults, G: Gate>(
+        &mut self,
+        desk: &mut Desk<'_, R, V, G>,
+        bytes: &mut Vec<u8>,
+        arena: u32,
+    ) -> Result<Block, Refused>
+        requires at { IsAt V.names desk.old self.old.place }
+        ensures same { StaysAt V.names V.extent desk.old desk.new self.old self.new }
+        ensures made { Makes self.old.place.state (space_at V.changes V.extent (length self.old.place.shape.names) desk.old.vaults.now desk.new.vaults.now)
+            (length bytes.old.items) bytes.old.items arena self.old self.new result }
+        ensures tallies { MatchResult result (λ b. desk.new.tallies.now ≡ took arena b.len desk.old.tallies.now) (λ _. desk.new.tallies.now ≡ desk.old.tallies.now) }
+        ensures untouched { IfErr result (λ e. e ≢ Refused.NoSpace → e ≢ Refused.Worn → desk.new.vaults.now ≡ desk.old.vaults.now) }
+        ensures bytes { MatchResult result (λ _. bytes.new.items ≡ []) (λ _. bytes.new.items ≡ bytes.old.items) }
+    {
+        let n = bytes.len();
+        self.make(desk, bytes, n, arena)
+    }
+
+    // A new block of `n` bytes, which begins with those of the buffer, and the buffer is left empty.
+    #[inline(always)]
+    fn make<R, V: Vaults, G: Gate>(
+        &mut self,
+        desk: &mut Desk<'_, R, V, G>,
+        buffer: &mut Vec<u8>,
+        n: usize,
+        arena: u32,
+    ) -> Result<Block, Refused>
+        requires at { IsAt V.names desk.old self.old.place }
+        requires room { length buffer.old.items ≤ n }
+        ensures same { StaysAt V.names V.extent desk.old desk.new self.old self.new }
+        ensures made { Makes self.old.place.state (space_at V.changes V.extent (length self.old.place.shape.names) desk.old.vaults.now desk.new.vaults.now)
+            n buffer.old.items arena self.old self.new result }
+        ensures tallies { MatchResult result (λ b. desk.new.tallies.now ≡ took arena b.len desk.old.tallies.now) (λ _. desk.new.tallies.now ≡ desk.old.tallies.now) }
+        ensures untouched { IfErr result (λ e. e ≢ Refused.NoSpace → e ≢ Refused.Worn → desk.new.vaults.now ≡ desk.old.vaults.now) }
+        ensures buffer { MatchResult result (λ _. buffer.new.items ≡ []) (λ _. buffer.new.items ≡ buffer.old.items) }
     {
         self.state.check_start()?;
         if arena >= u32::from(desk.vaults.arenas()) {
             return Err(Refused::NoArena);
         }
-        if n == 0 || n > desk.vaults.size() {
+        if n == 0 || n > desk.vaults.size() as usize {
             return Err(Refused::BadSize);
         }
         let arena = arena as u8;
-        let len = round_up(n);
-        let rec = make_block(alloc, desk, &mut self.seat, len, arena)?;
+        let len = round_up(n as u32);
+        let rec = make_block(desk, &mut self.seat, buffer, len, arena)?;
         self.list.push_reserved(rec);
         self.total += u64::from(len);
         Ok(Block { rec, len })
     }
 
-    // A block's bytes go back, and its record is free. It answers the bytes.
+    // A block's bytes go back, and its record is free. It answers the bytes, and what the block carried is in `body`.
     #[inline(always)]
     pub(super) fn give_up<R, V: Vaults, G: Gate>(
         &mut self,
         desk: &mut Desk<'_, R, V, G>,
         r: u16,
+        body: &mut Body,
     ) -> u32
         requires at { IsAt V.names desk.old self.old.place }
         requires listed { (x : Item) × (value_at r self.old.place.blocks ≡ Some x) }
@@ -90,9 +132,10 @@ impl Place {
         ensures bytes { (result ≡ len_in (found self.old.place r)) × (result + total_of self.new.place.blocks ≡ total_of self.old.place.blocks) }
         ensures back { (desk.new.tallies.now ≡ gave (r / MAX_RECORDS) result desk.old.tallies.now) × HasGivenBack result desk.old.tallies.now desk.new.tallies.now }
         ensures arena { r / MAX_RECORDS < length self.old.place.shape.names }
+        ensures body { (x : Item) → value_at r self.old.place.blocks ≡ Some x → IsBodyOf body.new x }
     {
         remove(&mut self.list, r);
-        let len = give_up(desk, &mut self.seat, r);
+        let len = give_up(desk, &mut self.seat, r, body);
         self.total -= u64::from(len);
         len
     }
@@ -116,7 +159,7 @@ impl Place {
     fn test_data(&mut self, records: &Records<Body>, r: u16) -> Result<Header, Refused>
         requires own { IsPlaceOf records.now self.old.place }
         ensures same { Stays self.old self.new }
-        ensures tested { Tested (start self.old.place.state ++ data_tests (found self.old.place r)) result (λ s. found self.old.place r ≡ Some s) }
+        ensures tested { Tested (start self.old.place.state ++ data_tests (found self.old.place r)) result (λ s. (found self.old.place r ≡ Some s) × (s.kind ≡ kind.Data)) }
     {
         self.test_block(records, r)?;
         let header = self.look(records, r);
@@ -139,8 +182,46 @@ impl Place {
         ensures arena { OnOk result (r / MAX_RECORDS < length self.old.place.shape.names) }
         ensures untouched { OnErr result (desk.new.vaults.now ≡ desk.old.vaults.now) }
     {
+        let mut body = Body::Nothing;
+        self.release(desk, r, &mut body)
+    }
+
+    /// As `free`. It answers the block's buffer with all its bytes, so with the zeros up to a multiple of 16.
+    pub fn into_bytes<R, V: Vaults, G: Gate>(
+        &mut self,
+        desk: &mut Desk<'_, R, V, G>,
+        r: u16,
+    ) -> Result<Vec<u8>, Refused>
+        requires at { IsAt V.names desk.old self.old.place }
+        ensures same { StaysAt V.names V.extent desk.old desk.new self.old self.new }
+        ensures freed { GivesUp (λ v. HasBytes r self.old.place v.items) self.old.place.state r self.old self.new result }
+        ensures tallies { MatchResult result (λ v. desk.new.tallies.now ≡ gave (r / MAX_RECORDS) (length v.items) desk.old.tallies.now) (λ _. desk.new.tallies.now ≡ desk.old.tallies.now) }
+        ensures arena { OnOk result (r / MAX_RECORDS < length self.old.place.shape.names) }
+        ensures untouched { OnErr result (desk.new.vaults.now ≡ desk.old.vaults.now) }
+    {
+        let mut body = Body::Nothing;
+        self.release(desk, r, &mut body)?;
+        Ok(bytes_of(body))
+    }
+
+    // A data block's bytes go back, and its record is free. What it carried is in `body`.
+    #[inline(always)]
+    fn release<R, V: Vaults, G: Gate>(
+        &mut self,
+        desk: &mut Desk<'_, R, V, G>,
+        r: u16,
+        body: &mut Body,
+    ) -> Result<u32, Refused>
+        requires at { IsAt V.names desk.old self.old.place }
+        ensures same { StaysAt V.names V.extent desk.old desk.new self.old self.new }
+        ensures freed { FreesBlock self.old.place.state r self.old self.new result }
+        ensures tallies { MatchResult result (λ n. desk.new.tallies.now ≡ gave (r / MAX_RECORDS) n desk.old.tallies.now) (λ _. desk.new.tallies.now ≡ desk.old.tallies.now) }
+        ensures arena { OnOk result (r / MAX_RECORDS < length self.old.place.shape.names) }
+        ensures untouched { OnErr result (desk.new.vaults.now ≡ desk.old.vaults.now) }
+        ensures body { IfOk result (λ n. (x : Item) × (value_at r self.old.place.blocks ≡ Some x) × IsBodyOf body.new x × (kind_of x.content ≡ kind.Data) × (n ≡ x.len)) }
+    {
         self.test_data(desk.records, r)?;
-        Ok(self.give_up(desk, r))
+        Ok(self.give_up(desk, r, body))
     }
 
     /// Cuts a data block after its first `k` bytes, a multiple of 16: the head, which keeps its record and

@@ -16,6 +16,7 @@ ghost use Rattle.xh_records.specs.Seats.{IsRecord};
 ghost use Rattle.xh_place.specs.inner.Reclaiming.{IsSweptLate};
 ghost use Rattle.xh_core.specs.declared.status.Status.TheVariants as status;
 
+use crate::body::Body;
 use crate::desk::Desk;
 use crate::gate::Gate;
 use crate::got::Got;
@@ -99,7 +100,8 @@ impl Place {
     {
         let r = self.at(from);
         self.drain_end(desk, r);
-        self.give_up(desk, r)
+        let mut body = Body::Nothing;
+        self.give_up(desk, r, &mut body)
     }
 
     /// The blocks of the list from `from` on go, as far as the budget goes; what waits for an endpoint
@@ -183,7 +185,7 @@ impl Place {
         let from = self.count();
         match self.accept(desk.records, r, direction) {
             Got::Missing { .. } => (),
-            Got::Here(_block) => {
+            Got::Here(..) => {
                 let _swept = self.sweep(desk, from, MAX_BUDGET);
             }
         }

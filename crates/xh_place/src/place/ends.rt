@@ -170,7 +170,7 @@ impl Place {
         }
         if self.is_here(process) {
             return match self.accept(desk.records, r, direction) {
-                Got::Here(block) => Ok(block),
+                Got::Here(block, _) => Ok(block),
                 Got::Missing { .. } => Err(Refused::Ended),
             };
         }

@@ -1,10 +1,10 @@
 //! Messages that a place gives and takes.
-ghost use Rattle.std.specs.Prelude.{◌≡◌, ◌≢◌, ℕ, ◌+◌, ◌*◌, ◌<◌, List, [], ◌∷◌, Some, IfErr, MatchResult, map, true};
+ghost use Rattle.std.specs.Prelude.{◌≡◌, ◌≢◌, ℕ, ◌+◌, ◌*◌, ◌<◌, ◌≤◌, List, [], ◌∷◌, length, Some, IfErr, MatchResult, map, true};
 ghost use Rattle.xh_core.specs.Calls.{given_tests};
 ghost use Rattle.xh_core.specs.Refusing.{Tested};
 ghost use Rattle.xh_core.specs.Statuses.{is_over};
 ghost use Rattle.xh_model.specs.Keyed.{Among, Distinct, value_at};
-ghost use Rattle.xh_model.specs.declared.limits.TheConstants.{DIRECTIONS};
+ghost use Rattle.xh_model.specs.declared.limits.TheConstants.{DIRECTIONS, MAX_BLOCKS};
 ghost use Rattle.xh_place.specs.Bodies.{IsEndAt, kind_of};
 ghost use Rattle.xh_place.specs.Endpoints.{AreGot, Takes, record_of};
 ghost use Rattle.xh_place.specs.Ends.{EndDoes, toward_in};
@@ -31,6 +31,7 @@ use arrayvec::ArrayVec;
 use std::sync::Wait;
 use xh_channel::{Message, Refused as Untaken, Spot};
 use xh_core::{Block, Header, Refused, is_twice};
+use xh_model::limits::MAX_BLOCKS;
 use xh_records::Records;
 
 impl Place {
@@ -49,8 +50,8 @@ impl Place {
         ensures given { Gives self.old.place.state e tag blocks.now self.old self.new result }
     {
         let spot = self.test_end(desk.records, e)?;
-        let given = self.test_given(desk.records, e, blocks)?;
-        self.send(desk, e, spot, tag, &given)
+        self.test_given(desk.records, e, blocks)?;
+        self.send(desk, e, spot, tag, blocks)
     }
 
     // Whether each of the records is one of the list.
@@ -68,27 +69,21 @@ impl Place {
     }
 
     // The tests of a give on its blocks.
-    fn test_given(
-        &mut self,
-        records: &Records<Body>,
-        e: u16,
-        blocks: &[u16],
-    ) -> Result<ArrayVec<u16, 8>, Refused>
+    fn test_given(&mut self, records: &Records<Body>, e: u16, blocks: &[u16]) -> Result<(), Refused>
         requires own { IsPlaceOf records.now self.old.place }
         ensures same { Stays self.old self.new }
-        ensures tested { Tested (given_tests (is_listed self.old.place.blocks) e blocks.now) result (λ given. given.items ≡ blocks.now) }
+        ensures tested { Tested (given_tests (is_listed self.old.place.blocks) e blocks.now) result (λ _. length blocks.now ≤ MAX_BLOCKS) }
     {
-        let mut given = ArrayVec::new();
-        let Ok(()) = given.try_extend_from_slice(blocks) else {
+        if blocks.len() > MAX_BLOCKS {
             return Err(Refused::TooMany);
-        };
+        }
         if !self.lists_all(records, blocks) {
             return Err(Refused::NotOwned);
         }
         if blocks.contains(&e) || is_twice(blocks) {
             return Err(Refused::Twice);
         }
-        Ok(given)
+        Ok(())
     }
 
     // Passes the blocks of a give, puts the message, and settles the list with what came back.
@@ -98,15 +93,16 @@ impl Place {
         e: u16,
         spot: Spot,
         tag: u16,
-        given: &ArrayVec<u16, 8>,
+        given: &[u16],
     ) -> Result<u64, Refused>
         requires own { IsPlaceOf desk.now.records.now self.old.place }
         requires running { self.old.place.state ≡ status.Running }
         requires end { (x : Item) × (value_at e self.old.place.blocks ≡ Some x) × IsEndAt x.content spot.channel spot.side }
-        requires given { Distinct given.now.items × (Among given.now.items e → ⊥) }
-        requires listed { (r : ℕ) → Among given.now.items r → (x : Item) × (value_at r self.old.place.blocks ≡ Some x) }
+        requires few { length given.now ≤ MAX_BLOCKS }
+        requires given { Distinct given.now × (Among given.now e → ⊥) }
+        requires listed { (r : ℕ) → Among given.now r → (x : Item) × (value_at r self.old.place.blocks ≡ Some x) }
         ensures place { IsSamePlace self.old self.new }
-        ensures sent { IsSent e tag given.now.items self.old self.new result }
+        ensures sent { IsSent e tag given.now self.old self.new result }
     {
         let Given {
             put,
@@ -114,7 +110,7 @@ impl Place {
             lost,
             gained,
         } = give_all(desk, &mut self.seat, e, spot, tag, given);
-        settle(&mut self.list, given.as_slice(), back.as_slice());
+        settle(&mut self.list, given, back.as_slice());
         self.total = self.total - lost + gained;
         answer(put, back)
     }
@@ -187,10 +183,10 @@ impl Place {
         ensures got { Comes self.old self.new direction r result }
     {
         match accept_block(records, &mut self.seat, r, direction) {
-            Ok(Header { len, .. }) => {
+            Ok(Header { len, kind }) => {
                 self.list.push_reserved(r);
                 self.total += u64::from(len);
-                Got::Here(Block { rec: r, len })
+                Got::Here(Block { rec: r, len }, kind)
             }
             Err(word) => Got::Missing { rec: r, word },
         }

@@ -33,13 +33,13 @@ fn received(message: Taken) -> Received
 
 impl Machine for Serial {
     ghost use Rattle.xh_serial.specs.Machine.{Machine as Held};
-    ghost use Rattle.xh_session.specs.Machines.{Does};
+    ghost use Rattle.xh_session.specs.Machines.{DoesCommand};
 
     ghost State = { Held };
 
     ghost state = { λ m. m };
 
-    ghost did = { Does };
+    ghost did = { DoesCommand };
 
     fn spawn(&mut self) -> Told<u16> {
         Serial::spawn(self)

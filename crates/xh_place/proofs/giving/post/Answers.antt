@@ -1,15 +1,11 @@
 use Rattle.xh_place.proofs.Common.{rules, ◌≡◌, ◌≢◌, ℕ, sym, ap, ◌∙◌, subst, Some, Among, value_at, put_at, put_other, IsLotOf, with_lots, passed_on, LotDoes}
-use Rattle.xh_place.proofs.Common.{Acts, acts_lent, shown, EndpointOf, Puts, lens}
+use Rattle.xh_place.proofs.Common.{acts_lent, shown, EndpointOf, Puts}
 use Rattle.xh_place.proofs.Ends.{end_kind, still_block}
 use Rattle.xh_place.proofs.giving.post.Goals.{After-pass_all-bytes}
 use Rattle.xh_place.proofs.giving.post.Goals as goal
 
-pub pass_all-bytes-requires-clause-held : goal.pass_all-bytes-requires-clause-held
-pass_all-bytes-requires-clause-held g c = λ r a.
-    c.requires.held r (subst (λ l. Among l r) c.as_slice.ensures.value a)
-
 there : (g : _) (c : After-pass_all-bytes g) → value_at c.args.e c.pass_all-bytes.new.seat.lots ≡ Some c.requires.end.0
-there g c = c.pass_all-bytes.ensures.others c.args.e (λ a. c.requires.distinct.1 (subst (λ l. Among l c.args.e) c.as_slice.ensures.value a)) ∙ c.requires.end.1
+there g c = c.pass_all-bytes.ensures.others c.args.e c.requires.distinct.1 ∙ c.requires.end.1
 
 pub put_at-put-requires-clause-held : goal.put_at-put-requires-clause-held
 put_at-put-requires-clause-held g c =
@@ -20,14 +16,13 @@ put_at-put-requires-clause-held g c =
 pub returns : goal.returns
 returns g c =
     let q = c.requires.end in let seat = c.args.seat.now in let gone = c.pass_all-bytes.new.seat in let pass = c.pass_all-bytes.ensures in
-    let value = c.as_slice.ensures.value in
+    let given = c.args.given.now in
     let at = there g (goal.at.returns g c).After-pass_all-bytes in
     let k = c.put_at-put.ensures q.0 at in let m = k.0 in
-    let does : EndpointOf → EndpointOf → Type 0 = Puts c.args.tag c.args.given.now c.put_at-put.result in
-    let apart : (r : ℕ) → Among c.args.given.now.items r → c.args.e ≢ r = λ r a s. c.requires.distinct.1 (subst (λ z. Among c.args.given.now.items z) (sym s) a) in record {
+    let does : EndpointOf → EndpointOf → Type 0 = Puts c.args.tag (record { items = given }) c.put_at-put.result in
+    let apart : (r : ℕ) → Among given r → c.args.e ≢ r = λ r a s. c.requires.distinct.1 (subst (λ z. Among given z) (sym s) a) in record {
       direction = search rules;
-      passed = acts_lent (passed_on seat.process c.away-direction.result (shown seat.lots c.args.given.now.items)) gone.lots c.put_at-put.new.seat.lots seat gone c.put_at-put.new.seat
-          (subst (λ rs. Acts (passed_on seat.process c.away-direction.result (shown seat.lots rs)) gone.lots seat gone) value pass.passed)
+      passed = acts_lent (passed_on seat.process c.away-direction.result (shown seat.lots given)) gone.lots c.put_at-put.new.seat.lots seat gone c.put_at-put.new.seat pass.passed
           (k.2 ∙ ap (with_lots gone) (sym (ap (λ h. h.lots) k.2)));
       end = λ l at'. let two : Some q.0 ≡ Some l = sym q.1 ∙ at' in let one : q.0 ≡ l = cc in (
         m,
@@ -35,8 +30,7 @@ returns g c =
         subst (λ z. LotDoes does z m) one k.1,
         still_block does q.2 k.1,
       );
-      gone = λ r a. ap (λ h. value_at r h.lots) k.2 ∙ put_other r c.args.e m gone.lots (apart r a) ∙ pass.gone r (subst (λ l. Among l r) (sym value) a);
-      others = λ r n o. ap (λ h. value_at r h.lots) k.2 ∙ put_other r c.args.e m gone.lots o
-          ∙ pass.others r (λ a. n (subst (λ l. Among l r) value a));
-      bytes = pass.bytes ∙ (λ i. lens (value i) (λ r. value_at r seat.lots));
+      gone = λ r a. ap (λ h. value_at r h.lots) k.2 ∙ put_other r c.args.e m gone.lots (apart r a) ∙ pass.gone r a;
+      others = λ r n o. ap (λ h. value_at r h.lots) k.2 ∙ put_other r c.args.e m gone.lots o ∙ pass.others r n;
+      bytes = pass.bytes;
     }

@@ -1,5 +1,5 @@
 use Rattle.xh_place.proofs.Common.{arith, ◌≡◌, ℕ, ◌-◌, ◌/◌, ◌<◌, ◌≤◌, [], ◌∷◌, ◌++◌, length, refl, sym, ap, ◌∙◌, subst, inl, Some, slice_get, bare, Acts, Did, Held, IsRecord, IsCut, Body, Data}
-use Rattle.xh_place.proofs.Common.{claim_acts, full_now, none_claimed, one_gone, starts_more, starts_same, vacate_acts}
+use Rattle.xh_place.proofs.Common.{claim_acts, full_now, none_claimed, one_gone, vacate_acts}
 use Rattle.xh_place.proofs.Words.{claimed as claims}
 use Rattle.std.proofs.Math.Nat.{le_of_lt}
 use Rattle.xh_place.proofs.Parted.{Cutting, cutting, is_cut}
@@ -76,18 +76,3 @@ returns-clause-cut g c = λ l here.
 
 pub returns-in_default-clause-why : goal.returns-in_default-clause-why
 returns-in_default-clause-why g c = inl (refl, full_now (c.args.r / 256) 0 _ c.args.seat.now c.claim.new.seat c.in_default.ensures.seen c.in_default.ensures.missed)
-
-pub returns-in_default-rest_of-clause-seen : goal.returns-in_default-rest_of-clause-seen
-returns-in_default-rest_of-clause-seen g c =
-    let seat = c.args.seat.now in let mid = c.claim.new.seat in let lent = c.rest_of.new.seat in
-    let k = claimed g (goal.at.returns-in_default-rest_of-clause-seen g c).In-Ok in
-    starts_more seat.front (c.in-Ok.ensures.claimed.1.1.0, c.in-Ok.ensures.claimed.1.1.1)
-    (starts_more mid.front (starts_same (ap (λ h. h.front) c.rest_of.ensures.same)) (c.vacate.ensures.vacated.2.0.1.0, c.vacate.ensures.vacated.2.0.1.1))
-
-pub returns-clause-seen : goal.returns-clause-seen
-returns-clause-seen g c =
-    let h = c.requires.held in let t = c.in-Ok.ensures.claimed in
-    let seat = c.args.seat.now in let mid = c.claim.new.seat in let lent = c.rest_of.new.seat in
-    let at = goal.at.returns-clause-seen g c in let k = claimed g at.In-Ok in let j = read g at.After-rest_of k in
-    starts_more seat.front (t.1.1.0, t.1.1.1)
-    (starts_more mid.front (starts_same (ap (λ z. z.front) c.rest_of.ensures.same)) (starts_same (ap (λ z. z.front) (c.part.ensures.parted h.0 t.0 j.head j.tail).3)))

@@ -22,7 +22,7 @@ returns g c =
     let kept : t.id ≡ (get_or ts i d).id = search rules in let ids : ids_of (set ts i t) ≡ ids_of ts = ids_set ts i d t inside kept in
     let done : (l : LotOf Body) → value_at c.args.r c.args.seat.now.lots ≡ Some l
     → (c.with_lot.new.seat ≡ with_lots c.args.seat.now (put c.args.r (record l { len = 0; body = Nothing }) c.args.seat.now.lots))
-    × (t ≡ record (get_or ts i d) { back = (get_or ts i d).back + l.len }) × (c.with_lot.result ≡ l.len) = search rules in record {
+    × (t ≡ record (get_or ts i d) { back = (get_or ts i d).back + l.len }) × (c.with_lot.result ≡ l.len) × (c.with_lot.new.f.3.now ≡ l.body) = search rules in record {
       same = search rules;
-      emptied = λ l at. ((done l at).0, gave_set ts i l.len d t inside (done l at).1 ∙ ap (λ a. gave a l.len ts) c.from.ensures, (done l at).2);
+      emptied = λ l at. ((done l at).0, gave_set ts i l.len d t inside (done l at).1 ∙ ap (λ a. gave a l.len ts) c.from.ensures, (done l at).2, (let kept : c.with_lot.new.f.3.now ≡ l.body = (done l at).3 in search rules));
     }

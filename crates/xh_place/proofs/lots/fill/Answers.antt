@@ -24,6 +24,7 @@ returns g c =
     → (c.with_lot.new.seat ≡ with_lots c.args.seat.now (put c.args.r l c.args.seat.now.lots)) × (t ≡ get_or ts i d)) = search rules in record {
       same = search rules;
       seat = search rules;
+      buffer = search rules;
       taken = on_ok_weaker c.with_lot.result (λ e. took_set ts i c.args.n d t inside e ∙ ap (λ a. took a c.args.n ts) c.from.ensures) done;
       refused = on_err_weaker c.with_lot.result (λ f. (unmoved c.args.seat.now c.with_lot.new.seat c.args.r h.0 h.1 (f h.0 h.1).0, ap (set ts i) (f h.0 h.1).1 ∙ set-get_or ts i d)) undone;
       why = search rules;

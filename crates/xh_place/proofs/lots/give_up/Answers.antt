@@ -21,5 +21,5 @@ returns g c =
     let less = ap (λ z. without r z.lots) t ∙ put_without r none seat.lots in record {
       same = search rules;
       seat = subst (λ (z : ℕ × List (ℕ × LotOf _)). Acts (vacated z.0 r) z.1 seat last) (λ i. (ap (λ z. z.process) t i, less i)) all;
-      back = λ l at. ((c.empty-len.ensures.emptied l at).1, (c.empty-len.ensures.emptied l at).2);
+      back = λ l at. let e = c.empty-len.ensures.emptied l at in (e.1, e.2, e.3);
     }

@@ -14,7 +14,7 @@ held_at f xs i p n x at same is within count =
 pub unreachable-requires : goal.unreachable-requires
 unreachable-requires c =
     let l = c.loop-line in
-    let b = c.args.names.now in
+    let b = c.args.processes.now in
     let line = c.line-item.result in
     let held = held_at into_iter_items l.parts.items c.from-part.result (part_of b line) c.part_of.result c.index_mut.result.now c.from-part.ensures c.part_of.ensures.is
     c.index_mut.ensures.value c.part_of.ensures.within (omega (arith, l.invariant.count, l.parts.ok)) in
@@ -25,7 +25,7 @@ unreachable-requires c =
 pub loop-line-preserved : goal.loop-line-preserved
 loop-line-preserved c =
     let l = c.loop-line in
-    let b = c.args.names.now in
+    let b = c.args.processes.now in
     let lines = c.args.lines.now in
     let line = c.line-item.result in
     let p = part_of b line in

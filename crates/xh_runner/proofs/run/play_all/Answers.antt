@@ -1,8 +1,8 @@
-use Rattle.xh_runner.proofs.Common.{Bindings, DoesLine, LAST, PlaceIsDone, Plays, ap, arith, into_iter_items, length, length-map, map, part, subst, sym, world_of, ◌++◌, ◌∙◌, ◌∷◌, ◌≡◌, []}
+use Rattle.xh_runner.proofs.Common.{Bindings, DoesLine, PlaceIsDone, Plays, ap, arith, into_iter_items, length, length-map, map, part, subst, sym, world_of, ◌∙◌, ◌≡◌}
 use Rattle.xh_runner.proofs.Plays.{plays_length, zips_count}
 use Rattle.xh_runner.proofs.Wholes.{all_enough, all_played, behind_count, same_head}
 use Rattle.xh_runner.specs.Plays.{PlayAll, began}
-use Rattle.xh_runner.specs.inner.Jobs.{AreEnough, AreTold}
+use Rattle.xh_runner.specs.inner.Tasks.{AreEnough, AreTold}
 use Rattle.xh_runner.proofs.run.play_all.Goals as goal
 
 pub answers_of-requires : goal.answers_of-requires
@@ -16,10 +16,10 @@ answers_of-requires g c =
     let parts = c.in_ok-machines.parts in
     let count : length dones ≡ 32 = omega (arith, zips_count (PlaceIsDone state did ready lines) 0 c.args.machines.items dones c.in_ok-dones.ensures, c.args.machines.ok, c.requires.count) in
     let enough = all_enough state did lines ready c.args.machines.items c.in_ok-first.first.items lasts dones c.in_ok-dones.ensures count
-    (plays_length (DoesLine did) _ _ _ _ c.in_ok-first.ensures ∙ ap (λ ls. length ls) (same_head c.in_ok-names.names ready.names lines))
-    (plays_length (DoesLine did) _ _ _ _ c.in_ok-last.ensures ∙ ap (λ b. length (part b LAST lines)) c.in_ok-ready.ensures) in record {
+    (plays_length (DoesLine did) _ _ _ _ c.in_ok-first.ensures ∙ ap (λ ls. length ls) (same_head c.new.result ready.names.processes lines))
+    (plays_length (DoesLine did) _ _ _ _ c.in_ok-last.ensures) in record {
       count = omega (arith, ap (λ l. length l) c.in_ok-machines.ensures.parts, length-map parts.items (λ p. into_iter_items p), parts.ok, behind_count dones lasts, count);
-      enough = subst (λ b. AreEnough b lines (map into_iter_items parts.items)) (sym c.in_ok-ready.ensures) (subst (AreEnough ready.names lines) (sym c.in_ok-machines.ensures.parts) enough);
+      enough = subst (AreEnough ready.names.processes lines) (sym c.in_ok-machines.ensures.parts) enough;
     }
 
 pub returns-clause-played : goal.returns-clause-played
@@ -39,10 +39,8 @@ returns-clause-played g c =
     let old = state c.args.head.now.machine in
     let count : length dones ≡ 32 = omega (arith, zips_count (PlaceIsDone state did ready lines) 0 olds dones c.in_ok-dones.ensures, c.args.machines.ok, c.requires.count) in
     let began_is : first ≡ began old contracts = ap (λ (b : Bindings). record first { names = b }) c.requires.names in
-    let head = subst (λ w. Plays (DoesLine did) w (part ready.names 0 lines) firsts ready) began_is
-    (subst (λ ls. Plays (DoesLine did) first ls firsts ready) (same_head c.in_ok-names.names ready.names lines) c.in_ok-first.ensures) in
-    let rest = subst (λ b. Plays (DoesLine did) ready (part b LAST lines) lasts end) c.in_ok-ready.ensures c.in_ok-last.ensures in
-    let told = subst (λ b. AreTold b lines answers (firsts ∷ (map (λ done. done.replies.items) dones ++ lasts ∷ []))) c.in_ok-ready.ensures
-    (subst (AreTold c.in_ok-ready.ready lines answers) c.in_ok-machines.ensures.parts c.in_ok-answers.ensures.told) in
+    let head = subst (λ w. Plays (DoesLine did) w (part ready.names.processes 0 lines) firsts ready) began_is
+    (subst (λ ls. Plays (DoesLine did) first ls firsts ready) (same_head c.new.result ready.names.processes lines) c.in_ok-first.ensures) in
+    let told = subst (AreTold ready.names.processes lines answers) c.in_ok-machines.ensures.parts c.in_ok-answers.ensures.told in
     subst (λ ms. PlayAll did contracts lines answers old (map state olds) end.machine (map state ms)) (sym c.in_ok-machines.ensures.machines)
-    (all_played state did lines ready contracts answers old end olds firsts lasts dones count head c.in_ok-dones.ensures rest told)
+    (all_played state did lines ready contracts answers old end olds firsts lasts dones count head c.in_ok-dones.ensures c.in_ok-last.ensures told)

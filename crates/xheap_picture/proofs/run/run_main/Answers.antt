@@ -1,4 +1,4 @@
-use Rattle.std.proofs.Common.{inl, subst}
+use Rattle.std.proofs.Common.{inl, inr, refl, subst}
 use Rattle.xh_command_line.specs.Status.{status_of}
 use Rattle.xh_session.specs.Ends.{EndsWith}
 use Rattle.xheap_picture.specs.Drawn.{IsDrawn}
@@ -8,4 +8,7 @@ pub returns-in-Ok : goal.returns-in-Ok
 returns-in-Ok g c =
     let options = c.in-Ok.options in
     let told = c.in-Ok.ensures.asked in
-    inl (options.config, told.0, subst (λ out. EndsWith g.R.Read.remaining g.W.Write.contents IsDrawn status_of options.config c.args.reader.now c.run.new.reader out c.run.new.out c.run.result) told.1 c.run.ensures)
+    inl (options, told.0, subst (λ out. EndsWith g.R.Read.remaining g.W.Write.contents IsDrawn status_of options.config c.args.reader.now c.run.new.reader out c.run.new.out c.run.result) told.1 c.run.ensures)
+
+pub returns-in-Err : goal.returns-in-Err
+returns-in-Err g c = inr (refl, c.in-Err.ensures.unasked)

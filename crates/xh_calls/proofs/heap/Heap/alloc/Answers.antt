@@ -1,4 +1,4 @@
-use Rattle.xh_calls.proofs.Common.{alloc_tests, ap, arith, length, places, refl, rules, start, status_at, stays_itself, sym, ◌≡◌, ◌≤◌}
+use Rattle.xh_calls.proofs.Common.{[], alloc_tests, ap, arith, length, places, refl, rules, start, status_at, stays_itself, sym, ◌≡◌, ◌≤◌}
 use Rattle.xh_calls.proofs.Asking.{allocated, asks}
 use Rattle.xh_core.specs.Space.{rounded}
 use Rattle.xh_records.specs.declared.shape.Shape.{Shape}
@@ -17,11 +17,12 @@ returns-in_err-check_number-clause-made g c =
 
 pub returns-clause-made : goal.returns-clause-made
 returns-clause-made g c =
-    allocated c.args.n c.args.arena c.args.place.now c.alloc-answer.new.self c.alloc-answer.result (sym c.in_ok-check_number.ensures.latest) (ap (λ (s : Shape). length s.names) c.requires.0.1) refl
+    allocated c.args.n [] c.args.arena c.args.place.now c.alloc-answer.new.self c.alloc-answer.result (sym c.in_ok-check_number.ensures.latest) (ap (λ (s : Shape). length s.names) c.requires.0.1) refl
     (λ a n e h. (h.0, h.1.0, h.2, h.3)) c.alloc-answer.ensures.made
 
 pub returns-clause-refused : goal.returns-clause-refused
 returns-clause-refused g c =
-    let left = c.alloc-answer.new.desk.vaults.now in let ended : c.end.new.seen ≡ left.front = search (rules, places) in
-    rw ended (rw (sym c.new-lent.ensures) (asks g.N.Names.parts c.args.arena (rounded c.args.n) c.new-lent.result.front left.front _ _ _ _ _ _ _ c.alloc-answer.result (λ why h. h)
-    c.alloc-answer.ensures.made.why))
+    let parts = g.N.Names.parts in let e = c.alloc-answer.ensures in let begun = c.new-lent.result in let left = c.alloc-answer.new.desk.vaults.now in
+    let ended : c.end.new.seen ≡ left.front = search (rules, places) in
+    let asked = asks parts c.args.arena (rounded c.args.n) begun.front left.front (left ≡ begun) (λ e. ap (λ l. l.front) e) _ _ _ _ _ _ _ c.alloc-answer.result (λ why h. h) e.untouched e.made.why in
+    rw ended (rw (sym c.new-lent.ensures) asked)

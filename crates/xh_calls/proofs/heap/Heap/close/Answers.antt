@@ -1,6 +1,5 @@
 use Rattle.xh_calls.proofs.Common.{Closes, HasGivenBack, Status, end_tests, found, none_back, places, refl, rules, start, status_at, stays_itself, subst, sym}
-use Rattle.xh_calls.proofs.Moved.{lent_back, undone, undone_itself}
-use Rattle.xh_calls.specs.Tallies.{StayUndone}
+use Rattle.xh_calls.proofs.Moved.{lent_back}
 use Rattle.xh_calls.proofs.Started.{stopped_first}
 use Rattle.xh_calls.proofs.heap.Heap.close.Goals as goal
 
@@ -20,11 +19,3 @@ returns-clause-closed g c =
       subst (λ (s : Status). Closes s c.args.e d.0 c.args.place.now c.close_end-answer.new.self c.close_end-answer.result) (sym c.in_ok-check_number.ensures.latest) d.1,
       lent_back (HasGivenBack d.0) c.as_mut_slice-tallies.ensures.value (search (rules, places)) d.2,
     )
-
-pub returns-in_err-check_number-clause-untouched : goal.returns-in_err-check_number-clause-untouched
-returns-in_err-check_number-clause-untouched g c = undone_itself c.from_residual.result c.args.till.now.tallies.items
-
-pub returns-clause-untouched : goal.returns-clause-untouched
-returns-clause-untouched g c =
-    let e = c.close_end-answer.ensures in let result = c.close_end-answer.result in
-    lent_back (StayUndone result) c.as_mut_slice-tallies.ensures.value (search (rules, places)) (undone _ _ result e.closed.1 (λ h. (e.closed.0, _, h.3)) e.untouched)

@@ -1,5 +1,5 @@
 use Rattle.xh_calls.proofs.Common.{AreBlocks, HasLow, None, PlaceOf, [], did_starts, first_refusal, inl, inr, none_back, refl, start, status_at, stays_itself, subst, sym, ◌≡◌}
-use Rattle.xh_calls.proofs.Wiring.{came_some, closes_again}
+use Rattle.xh_calls.proofs.Wiring.{closes_again}
 use Rattle.xh_calls.proofs.heap.Heap.close_again.Goals as goal
 
 pub returns-in-Err-clause-closed : goal.returns-in-Err-clause-closed
@@ -15,15 +15,6 @@ returns-then-has_low-clause-closed g c =
     (subst (λ (z : PlaceOf). AreBlocks z.blocks) same c.blocks-blocks.ensures.blocks)
     (subst (λ (z : PlaceOf). HasLow c.args.wired.now.channel c.args.wired.now.low.rec z) same (c.has_low.ensures.yes c.if-has_low.true)) c.close-closed.ensures.closed in
     (from, c.has_low.ensures.same, c.close-closed.ensures.same.0.3, d.0, d.1, d.2)
-
-pub returns-then-has_low-clause-untouched : goal.returns-then-has_low-clause-untouched
-returns-then-has_low-clause-untouched g c =
-    let from = c.has_low.new.place in let same = sym c.has_low.ensures.same.0 in
-    let d = closes_again c.args.p c.args.wired.now.low.rec c.args.wired.now.channel c.args.till.now.tallies.items c.close-closed.new.till.tallies.items from c.close-closed.new.place
-    c.close-closed.result (subst (λ (z : PlaceOf). first_refusal (start (status_at c.args.p z)) ≡ None) same c.in_default.ensures.0)
-    (subst (λ (z : PlaceOf). AreBlocks z.blocks) same c.blocks-blocks.ensures.blocks)
-    (subst (λ (z : PlaceOf). HasLow c.args.wired.now.channel c.args.wired.now.low.rec z) same (c.has_low.ensures.yes c.if-has_low.true)) c.close-closed.ensures.closed in
-    came_some d.0 _ _ d.2 d.3
 
 pub returns-else-has_low-clause-closed : goal.returns-else-has_low-clause-closed
 returns-else-has_low-clause-closed g c =

@@ -1,4 +1,5 @@
-use Rattle.xh_calls.proofs.Common.{MAX_RECORDS, MatchResult, OnOk, data_tests, found, gave, length, places, rules, start, status_at, stays_itself, subst, ◌/◌, ◌<◌, ◌≡◌}
+use Rattle.std.proofs.lemmas.Result.{MatchResult-weaker}
+use Rattle.xh_calls.proofs.Common.{MAX_RECORDS, MatchResult, OnOk, ap, data_tests, found, gave, length, places, rules, start, status_at, stays_itself, subst, ◌/◌, ◌<◌, ◌∙◌, ◌≡◌}
 use Rattle.xh_records.specs.declared.shape.Shape.{Shape}
 use Rattle.xh_calls.proofs.Moved.{lent_back}
 use Rattle.xh_calls.proofs.Started.{refused_tested}
@@ -18,3 +19,8 @@ pub returns-clause-tallies : goal.returns-clause-tallies
 returns-clause-tallies g c =
     lent_back (λ x y. MatchResult c.free-answer.result (λ n. y ≡ gave (c.args.r / MAX_RECORDS) n x) (λ _. y ≡ x)) c.as_mut_slice-tallies.ensures.value (search (rules, places))
     c.free-answer.ensures.tallies
+
+pub returns-clause-untouched : goal.returns-clause-untouched
+returns-clause-untouched g c =
+    let begun = c.new-lent in let left = c.free-answer.new.desk.vaults.now in let ended : c.end.new.seen ≡ left.front = search (rules, places) in
+    MatchResult-weaker c.free-answer.result c.free-answer.ensures.untouched (λ n h. tt) (λ why h. ended ∙ ap (λ l. l.front) h ∙ begun.ensures)

@@ -1,4 +1,5 @@
-use Rattle.xh_calls.proofs.Common.{MAX_RECORDS, Splits, Status, arith, found, length, rules, split_tests, start, status_at, stays_itself, subst, sym, ◌/◌, ◌≤◌}
+use Rattle.std.proofs.lemmas.Result.{MatchResult-weaker}
+use Rattle.xh_calls.proofs.Common.{MAX_RECORDS, Splits, Status, ap, arith, found, length, places, rules, split_tests, start, status_at, stays_itself, subst, sym, ◌/◌, ◌∙◌, ◌≡◌, ◌≤◌}
 use Rattle.xh_calls.proofs.Started.{stopped_first, unclaimed}
 use Rattle.xh_calls.proofs.heap.Heap.split.Goals as goal
 
@@ -14,3 +15,8 @@ returns-in_err-check_number-clause-cut g c =
 pub returns-clause-cut : goal.returns-clause-cut
 returns-clause-cut g c =
     subst (λ (s : Status). Splits s c.args.r c.args.k c.args.place.now c.split-answer.new.self c.split-answer.result) (sym c.in_ok-check_number.ensures.latest) c.split-answer.ensures.cut
+
+pub returns-clause-untouched : goal.returns-clause-untouched
+returns-clause-untouched g c =
+    let begun = c.new-lent in let left = c.split-answer.new.desk.vaults.now in let ended : c.end.new.seen ≡ left.front = search (rules, places) in
+    MatchResult-weaker c.split-answer.result c.split-answer.ensures.untouched (λ ends h. tt) (λ why h. ended ∙ ap (λ l. l.front) h ∙ begun.ensures)

@@ -1,6 +1,5 @@
 use Rattle.xh_calls.proofs.Common.{HasGivenBack, Status, Stops, none_back, places, refl, rules, stays_itself, subst, sym}
-use Rattle.xh_calls.proofs.Moved.{lent_back, undone, undone_itself}
-use Rattle.xh_calls.specs.Tallies.{StayUndone}
+use Rattle.xh_calls.proofs.Moved.{lent_back}
 use Rattle.xh_calls.proofs.heap.Heap.stop.Goals as goal
 
 pub returns-in_err-check_number-clause-stopped : goal.returns-in_err-check_number-clause-stopped
@@ -13,11 +12,3 @@ returns-clause-stopped g c =
       subst (λ (s : Status). Stops s c.args.budget d.0 c.args.place.now c.stop-answer.new.self c.stop-answer.result) (sym c.in_ok-check_number.ensures.latest) d.1,
       lent_back (HasGivenBack d.0) c.as_mut_slice-tallies.ensures.value (search (rules, places)) d.2,
     )
-
-pub returns-in_err-check_number-clause-untouched : goal.returns-in_err-check_number-clause-untouched
-returns-in_err-check_number-clause-untouched g c = undone_itself c.from_residual.result c.args.till.now.tallies.items
-
-pub returns-clause-untouched : goal.returns-clause-untouched
-returns-clause-untouched g c =
-    let e = c.stop-answer.ensures in let result = c.stop-answer.result in
-    lent_back (StayUndone result) c.as_mut_slice-tallies.ensures.value (search (rules, places)) (undone _ _ result e.stopped.1 (λ h. (e.stopped.0, _, h.3)) e.untouched)

@@ -1,4 +1,5 @@
-use Rattle.xh_kernel.proofs.Common.{Close, back_of, ◌-◌}
+use Rattle.xh_kernel.proofs.Back.{back_of}
+use Rattle.xh_kernel.proofs.Common.{Close, ◌-◌}
 use Rattle.xh_kernel.proofs.kernel.Kernel.close.Given as goal
 
 abbrev pub ghost-note : goal.ghost-note

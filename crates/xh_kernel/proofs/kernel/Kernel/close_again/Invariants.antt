@@ -1,4 +1,5 @@
-use Rattle.xh_kernel.proofs.Common.{CloseAgain, back_of, ◌-◌}
+use Rattle.xh_kernel.proofs.Back.{back_of}
+use Rattle.xh_kernel.proofs.Common.{CloseAgain, ◌-◌}
 use Rattle.xh_kernel.proofs.kernel.Kernel.close_again.Given as goal
 
 abbrev pub ghost-note : goal.ghost-note

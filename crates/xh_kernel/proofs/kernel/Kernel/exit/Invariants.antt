@@ -1,4 +1,5 @@
-use Rattle.xh_kernel.proofs.Common.{Stop, back_of, ◌-◌}
+use Rattle.xh_kernel.proofs.Back.{back_of}
+use Rattle.xh_kernel.proofs.Common.{Stop, ◌-◌}
 use Rattle.xh_kernel.proofs.kernel.Kernel.exit.Given as goal
 
 abbrev pub ghost-note : goal.ghost-note

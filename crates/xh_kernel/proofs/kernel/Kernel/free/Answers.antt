@@ -3,5 +3,6 @@ use Rattle.xh_kernel.proofs.kernel.Kernel.free.Goals as goal
 
 pub returns : goal.returns
 returns g c =
-    let moved = given _ _ g.N.Names.parts.records.shape.names c.account.view_is refl refl (search rules) c.free-answer.ensures.arena c.free-answer.ensures.tallies in
+    let e = c.free-answer.ensures in let names = g.N.Names.parts.records.shape.names in
+    let moved = given _ _ _ (λ n. n) _ names c.account.view_is refl refl (search rules) e.arena e.tallies e.untouched (refl, refl) in
     ((search rules, moved), c.note.ensures.step _ (search rules))

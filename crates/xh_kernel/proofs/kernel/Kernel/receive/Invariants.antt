@@ -1,4 +1,5 @@
-use Rattle.xh_kernel.proofs.Common.{Receive, back_of, ◌-◌}
+use Rattle.xh_kernel.proofs.Back.{back_of}
+use Rattle.xh_kernel.proofs.Common.{Receive, ◌-◌}
 use Rattle.xh_kernel.proofs.kernel.Kernel.receive.Given as goal
 
 abbrev pub ghost-note : goal.ghost-note

@@ -1,5 +1,18 @@
-use Rattle.xh_kernel.proofs.Calling.{rules}
+use Rattle.std.proofs.lemmas.Result.{MatchResult-weaker}
+use Rattle.xh_kernel.proofs.Calling.{ap, rules}
+use Rattle.xh_kernel.proofs.Common.{AccountOf, FrontOf, VaultOf, ◌∙◌}
 use Rattle.xh_kernel.proofs.kernel.Kernel.split.Goals as goal
 
 pub returns : goal.returns
-returns g c = ((search rules, search rules), c.note.ensures.step _ (search rules))
+returns g c =
+    let view = c.account.view_is in (
+      (
+        search rules,
+        MatchResult-weaker c.split-answer.result c.split-answer.ensures.untouched (λ ends h. (search rules, search rules)) (λ why h. (
+          (search rules, search rules),
+          ap (λ (f : FrontOf VaultOf). f.number) h ∙ ap (λ (a : AccountOf). a.signs) view,
+          ap (λ (f : FrontOf VaultOf). f.fronts) h ∙ ap (λ (a : AccountOf). a.vaults) view,
+        )),
+      ),
+      c.note.ensures.step _ (search rules),
+    )

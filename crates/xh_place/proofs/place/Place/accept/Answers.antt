@@ -23,7 +23,7 @@ returns-in-Ok-clause-got c =
     c.push_reserved.ensures.items c.push_reserved.ensures.capacity (c.from.ensures ∙ ap (λ z. z.len) t.4) in (
       refl,
       item_of t.0,
-      sym (ap (λ z. z.len) t.4),
+      sym t.4,
       (both.1 old (placed c.self.view_is), place_did seat c.self.view_is last (λ p. accepted_on p c.args.direction ((c.args.r, item_of t.0) ∷ [])) t.2.1),
       block_whole t.3,
       place_arrived seat c.self.view_is last c.args.r c.args.direction (item_of t.0) t.5,

@@ -1,6 +1,8 @@
 use Rattle.xh_place.proofs.Common.{refl, arith, ◌≡◌, ℕ, ◌+◌, ◌/◌, ◌<◌, length, sym, ap, ◌∙◌, subst, Distinct, keys, without, HasGivenBack, Item, option_map, header_of, total_of, gave, tallied, found}
-use Rattle.xh_place.proofs.Common.{total_without, enough, list_distinct, lost, place_did, placed, vacated}
+use Rattle.xh_place.proofs.Common.{total_without, enough, list_distinct, lost, place_did, placed, vacated, block_whole}
 use Rattle.xh_core.specs.Headers.{len_in}
+use Rattle.xh_place.specs.Bodies.{content_of}
+use Rattle.xh_place.specs.Places.{IsWhole}
 use Rattle.xh_place.proofs.Swept.{gave_some}
 use Rattle.xh_place.proofs.place.Place.give_up.Goals as goal
 
@@ -49,3 +51,8 @@ returns-clause-back g c =
     let is : c.give_up-len.new.desk.tallies.now ≡ gave (c.args.r / 256) n ts =
     (c.give_up-len.ensures.back f.lot f.held).0 ∙ ap (λ k. gave (c.args.r / 256) k ts) (sym (c.give_up-len.ensures.back f.lot f.held).1) in
     (is, subst (λ l. HasGivenBack n ts l) (sym is) (gave_some (c.args.r / 256) n ts (tallied ts (c.args.r / 256) c.requires.at.1.1 refl (returns-clause-arena g c))))
+
+pub returns-clause-body : goal.returns-clause-body
+returns-clause-body g c = λ x at.
+    let f = found c.self.invariant (placed c.self.view_is) c.args.r at in
+    (ap content_of (c.give_up-len.ensures.back f.lot f.held).2 ∙ ap (λ z. z.content) f.same, subst IsWhole f.same (block_whole f.block))

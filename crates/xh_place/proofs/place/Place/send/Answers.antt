@@ -13,17 +13,17 @@ use Rattle.xh_place.proofs.place.Place.send.Goals as goal
 went : (g : _) (c : After-settle g) → let f = found c.self.invariant (placed c.self.view_is) c.args.e c.requires.end.1 in IsNow
     c.self.inside.seat c.self.inside.list.items c.self.inside.state c.give_all-put.new.seat c.settle.new.list.items c.settle.new.list.capacity
     (c.self.inside.total - c.give_all-put.result.lost + c.give_all-put.result.gained)
-    (λ (xs : List (ℕ × Item)). settled c.args.given.now.items (λ r. item_at (value_at r c.give_all-put.new.seat.lots)) (put c.args.e (item_of (c.give_all-put.ensures.end f.lot f.held).0) xs))
+    (λ (xs : List (ℕ × Item)). settled c.args.given.now (λ r. item_at (value_at r c.give_all-put.new.seat.lots)) (put c.args.e (item_of (c.give_all-put.ensures.end f.lot f.held).0) xs))
 went g c =
     let seat = c.self.inside.seat in let rs = c.self.inside.list.items in let total : ℕ = c.self.inside.total in let v = placed c.self.view_is in let a = c.give_all-put.ensures in
-    let given = c.args.given.now.items in let last = c.give_all-put.new.seat in let lost : ℕ = c.give_all-put.result.lost in let gained : ℕ = c.give_all-put.result.gained in
+    let given = c.args.given.now in let last = c.give_all-put.new.seat in let lost : ℕ = c.give_all-put.result.lost in let gained : ℕ = c.give_all-put.result.gained in
     let f = found c.self.invariant v c.args.e c.requires.end.1 in let held = all_found c.self.invariant v given c.requires.listed in let end = a.end f.lot f.held in
     let less : lost ≤ total = passed_below rs given c.self.invariant c.requires.given.0 held a.lost in
     let sum : total - lost + gained + lens given (λ r. value_at r seat.lots) ≡ total + lens given (λ r. value_at r last.lots) = omega (arith, a.lost, a.gained, less) in
     let run : is_running c.self.inside.state ≡ true = ap (λ p. is_running p.state) v ∙ ap is_running c.requires.running in
     given_place rs (over_running c.self.inside.state run)
     c.self.invariant f.held end.3 (ap (λ z. z.len) end.2.becomes) end.1 c.requires.given.0 c.requires.given.1 held a.moved.0 a.others a.back
-    (c.settle.ensures.items ∙ (λ i. less_all (c.as_slice.ensures.value i) (λ r. list_any (λ q. q == r) (c.as_slice-2.ensures.value i)) rs)) c.settle.ensures.room sum
+    (c.settle.ensures.items ∙ (λ i. less_all given (λ r. list_any (λ q. q == r) (c.as_slice.ensures.value i)) rs)) c.settle.ensures.room sum
 
 pub give_all-put-requires-clause-end : goal.give_all-put-requires-clause-end
 give_all-put-requires-clause-end g c =
@@ -31,15 +31,15 @@ give_all-put-requires-clause-end g c =
     (t.lot, t.held, t.block, subst (λ x. IsEndAt x.content c.args.spot.channel c.args.spot.side) (sym t.same) c.requires.end.2)
 
 pub give_all-put-requires-clause-held : goal.give_all-put-requires-clause-held
-give_all-put-requires-clause-held g c = all_found c.self.invariant (placed c.self.view_is) c.args.given.now.items c.requires.listed
+give_all-put-requires-clause-held g c = all_found c.self.invariant (placed c.self.view_is) c.args.given.now c.requires.listed
 
 pub settle-requires : goal.settle-requires
 settle-requires g c = list_distinct c.self.inside.list.items c.self.invariant
 
 pub overflow_sub-self : goal.overflow_sub-self
 overflow_sub-self g c =
-    passed_below c.self.inside.list.items c.args.given.now.items c.self.invariant c.requires.given.0
-    (all_found c.self.invariant (placed c.self.view_is) c.args.given.now.items c.requires.listed) c.give_all-put.ensures.lost
+    passed_below c.self.inside.list.items c.args.given.now c.self.invariant c.requires.given.0
+    (all_found c.self.invariant (placed c.self.view_is) c.args.given.now c.requires.listed) c.give_all-put.ensures.lost
 
 pub overflow_add-self : goal.overflow_add-self
 overflow_add-self g c = omega (arith, total_bound (went g (goal.at.overflow_add-self g c).After-settle).0)
@@ -49,11 +49,11 @@ invariant_of-self g c = (went g (goal.at.invariant_of-self g c).After-settle).0
 
 pub returns-clause-sent : goal.returns-clause-sent
 returns-clause-sent g c =
-    let old = c.args.self.now in let seat = c.self.inside.seat in let given = c.args.given.now.items in let last = c.give_all-put.new.seat in let back = c.give_all-put.result.back.items in
+    let old = c.args.self.now in let seat = c.self.inside.seat in let given = c.args.given.now in let last = c.give_all-put.new.seat in let back = c.give_all-put.result.back.items in
     let a = c.give_all-put.ensures in let v = placed c.self.view_is in let f = found c.self.invariant v c.args.e c.requires.end.1 in let end = a.end f.lot f.held in
     let d : ℕ = away (item_in (value_at c.args.e seat.lots)).content in let ways : ℕ = away_in (value_at c.args.e old.place.blocks) in
     let way : d ≡ ways = ap (λ o. away (item_in o).content) f.held ∙ ap (λ x. away x.content) f.same ∙ sym (ap away_in c.requires.end.1) in
-    let does : EndpointOf → EndpointOf → Type 0 = Puts c.args.tag c.args.given.now c.give_all-put.result.put in
+    let does : EndpointOf → EndpointOf → Type 0 = Puts c.args.tag (record { items = given }) c.give_all-put.result.put in
     let now : Item = end_block end.2.after in let xs' : List (ℕ × Item) = put c.args.e now old.place.blocks in let came : List (ℕ × Item) = shown last.lots back in
     let blocks : settled given (λ r. item_at (value_at r last.lots)) (put c.args.e (item_of end.0) old.place.blocks) ≡ settled given (λ r. value_at r came) xs' =
     ap (λ x. settled given (λ r. item_at (value_at r last.lots)) (put c.args.e x old.place.blocks)) (item_now does f.block end.2)

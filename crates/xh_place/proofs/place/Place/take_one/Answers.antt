@@ -6,7 +6,7 @@ use Rattle.xh_place.specs.Seen.{PlaceSeen, bears, brings}
 use Rattle.xh_place.proofs.place.Place.take_one.Goals as goal
 
 came : (old new : PlaceSeen) (d r : ℕ) (got : Got) → Comes old new d r got → (ys : List (ℕ × Item)) × Gains d ys old new × AreGot (IsSeen old new) d ys (got ∷ [])
-came old new d r (Here b) h = (
+came old new d r (Here b kind) h = (
   (b.rec, h.1) ∷ [],
   subst (λ (q : ℕ). Gains d ((q, h.1) ∷ []) old new) (sym h.0) h.3,
   (h.1, [], refl, h.2, subst (λ (q : ℕ). IsSeen old new q (brings d h.1)) (sym h.0) h.5, refl),

@@ -7,5 +7,5 @@ returns g c = record {
   after = c.put.new.end;
   was = search rules;
   becomes = refl;
-  did = subst (λ b. Puts c.captures.tag b c.put.result c.in-End.end c.put.new.end) c.copy_of.ensures (record { answer = c.put.ensures.put; kept = c.put.ensures.kept });
+  did = subst (λ b. Puts c.captures.tag b c.put.result c.in-End.end c.put.new.end) c.listed.ensures (record { answer = c.put.ensures.put; kept = c.put.ensures.kept });
 }

@@ -1,0 +1,30 @@
+use Rattle.xh_calls.proofs.Common.{alloc_tests, ap, arith, length, places, refl, rules, start, status_at, stays_itself, sym, ◌≡◌, ◌≤◌}
+use Rattle.xh_calls.proofs.Asking.{allocated, asks}
+use Rattle.xh_core.specs.Space.{rounded}
+use Rattle.xh_records.specs.declared.shape.Shape.{Shape}
+use Rattle.xh_calls.proofs.Started.{stopped_first, unclaimed}
+use Rattle.xh_calls.proofs.heap.Heap.put.Goals as goal
+
+pub returns-in_err-check_number-clause-made : goal.returns-in_err-check_number-clause-made
+returns-in_err-check_number-clause-made g c =
+    let place = c.args.place.now in let n = length c.args.bytes.now.items in
+    let tests = alloc_tests c.args.arena (length g.N.Names.parts.records.shape.names) n g.N.Names.parts.size in
+    let none = unclaimed c.from_residual.result (λ cs. length cs ≤ 1) c.args.arena place (omega arith) in record {
+      made = search rules;
+      block = search rules;
+      refused = none;
+      why = stopped_first (start (status_at c.args.p place.place)) tests c.from_residual.result _ c.in_err-check_number.ensures.other.0 (search rules) _ (stays_itself place);
+    }
+
+pub returns-clause-made : goal.returns-clause-made
+returns-clause-made g c =
+    let xs = c.args.bytes.now.items in
+    allocated (length xs) xs c.args.arena c.args.place.now c.put-answer.new.self c.put-answer.result (sym c.in_ok-check_number.ensures.latest) (ap (λ (s : Shape). length s.names) c.requires.0.1) refl
+    (λ a n e h. (h.0, h.1.0, h.2, h.3)) c.put-answer.ensures.made
+
+pub returns-clause-refused : goal.returns-clause-refused
+returns-clause-refused g c =
+    let parts = g.N.Names.parts in let e = c.put-answer.ensures in let begun = c.new-lent.result in let left = c.put-answer.new.desk.vaults.now in
+    let n = length c.args.bytes.now.items in let ended : c.end.new.seen ≡ left.front = search (rules, places) in
+    let asked = asks parts c.args.arena (rounded n) begun.front left.front (left ≡ begun) (λ e. ap (λ l. l.front) e) _ _ _ _ _ _ _ c.put-answer.result (λ why h. h) e.untouched e.made.why in
+    rw ended (rw (sym c.new-lent.ensures) asked)

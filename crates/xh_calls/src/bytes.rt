@@ -1,0 +1,89 @@
+//! A buffer becomes a block, and a block a buffer.
+ghost use Rattle.std.specs.Prelude.{◌≡◌, ◌/◌, ◌<◌, [], IfErr, MatchResult, OnErr, OnOk, length};
+ghost use Rattle.xh_core.specs.Space.{rounded};
+ghost use Rattle.xh_model.specs.declared.limits.TheConstants.{MAX_RECORDS};
+ghost use Rattle.xh_place.specs.Calls.{GivesUp, HasBytes, Makes};
+ghost use Rattle.xh_place.specs.Seen.{IsSamePlace};
+ghost use Rattle.xh_place.specs.Tallies.{gave, took};
+ghost use Rattle.xh_calls.specs.Calls.{space_of};
+ghost use Rattle.xh_calls.specs.Places.{IsServed, IsTillOf, status_at};
+ghost use Rattle.xh_calls.specs.Vaults.{AsksVault};
+
+use crate::arenas::Lent;
+use crate::heap::{Heap, Till};
+use crate::names::Names;
+use crate::starting::check_number;
+use std::sync::Wait;
+use xh_core::{Block, Refused};
+use xh_place::{Desk, Gate, Place};
+
+impl<N: Names> Heap<N> {
+    /// As `Kernel::put`, by whoever has the place's lock.
+    pub fn put<R: Wait, G: Gate>(
+        &self,
+        rt: &R,
+        place: &mut Place,
+        p: u16,
+        bytes: &mut Vec<u8>,
+        arena: u32,
+        till: &mut Till,
+        gate: &G,
+    ) -> Result<Block, Refused>
+        requires { IsServed N.parts place.old.place till.old }
+        ensures same { IsSamePlace place.old place.new × IsTillOf N.parts till.new }
+        ensures tallies { MatchResult result (λ b. till.new.tallies.items ≡ took arena b.len till.old.tallies.items) (λ _. till.new.tallies.items ≡ till.old.tallies.items) }
+        ensures made { Makes (status_at p place.old.place) (space_of N.parts) (length bytes.old.items) bytes.old.items arena place.old place.new result }
+        ensures bytes { MatchResult result (λ _. bytes.new.items ≡ []) (λ _. bytes.new.items ≡ bytes.old.items) }
+        ensures refused { IfErr result (AsksVault N.parts arena (rounded (length bytes.old.items)) till.old.seen till.new.seen) }
+    {
+        check_number(place, p)?;
+        let tallies = till.tallies.as_mut_slice();
+        let mut lent = Lent::new(rt, &self.arenas, &mut till.seen);
+        let mut desk = Desk {
+            rt,
+            records: &self.records,
+            channels: &self.channels,
+            vaults: &mut lent,
+            tallies,
+            gate,
+        };
+        let answer = place.put(&mut desk, bytes, arena);
+        lent.end(&mut till.seen);
+        self.tell_in_vain(rt, arena, &answer);
+        answer
+    }
+
+    /// As `Kernel::into_bytes`, by whoever has the place's lock.
+    pub fn into_bytes<R: Wait, G: Gate>(
+        &self,
+        rt: &R,
+        place: &mut Place,
+        p: u16,
+        r: u16,
+        till: &mut Till,
+        gate: &G,
+    ) -> Result<Vec<u8>, Refused>
+        requires { IsServed N.parts place.old.place till.old }
+        ensures same { IsSamePlace place.old place.new × IsTillOf N.parts till.new }
+        ensures tallies { MatchResult result (λ v. till.new.tallies.items ≡ gave (r / MAX_RECORDS) (length v.items) till.old.tallies.items) (λ _. till.new.tallies.items ≡ till.old.tallies.items) }
+        ensures arena { OnOk result (r / MAX_RECORDS < length N.parts.records.shape.names) }
+        ensures untouched { OnErr result (till.new.seen ≡ till.old.seen) }
+        ensures freed { GivesUp (λ v. HasBytes r place.old.place v.items) (status_at p place.old.place) r place.old place.new result }
+    {
+        check_number(place, p)?;
+        let tallies = till.tallies.as_mut_slice();
+        let mut lent = Lent::new(rt, &self.arenas, &mut till.seen);
+        let mut desk = Desk {
+            rt,
+            records: &self.records,
+            channels: &self.channels,
+            vaults: &mut lent,
+            tallies,
+            gate,
+        };
+        let answer = place.into_bytes(&mut desk, r);
+        lent.end(&mut till.seen);
+        self.tell_freed(rt, r, &answer);
+        answer
+    }
+}

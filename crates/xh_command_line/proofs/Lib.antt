@@ -1,0 +1,3 @@
+mod Commands
+mod Numbers
+mod Ways

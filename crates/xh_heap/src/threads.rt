@@ -1,0 +1,175 @@
+//! The threads of a run: one for each worker, and those that they have started.
+ghost use Rattle.std.specs.Prelude.{◌≡◌, IfOk, vec_len};
+
+use crate::handle::Handle;
+use crate::host::Host;
+use crate::starter::{Desk, Starter};
+use std::alloc::{AllocError, Global};
+use std::array;
+use std::sync::{Mutex, Wait};
+use std::thread::{self, JoinHandle, Scope, Threads};
+use std::time::Clock;
+use xh_kernel::Names;
+use xh_model::limits::MAX_WORKERS;
+
+// The threads of tasks, each in its slot until it was joined. Each has a handle until it has told that it ends, so there is
+// always a slot left.
+type Slots = [Option<JoinHandle<()>>; MAX_WORKERS as usize];
+
+/// What the threads of a run share.
+#[derive(Drop)]
+pub(crate) struct Crew<'s, 'k, N: Names, R: Wait, J: Host> {
+    rt: &'s R,
+    job: &'s J,
+    pub(crate) plan: J::Plan,
+    starter: Starter<Handle<'s, 'k, N, R>, J::Task>,
+    // Whether each worker has a thread: none works before.
+    started: Mutex<bool>,
+}
+
+impl<'s, 'k: 's, N: Names + Send + Sync, R: Threads + Wait + Clock + Sync, J: Host + Sync> Crew<
+    's,
+    'k,
+    N,
+    R,
+    J,
+> {
+    pub(crate) fn new(rt: &'s R, job: &'s J, plan: J::Plan) -> Self {
+        Crew {
+            rt,
+            job,
+            plan,
+            starter: Starter::new(),
+            started: Mutex::new(false),
+        }
+    }
+
+    // The work of a process; None where another has no thread.
+    fn work(&self, index: usize, own: Handle<'s, 'k, N, R>) -> Option<J::Answer> {
+        let mut own = own;
+        if !*self.started.lock(self.rt) {
+            return None;
+        }
+        let answer = self.job.work(&self.plan, index, &mut own, &self.starter);
+        self.starter.ask(self.rt, Desk::Ended(None));
+        Some(answer)
+    }
+
+    // A task, by the process that was started for it, whose thread is in this slot.
+    fn serve(&self, slot: usize, child: Handle<'s, 'k, N, R>, task: J::Task) {
+        let mut own = child;
+        self.job.serve(&self.plan, task, &mut own, &self.starter);
+        self.starter.ask(self.rt, Desk::Ended(Some(slot)));
+    }
+
+    // Starts a thread for each process, and lets them work if all were started.
+    fn start_all<'w, W>(
+        &'w self,
+        scope: &Scope<'w, W>,
+        all: Vec<Handle<'s, 'k, N, R>>,
+        threads: &mut Vec<JoinHandle<Option<J::Answer>>>,
+    ) -> Result<(), AllocError> {
+        let mut all_started = self.started.lock(self.rt);
+        for own in all {
+            let index = threads.len();
+            threads.push(scope.spawn(move || self.work(index, own))?)?;
+        }
+        *all_started = true;
+        Ok(())
+    }
+
+    // Starts a thread for a task, in a slot: whether there is one.
+    fn start<'w, W>(
+        &'w self,
+        scope: &Scope<'w, W>,
+        slots: &mut Slots,
+        child: Handle<'s, 'k, N, R>,
+        task: J::Task,
+    ) -> bool {
+        let Some(slot) = slots.iter().position(|thread| thread.is_none()) else {
+            return false;
+        };
+        let started = scope.spawn(move || self.serve(slot, child, task));
+        slots[slot] = started.ok();
+        slots[slot].is_some()
+    }
+
+    // Starts a thread for each task that is asked for, and joins it when it ends, until all workers and tasks have ended.
+    fn attend<'w, W>(&'w self, scope: &Scope<'w, W>, workers: usize) {
+        let mut slots: Slots = array::from_fn(|_slot| None);
+        let mut working = workers;
+        for _ in self.rt.forever() {
+            if working == 0 && slots.iter().all(|thread| thread.is_none()) {
+                return;
+            }
+            match self.starter.next(self.rt) {
+                Desk::Start(child, task) => {
+                    let is_started = self.start(scope, &mut slots, child, task);
+                    self.starter.answer(self.rt, Desk::Started(is_started));
+                }
+                Desk::Ended(Some(slot)) => {
+                    self.starter.answer(self.rt, Desk::Free);
+                    if let Some(thread) = slots.get_mut(slot).and_then(|thread| thread.take()) {
+                        thread.join(self.rt);
+                    }
+                }
+                _ => {
+                    self.starter.answer(self.rt, Desk::Free);
+                    working = working.saturating_sub(1);
+                }
+            }
+        }
+    }
+
+    // The work of all processes, each in a thread of the scope. None works where one can't be started.
+    fn work_in<'w, W>(
+        &'w self,
+        scope: &Scope<'w, W>,
+        alloc: Global,
+        all: Vec<Handle<'s, 'k, N, R>>,
+    ) -> Result<Vec<J::Answer>, AllocError>
+        ensures { IfOk result (λ v. vec_len v ≡ vec_len all.entry) }
+    {
+        let count = all.len();
+        let answers = Vec::with_capacity(alloc, count)?;
+        let mut threads = Vec::with_capacity(alloc, count)?;
+        if self.start_all(scope, all, &mut threads).is_ok() {
+            self.attend(scope, count);
+        }
+        let answers = join_all(self.rt, answers, threads);
+        if answers.len() == count {
+            Ok(answers)
+        } else {
+            Err(AllocError)
+        }
+    }
+
+    /// What the workers answer, by index. All threads have ended then.
+    pub(crate) fn work_all(
+        &self,
+        alloc: Global,
+        all: Vec<Handle<'s, 'k, N, R>>,
+    ) -> Result<Vec<J::Answer>, AllocError>
+        ensures { IfOk result (λ v. vec_len v ≡ vec_len all.entry) }
+    {
+        thread::scope(
+            thread::scope_env(),
+            self.rt,
+            |scope| -> Result<Vec<J::Answer>, AllocError> { self.work_in(scope, alloc, all) },
+        )
+    }
+}
+
+// What those of the workers answered that worked. There is room for it.
+fn join_all<R: Threads, A: Drop>(
+    rt: &R,
+    mut answers: Vec<A>,
+    threads: Vec<JoinHandle<Option<A>>>,
+) -> Vec<A> {
+    for thread in threads {
+        if let Some(answer) = thread.join(rt) {
+            let _ = answers.push(answer);
+        }
+    }
+    answers
+}

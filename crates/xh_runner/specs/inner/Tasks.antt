@@ -1,0 +1,76 @@
+-- What the workers of a run on threads do, and where their replies go.
+use Rattle.std.specs.Prelude.{◌≡◌, ◌<◌, ◌≤◌, suc, if◌then◌else◌, Bool, ℕ, List, [], get_or, length, MatchResult, None, Result}
+use Rattle.xh_model.specs.declared.limits.TheConstants.{PLACES}
+use Rattle.xh_runner.specs.declared.crew.Hand.{Hand}
+use Rattle.xh_runner.specs.declared.crew.Hand.TheVariants.{Works, Idle}
+use Rattle.xh_runner.specs.declared.task.Done.{Done}
+use Rattle.xh_runner.specs.declared.task.Task.{Task}
+use Rattle.xh_runner.specs.declared.task.Crew.{Crew}
+use Rattle.xh_runner.specs.Plays.{AllZipFrom, began_at, DoesAmong, LAST, MayStop, Plays, names_renewed, other_of, part, replies_in}
+use Rattle.xh_script.specs.declared.command.Line.{Line}
+use Rattle.xh_script.specs.declared.fault.Fault.{Fault}
+use Rattle.xh_script.specs.declared.replies.Answered.{Answered}
+use Rattle.xh_script.specs.declared.replies.Reply.{Reply}
+use Rattle.xh_session.specs.declared.bindings.Bindings.{Bindings}
+use Rattle.xh_session.specs.Bindings.{process_at, renumbered}
+use Rattle.xh_session.specs.declared.bindings.Processes.{Processes}
+use Rattle.xh_session.specs.Plans.{World, world_of}
+use Rattle.xh_session.specs.Questions.{Question, AnswerTo}
+
+-- ---- a task
+
+-- by which number the other process goes by then that the line's command names, where one of the lines starts it again
+abbrev pub Hears : List Line → Line → Bindings → Bindings → Type 0
+Hears lines line old new = (n : ℕ) × (new ≡ (if names_renewed lines line then record old { processes = renumbered old.processes (other_of line) n } else old))
+
+module _ {M S : Type 0} (state : M → S) where
+  -- the task of the place k on this machine, from what the head left on
+  pub record IsTask {G : Type 0} (crew : Crew G) (k : ℕ) (machine : M) (task : Task M) : Type 0 where
+    pub world : world_of state task.session ≡ began_at crew.ready.now crew.contracts.now k (state machine)
+    pub place : task.place ≡ k
+
+  module _ (did : S → (q : Question) → AnswerTo q → S → Type 0) where
+    -- a machine played the lines of the place k from a world on, by what the names stood for after the head
+    abbrev pub Left : Processes → List Line → ℕ → World S → Done M → Type 0
+    Left s lines k old done = (end : World S) × Plays (DoesAmong did lines) old (part s (suc k) lines) done.replies.items end × (end.machine ≡ state done.machine)
+
+    -- what is left of the place k, by the machine
+    abbrev pub PlaceIsDone : World S → List Line → ℕ → M → Done M → Type 0
+    PlaceIsDone ready lines k machine done = Left ready.names.processes lines k (began_at ready.names ready.contracts k (state machine)) done
+
+-- ---- a thread
+
+module _ {M G S : Type 0} (state : M → S) where
+  -- what was started for the place k and its machine
+  abbrev pub IsHand : Crew G → ℕ → M → Hand M G → Type 0
+  IsHand crew k machine (Works handle) = (handle.promise.crew.now ≡ crew) × IsTask state crew k machine handle.promise.task.value
+  IsHand crew k machine (Idle idle) = (idle ≡ machine) × (k < PLACES) × (process_at crew.ready.now.processes k ≡ None)
+
+  module _ (did : S → (q : Question) → AnswerTo q → S → Type 0) where
+    -- a task is done
+    abbrev pub IsTaskDone : Crew G → Task M → Done M → Type 0
+    IsTaskDone crew task done = Left state did crew.ready.now.processes crew.lines.now task.place (world_of state task.session) done
+
+    -- or its worker was stopped
+    abbrev pub LeavesTask : Bool → Crew G → Task M → Result (Done M) Fault → Type 0
+    LeavesTask always crew task left = MatchResult left (IsTaskDone crew task) (MayStop always)
+
+    -- whatever was started, that is done
+    abbrev pub Joins : Hand M G → Done M → Type 0
+    Joins (Works handle) done = IsTaskDone handle.promise.crew.now handle.promise.task.value done
+    Joins (Idle machine) done = (done.machine ≡ machine) × (done.replies.items ≡ [])
+
+    -- what is left of the places
+    abbrev pub ArePlacesDone : Crew G → List M → List (Done M) → Type 0
+    ArePlacesDone crew = AllZipFrom (λ k machine done. Left state did crew.ready.now.processes crew.lines.now k
+        (began_at crew.ready.now crew.contracts.now k (state machine)) done) 0
+
+-- ---- the replies
+
+-- each part has a reply to each of its lines
+abbrev pub AreEnough : Processes → List Line → List (List Reply) → Type 0
+AreEnough s lines parts = (k : ℕ) → k ≤ LAST → length (get_or parts k []) ≡ length (part s k lines)
+
+-- the answers tell these replies of the parts
+abbrev pub AreTold : Processes → List Line → List Answered → List (List Reply) → Type 0
+AreTold s lines answers parts = (k : ℕ) → k ≤ LAST → replies_in s k lines answers ≡ get_or parts k []
