@@ -222,15 +222,12 @@ def rt_ci(least: int) -> None:
 
 def does_not_compile(crate: str, error: str, old: str, new: str) -> None:
     """With the one line in place of the other the crate's program is no edit that can be tried:
-    the compiler says this error of it."""
-    edit = pathlib.Path(f"crates/{crate}/must-fail/compiled.edit")
-    edit.parent.mkdir(exist_ok=True)
-    edit.write_text(f"file: src/main.rt\nold: {old}\nnew: {new}\n", encoding="utf-8")
-    try:
-        words = ["rt", "must-fail", crate]
-        said = subprocess.run(words, stdin=subprocess.DEVNULL, stdout=PIPE, check=False).stdout
-    finally:
-        edit.unlink()
+    the compiler says this error of it. The edit stands in a copy, which goes with the room."""
+    copy = ROOM / "compiled"
+    shutil.copytree(TOP, copy, ignore=shutil.ignore_patterns("out", ".git"))
+    edit = f"file: src/main.rt\nold: {old}\nnew: {new}\n"
+    write(copy / f"crates/{crate}/must-fail/compiled.edit", edit)
+    said = run(["env", "-C", copy, "rt", "must-fail", crate], limit=LONG).out
     claim(b"BAD EDIT" in said and error.encode() in said, said.decode(errors="replace"))
 
 
