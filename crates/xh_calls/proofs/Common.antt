@@ -20,8 +20,8 @@ pub use Rattle.xh_core.specs.{declared.status.Status.Status}
 pub use Rattle.xh_history.specs.{Histories.FrontOf, Histories.HasSeen, Histories.History, Histories.PenOf, Histories.at, Histories.fresh_pen}
 pub use Rattle.xh_model.specs.{declared.limits.TheConstants.END_BYTES, declared.limits.TheConstants.MAX_RECORDS}
 pub use Rattle.xh_place.proofs.{Counted.none_back, Events.stays_itself, Seeing.did_starts}
-pub use Rattle.xh_place.specs.{Bodies.Content, Bodies.IsEndAt, Bodies.bytes, Bodies.endpoint, Bodies.fits_in, Bodies.kind_of, Calls.Allocates, Calls.Closes, Calls.IsLack, Calls.IsUntouched}
-pub use Rattle.xh_place.specs.{Calls.SpaceOf, Calls.Splits, Calls.Stops, Ending.HasGivenBack, Ending.IsClosed, Ending.last, Ends.Accepts, Ends.EndDoes, Ends.RefusedOr, Messages.Gives}
-pub use Rattle.xh_place.specs.{Messages.IsUntaken, Messages.TakesAt, Messages.is_listed, Places.alone, Places.AreBlocks, Places.Fits, Places.IsPlaceOf, Places.Item, Places.PlaceOf}
-pub use Rattle.xh_place.specs.{Places.found, Places.header_of, Places.with_blocks, Seen.Becomes, Seen.FindsFull, Seen.IsSamePlace, Seen.IsSeen, Seen.PlaceSeen, Seen.Stays}
+pub use Rattle.xh_place.specs.{Bodies.Content, Bodies.IsEndAt, Bodies.bytes, Bodies.endpoint, Bodies.fits_in, Bodies.kind_of, Calls.Allocates, Calls.Closes, Calls.IsLack}
+pub use Rattle.xh_place.specs.{Calls.SpaceOf, Calls.Splits, Calls.Stops, Ending.HasGivenBack, Ending.IsClosed, Ends.Accepts, Ends.EndDoes, Ends.RefusedOr, Messages.Gives}
+pub use Rattle.xh_place.specs.{Messages.IsUntaken, Messages.TakesAt, Places.alone, Places.AreBlocks, Places.Fits, Places.IsPlaceOf, Places.Item, Places.PlaceOf}
+pub use Rattle.xh_place.specs.{Places.found, Places.header_of, Seen.Becomes, Seen.FindsFull, Seen.IsSamePlace, Seen.IsSeen, Seen.PlaceSeen, Seen.Stays}
 pub use Rattle.xh_place.specs.{Tallies.gave, Tallies.ids_of, declared.body.Body.Body}

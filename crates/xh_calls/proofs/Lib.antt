@@ -4,6 +4,7 @@ pub mod Lists
 pub mod Fresh
 pub mod Made
 pub mod Moved
+pub mod Tallied
 pub mod Vaulted
 pub mod Asking
 pub mod Started

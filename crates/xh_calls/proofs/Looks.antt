@@ -9,7 +9,7 @@ use Rattle.xh_core.specs.Headers.{has_end}
 use Rattle.xh_core.specs.declared.header.Header.{Header}
 use Rattle.xh_model.proofs.Keyed.{put_at, put_other}
 use Rattle.xh_place.specs.declared.got.Taken.{Taken}
-use Rattle.xh_place.specs.Endpoints.{Takes as EndTakes}
+use Rattle.xh_channel.specs.Calls.{EndpointTakes}
 use Rattle.xh_calls.specs.declared.several.Answered.{Answered}
 
 -- ---- endpoints stay
@@ -33,14 +33,14 @@ module _ (p e : ℕ) (s t : PlaceSeen) (why : Refused) (runs : first_refusal (st
   untaken = (rw (first_later (start (status_at p s.place)) (end_tests (found s.place e)) runs ∙ end_passes (found s.place e) end) at takes).0
 
   pub ready_after : (es : List ℕ) → AreEndsOf s.place es → AreReady p t.place es
-  ready_after es h = (ap (λ (x : PlaceOf). first_refusal (start (status_at p x))) untaken.1.3 ∙ runs, all_stay e es s.place t.place (EndTakes (Err untaken.0)) untaken.1 h)
+  ready_after es h = (ap (λ (x : PlaceOf). first_refusal (start (status_at p x))) untaken.1.3 ∙ runs, all_stay e es s.place t.place (EndpointTakes (Err untaken.0)) untaken.1 h)
 
   which : (why ≡ Empty) ⊎ (why ≡ closed)
   which = go untaken.0 untaken.1 untaken.2 where
-    go : (n : NoMessage) → EndDoes e s.place t.place (EndTakes (Err n)) → why ≡ same_refusal n → (why ≡ Empty) ⊎ (why ≡ closed)
+    go : (n : NoMessage) → EndDoes e s.place t.place (EndpointTakes (Err n)) → why ≡ same_refusal n → (why ≡ Empty) ⊎ (why ≡ closed)
     go none.Empty d h = inl h
-    go (none.PeerClosed back) d h = inr (h ∙ ap (λ (xs : List ℕ). PeerClosed (record { items = xs })) d.4.answer.0)
-    go n d h = absurd d.4.answer
+    go (none.PeerClosed back) d h = inr (h ∙ ap (λ (xs : List ℕ). PeerClosed (record { items = xs })) d.4.0.0)
+    go n d h = absurd d.4.0
 
 -- ---- looks one after the other
 

@@ -1,15 +1,50 @@
 -- What a place's calls say of the tallies that they were lent.
-use Rattle.xh_calls.proofs.Common.{Accepts, Block, Err, HasGivenBack, List, Ok, PlaceSeen, ReceivesOr, Refused, Result, TallyOf, inl, inr, none_back, refl, subst, sym, ℕ, ⊎_elim, ◌≡◌}
+use Rattle.xh_calls.proofs.Common.{Accepts, Block, Err, FrontOf, HasGivenBack, History, Leaves, List, Ok, PartsOf, PlaceSeen, ReceivesOr, Refused, Result, TallyOf, VaultOf, [], ap, arith, inl, inr}
+use Rattle.xh_calls.proofs.Common.{none_back, refl, subst, sym, ℕ, ⊎_elim, ◌∙◌, ◌∷◌, ◌≡◌}
+use Rattle.xh_calls.specs.Vaults.{Entered, EntersEach}
+use Rattle.xh_place.proofs.Swept.{still}
+use Rattle.xh_place.specs.Vaults.{AsksEach, BringsBack}
+use Rattle.xh_calls.specs.Places.{GivesBack}
+use Rattle.xh_calls.specs.declared.heap.Till.{Till}
 
 -- an endpoint that came to a place, or was turned away
-module _ {from to : List TallyOf} where
-  pub received : (q r d : ℕ) (old new : PlaceSeen) (result : Result Block Refused) → Accepts q r d old new from to result
-      → (bytes : ℕ) × ReceivesOr q d r bytes old new result × HasGivenBack bytes from to
-  received q r d old new (Ok b) h = (0, (refl, (h.here.0, h.here.1, h.here.2)), none_back h.here.3)
+module _ {V : Type 0} {from to : V} (changes : V → V → ℕ → VaultOf → VaultOf → Type 0) (tallies : V → List TallyOf) where
+  pub received : (q r d : ℕ) (old new : PlaceSeen) (result : Result Block Refused) → Accepts changes tallies q r d old new from to result
+      → (bytes : ℕ) × ReceivesOr q d r bytes old new result × BringsBack changes tallies bytes from to
+  received q r d old new (Ok b) h = (0, (refl, (h.here.0, h.here.1, h.here.2)), still changes tallies from to h.here.3)
   received q r d old new (Err e) h = ⊎_elim
-      (λ s. (0, (h.away.0, inl ((s.0, refl), s.2)), none_back s.1))
+      (λ s. (0, (h.away.0, inl ((s.0, refl), s.2)), still changes tallies from to s.1))
       (λ m. (m.2.0, (h.away.0, inr (m.0, m.1, m.2.1)), m.2.2)) h.away.1
 
--- what is so of the tallies that were lent
-pub lent_back : (R : List TallyOf → List TallyOf → Type 0) {lent tallies given new : List TallyOf} → lent ≡ tallies → new ≡ given → R lent given → R tallies new
-lent_back R {lent} {tallies} {given} {new} start end h = subst (λ (z : List TallyOf). R z new) start (subst (λ (z : List TallyOf). R lent z) (sym end) h)
+-- what is entered of the calls on vaults that know what the worker has seen
+module _ {V : Type 0} (parts : PartsOf) where
+  entered_each : (arenas : List ℕ) (x y : V) (front : V → FrontOf VaultOf) → AsksEach (λ v w. Leaves parts (front v) (front w)) arenas x y → Entered arenas (front x) (front y)
+  entered_each [] x y front h = (ap (λ (v : V). (front v).number) h, ap (λ (v : V). (front v).fronts) h)
+  entered_each (a ∷ arenas) x y front h =
+      let mid : V = h.0 in let entry = h.1.2.1 in let rest = entered_each arenas mid y front h.2 in
+      let number = ap (λ (f : FrontOf VaultOf). f.number) entry.seen in let fronts = ap (λ (f : FrontOf VaultOf). f.fronts) entry.seen in (
+        rest.0 ∙ number,
+        (
+          entry.others,
+          h.1.1,
+          entry.not_its_own,
+          subst (λ (z : ℕ × List (History VaultOf)). EntersEach arenas z.0 z.1 (front y).fronts) (λ i. (number i, fronts i)) rest.1,
+        ),
+      )
+
+  -- from the till that was brought to what it is at the end
+  pub entered : (arenas : List ℕ) {f g : Till} (x y : V) (till : V → Till) → till x ≡ f → g ≡ till y → AsksEach (λ v w. Leaves parts (till v).seen (till w).seen) arenas x y
+      → Entered arenas f.seen g.seen
+  entered arenas {f} {g} x y till start end h = subst (λ (z : Till). Entered arenas z.seen g.seen) start
+      (subst (λ (z : Till). Entered arenas (till x).seen z.seen) (sym end) (entered_each arenas x y (λ v. (till v).seen) h))
+
+  pub came : {n : ℕ} {f g : Till} (x y : V) (till : V → Till) → till x ≡ f → g ≡ till y → BringsBack (λ v w. Leaves parts (till v).seen (till w).seen) (λ v. (till v).tallies.items) n x y
+      → GivesBack n f g
+  came {n} {f} {g} x y till start end h = (
+    subst (λ (z : Till). HasGivenBack n z.tallies.items g.tallies.items) start (subst (λ (z : Till). HasGivenBack n (till x).tallies.items z.tallies.items) (sym end) h.0),
+    (h.1.0, entered h.1.0 x y till start end h.1.1, h.1.2),
+  )
+
+-- nothing came back, and no arena was asked
+pub none_given : (f : Till) → GivesBack 0 f f
+none_given f = (none_back refl, ([], (refl, refl), omega arith))

@@ -13,13 +13,12 @@ use Rattle.xh_place.specs.Bodies.{IsEndAt}
 use Rattle.xh_place.specs.Ending.{IsClosed}
 use Rattle.xh_place.specs.Ends.{is_here, IsTooLate}
 use Rattle.xh_place.specs.Events.{passed_on}
-use Rattle.xh_place.specs.Places.{IsWhole, Item, PlaceOf, alone, with_blocks}
-use Rattle.xh_place.specs.Seen.{Becomes, Gains, IsElsewhere, IsSeen, PlaceSeen, SawWord, brings}
+use Rattle.xh_place.specs.Places.{IsWhole, Item, PlaceOf, alone}
+use Rattle.xh_place.specs.Seen.{Stays, Becomes, Gains, IsElsewhere, IsSeen, PlaceSeen, SawWord, brings}
 use Rattle.xh_calls.specs.declared.wired.Wired.{Wired}
 use Rattle.xh_calls.specs.Channels.{OpensChannel}
 use Rattle.xh_calls.specs.Parts.{PartsOf}
 use Rattle.xh_calls.specs.Places.{status_at}
-use Rattle.xh_place.specs.Calls.{IsUntouched}
 
 -- the block of the record is side 0 of the channel
 abbrev pub HasLow : ℕ → ℕ → PlaceOf → Type 0
@@ -35,7 +34,7 @@ toward_high channel = 2 * channel + 1
 abbrev pub OpensToward : PartsOf → ℕ → ℕ → Option (List Row) → PlaceSeen → PlaceSeen → Result Wired Refused → Type 0
 OpensToward parts p arena contract old new result = MatchResult result
     (λ w. (mid : PlaceSeen) × OpensChannel parts p arena contract old mid (Ok (w.low, w.high)) × HasLow w.channel w.low.rec mid.place
-    × Becomes (with_blocks mid.place (without w.high.rec mid.place.blocks))
+    × Becomes (record mid.place { blocks = without w.high.rec mid.place.blocks })
     (passed_on mid.place.process (toward_high w.channel) (alone w.high.rec (value_at w.high.rec mid.place.blocks))) mid new)
     (λ refused. OpensChannel parts p arena contract old new (Err refused))
 
@@ -49,7 +48,7 @@ Receives q d r old new b = (is_here old.place q ≡ true) × (b.rec ≡ r)
 -- nobody has q's place; or another word was seen than "in flight on the direction"; or q doesn't run there, and it was swept: no fewer bytes came back than it has
 abbrev pub TurnsAway : ℕ → ℕ → ℕ → PlaceSeen → PlaceSeen → ℕ → Type 0
 TurnsAway q d r old new bytes =
-    (IsUntouched old new bytes × ((old.place.state ≡ Vacant) ⊎ IsElsewhere (SawWord old new) d r))
+    ((Stays old new × (bytes ≡ 0)) × ((old.place.state ≡ Vacant) ⊎ IsElsewhere (SawWord old new) d r))
     ⊎ ((is_here old.place q ≡ false) × (old.place.state ≢ Vacant) × IsTooLate d r old new bytes)
 
 -- it was received; or turned away, and then Ended is the answer
@@ -61,5 +60,5 @@ ReceivesOr q d r bytes old new result = MatchResult result (λ b. (bytes ≡ 0) 
 -- p doesn't run any more; or has it no more; or it was closed: no fewer bytes came back than it has
 abbrev pub ClosesAgain : ℕ → ℕ → ℕ → PlaceSeen → PlaceSeen → ℕ → Type 0
 ClosesAgain p channel r old new bytes =
-    (IsUntouched old new bytes × (((refused : Refused) × (first_refusal (start (status_at p old.place)) ≡ Some refused)) ⊎ (HasLow channel r old.place → ⊥)))
+    ((Stays old new × (bytes ≡ 0)) × (((refused : Refused) × (first_refusal (start (status_at p old.place)) ≡ Some refused)) ⊎ (HasLow channel r old.place → ⊥)))
     ⊎ ((result : Result ℕ Refused) × IsClosed r old new bytes result × (END_BYTES ≤ bytes))

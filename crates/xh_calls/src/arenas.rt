@@ -4,16 +4,18 @@ ghost use Rattle.std.specs.Sync.Mutex.{mutex_guard_value};
 ghost use Rattle.atomic_table.specs.Seated.{TableId};
 ghost use Rattle.xh_model.specs.declared.limits.TheConstants.{MAX_ARENAS, MAX_BYTES, UNIT};
 ghost use Rattle.xh_calls.specs.Parts.{IsOpen, vault_names};
+ghost use Rattle.xh_calls.specs.Places.{IsTillOf};
 ghost use Rattle.xh_calls.specs.Vaults.{Tells};
 ghost use Rattle.xh_calls.specs.inner.Making.{AreFreshFrom};
 
+use crate::heap::Till;
 use crate::kept::Kept;
 use crate::names::Names;
 use crossbeam_utils::CachePadded;
 use std::alloc::{AllocError, Global};
 use std::mem;
 use std::sync::{Mutex, MutexGuard, Wait};
-use xh_arena::{Lot, Refused, Tally, Vault};
+use xh_arena::{Lot, Refused, Vault};
 use xh_core::ArenaLine;
 use xh_history::{Front, Histories, Nothing, Pen};
 use xh_place::{Body, Vaults};
@@ -114,33 +116,37 @@ impl<N: Names> Arenas<N> {
     }
 }
 
-/// It takes an arena's lock for the one call, and enters the call in the arena's history as the worker's.
+/// What the worker brings to a call. It takes an arena's lock for the one call, and enters the call in the arena's history as the worker's.
 #[derive(Drop)]
 pub(crate) struct Lent<'a, N: Names, R: Wait> {
     pub(crate) rt: &'a R,
     pub(crate) arenas: &'a Arenas<N>,
-    pub(crate) front: Front<Vault>,
-    ghost own: { front.table ≡ N.parts.vaults },
+    pub(crate) till: Till,
+    ghost own: { IsTillOf N.parts till },
 }
 
 impl<'a, N: Names, R: Wait> Lent<'a, N, R> {
-    // With what the worker has seen of the arenas, until the end of the call.
-    pub(crate) fn new(rt: &'a R, arenas: &'a Arenas<N>, seen: &mut Front<Vault>) -> Lent<'a, N, R>
-        requires { seen.old.table ≡ N.parts.vaults }
-        ensures { result.front ≡ seen.old }
+    // With what lies in the till, until the end of the call.
+    pub(crate) fn new(rt: &'a R, arenas: &'a Arenas<N>, till: &mut Till) -> Lent<'a, N, R>
+        requires { IsTillOf N.parts till.old }
+        ensures { result.till ≡ till.old }
     {
+        let blank = Till {
+            tallies: Vec::new(*till.tallies.allocator()),
+            seen: Front::blank(),
+        };
         Lent {
             rt,
             arenas,
-            front: mem::replace(seen, Front::blank()),
+            till: mem::replace(till, blank),
         }
     }
 
-    // What the worker has seen now.
-    pub(crate) fn end(self, seen: &mut Front<Vault>)
-        ensures { seen.new ≡ self.entry.front }
+    // What lies in the till now.
+    pub(crate) fn end(self, till: &mut Till)
+        ensures { (till.new ≡ self.entry.till) × IsTillOf N.parts till.new }
     {
-        *seen = self.front;
+        *till = self.till;
     }
 }
 
@@ -151,7 +157,9 @@ impl<'a, N: Names, R: Wait> Vaults for Lent<'a, N, R> {
 
     ghost extent = { λ _. N.parts.size };
 
-    ghost changes = { λ old new. Leaves N.parts old.front new.front };
+    ghost tallies = { λ l. l.till.tallies.items };
+
+    ghost changes = { λ old new. Leaves N.parts old.till.seen new.till.seen };
 
     fn arenas(&self) -> u8 {
         self.arenas.count()
@@ -162,26 +170,26 @@ impl<'a, N: Names, R: Wait> Vaults for Lent<'a, N, R> {
     }
 
     #[inline(always)]
-    fn carve(
-        &mut self,
-        arena: u8,
-        lot: &mut Lot<Body>,
-        tally: &mut Tally,
-        n: u32,
-    ) -> Result<u32, Refused> {
+    fn carve(&mut self, arena: u8, lot: &mut Lot<Body>, n: u32) -> Result<u32, Refused> {
         let mut kept = self.arenas.kept(self.rt, arena);
-        kept.carve(&self.arenas.histories, &mut self.front, lot, tally, n)
+        let Till { tallies, seen } = &mut self.till;
+        let tallies = tallies.as_mut_slice();
+        let tally = &mut tallies[usize::from(arena)];
+        kept.carve(&self.arenas.histories, seen, lot, tally, n)
     }
 
     #[inline(always)]
     fn cut(&mut self, arena: u8, head: &mut Lot<Body>, tail: &mut Lot<Body>, k: u32) {
         let mut kept = self.arenas.kept(self.rt, arena);
-        kept.cut(&self.arenas.histories, &mut self.front, head, tail, k);
+        kept.cut(&self.arenas.histories, &mut self.till.seen, head, tail, k);
     }
 
     #[inline(always)]
-    fn give_back(&mut self, arena: u8, lot: &mut Lot<Body>, tally: &mut Tally) {
+    fn give_back(&mut self, arena: u8, lot: &mut Lot<Body>) {
         let mut kept = self.arenas.kept(self.rt, arena);
-        kept.give_back(&self.arenas.histories, &mut self.front, lot, tally);
+        let Till { tallies, seen } = &mut self.till;
+        let tallies = tallies.as_mut_slice();
+        let tally = &mut tallies[usize::from(arena)];
+        kept.give_back(&self.arenas.histories, seen, lot, tally);
     }
 }

@@ -1,5 +1,5 @@
 //! The calls of a process on its data blocks.
-ghost use Rattle.std.specs.Prelude.{◌≡◌, ◌/◌, ◌<◌, IfErr, MatchResult, OnErr, OnOk, length};
+ghost use Rattle.std.specs.Prelude.{◌≡◌, ◌/◌, ◌<◌, ◌∷◌, [], IfErr, MatchResult, OnErr, OnOk, length};
 ghost use Rattle.xh_core.specs.Space.{rounded};
 ghost use Rattle.xh_model.specs.declared.limits.TheConstants.{MAX_RECORDS};
 ghost use Rattle.xh_place.specs.Places.{IsPlaceOf};
@@ -8,7 +8,7 @@ ghost use Rattle.xh_place.specs.Seen.{IsSamePlace};
 ghost use Rattle.xh_place.specs.Tallies.{gave, took};
 ghost use Rattle.xh_calls.specs.Calls.{space_of};
 ghost use Rattle.xh_calls.specs.Places.{IsServed, IsTillOf, status_at};
-ghost use Rattle.xh_calls.specs.Vaults.{AsksVault};
+ghost use Rattle.xh_calls.specs.Vaults.{AsksVault, Entered};
 
 use crate::arenas::Lent;
 use crate::heap::{Heap, Till};
@@ -18,7 +18,7 @@ use std::alloc::Global;
 use std::sync::Wait;
 use xh_core::{Block, Refused};
 use xh_model::limits::MAX_RECORDS;
-use xh_place::{Desk, Gate, Place};
+use xh_place::{Gate, Place};
 
 impl<N: Names> Heap<N> {
     /// As `Kernel::alloc`, by whoever has the place's lock.
@@ -37,21 +37,14 @@ impl<N: Names> Heap<N> {
         ensures same { IsSamePlace place.old place.new × IsTillOf N.parts till.new }
         ensures tallies { MatchResult result (λ b. till.new.tallies.items ≡ took arena b.len till.old.tallies.items) (λ _. till.new.tallies.items ≡ till.old.tallies.items) }
         ensures made { Allocates (status_at p place.old.place) (space_of N.parts) n arena place.old place.new result }
+        ensures asked { OnOk result (Entered (arena ∷ []) till.old.seen till.new.seen) }
         ensures refused { IfErr result (AsksVault N.parts arena (rounded n) till.old.seen till.new.seen) }
     {
         check_number(place, p)?;
-        let tallies = till.tallies.as_mut_slice();
-        let mut lent = Lent::new(rt, &self.arenas, &mut till.seen);
-        let mut desk = Desk {
-            rt,
-            records: &self.records,
-            channels: &self.channels,
-            vaults: &mut lent,
-            tallies,
-            gate,
-        };
+        let lent = Lent::new(rt, &self.arenas, till);
+        let mut desk = self.desk(rt, lent, gate);
         let answer = place.alloc(alloc, &mut desk, n, arena);
-        lent.end(&mut till.seen);
+        desk.vaults.end(till);
         self.tell_in_vain(rt, arena, &answer);
         answer
     }
@@ -71,21 +64,14 @@ impl<N: Names> Heap<N> {
         requires { IsServed N.parts place.old.place till.old }
         ensures same { IsSamePlace place.old place.new × IsTillOf N.parts till.new }
         ensures tallies { till.new.tallies.items ≡ till.old.tallies.items }
-        ensures untouched { OnErr result (till.new.seen ≡ till.old.seen) }
+        ensures asked { MatchResult result (λ _. Entered (r / MAX_RECORDS ∷ []) till.old.seen till.new.seen) (λ _. till.new.seen ≡ till.old.seen) }
         ensures cut { Splits (status_at p place.old.place) r k place.old place.new result }
     {
         check_number(place, p)?;
-        let mut lent = Lent::new(rt, &self.arenas, &mut till.seen);
-        let mut desk = Desk {
-            rt,
-            records: &self.records,
-            channels: &self.channels,
-            vaults: &mut lent,
-            tallies: &mut [],
-            gate,
-        };
+        let lent = Lent::new(rt, &self.arenas, till);
+        let mut desk = self.desk(rt, lent, gate);
         let answer = place.split(alloc, &mut desk, r, k);
-        lent.end(&mut till.seen);
+        desk.vaults.end(till);
         self.tell_in_vain(rt, u32::from(r / MAX_RECORDS), &answer);
         answer
     }
@@ -172,23 +158,15 @@ impl<N: Names> Heap<N> {
         requires { IsServed N.parts place.old.place till.old }
         ensures same { IsSamePlace place.old place.new × IsTillOf N.parts till.new }
         ensures tallies { MatchResult result (λ n. till.new.tallies.items ≡ gave (r / MAX_RECORDS) n till.old.tallies.items) (λ _. till.new.tallies.items ≡ till.old.tallies.items) }
-        ensures untouched { OnErr result (till.new.seen ≡ till.old.seen) }
+        ensures asked { MatchResult result (λ _. Entered (r / MAX_RECORDS ∷ []) till.old.seen till.new.seen) (λ _. till.new.seen ≡ till.old.seen) }
         ensures arena { OnOk result (r / MAX_RECORDS < length N.parts.records.shape.names) }
         ensures freed { FreesBlock (status_at p place.old.place) r place.old place.new result }
     {
         check_number(place, p)?;
-        let tallies = till.tallies.as_mut_slice();
-        let mut lent = Lent::new(rt, &self.arenas, &mut till.seen);
-        let mut desk = Desk {
-            rt,
-            records: &self.records,
-            channels: &self.channels,
-            vaults: &mut lent,
-            tallies,
-            gate,
-        };
+        let lent = Lent::new(rt, &self.arenas, till);
+        let mut desk = self.desk(rt, lent, gate);
         let answer = place.free(&mut desk, r);
-        lent.end(&mut till.seen);
+        desk.vaults.end(till);
         self.tell_freed(rt, r, &answer);
         answer
     }

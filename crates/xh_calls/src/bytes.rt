@@ -1,5 +1,5 @@
 //! A buffer becomes a block, and a block a buffer.
-ghost use Rattle.std.specs.Prelude.{◌≡◌, ◌/◌, ◌<◌, [], IfErr, MatchResult, OnErr, OnOk, length};
+ghost use Rattle.std.specs.Prelude.{◌≡◌, ◌/◌, ◌<◌, ◌∷◌, [], IfErr, MatchResult, OnOk, length};
 ghost use Rattle.xh_core.specs.Space.{rounded};
 ghost use Rattle.xh_model.specs.declared.limits.TheConstants.{MAX_RECORDS};
 ghost use Rattle.xh_place.specs.Calls.{GivesUp, HasBytes, Makes};
@@ -7,7 +7,7 @@ ghost use Rattle.xh_place.specs.Seen.{IsSamePlace};
 ghost use Rattle.xh_place.specs.Tallies.{gave, took};
 ghost use Rattle.xh_calls.specs.Calls.{space_of};
 ghost use Rattle.xh_calls.specs.Places.{IsServed, IsTillOf, status_at};
-ghost use Rattle.xh_calls.specs.Vaults.{AsksVault};
+ghost use Rattle.xh_calls.specs.Vaults.{AsksVault, Entered};
 
 use crate::arenas::Lent;
 use crate::heap::{Heap, Till};
@@ -15,7 +15,7 @@ use crate::names::Names;
 use crate::starting::check_number;
 use std::sync::Wait;
 use xh_core::{Block, Refused};
-use xh_place::{Desk, Gate, Place};
+use xh_place::{Gate, Place};
 
 impl<N: Names> Heap<N> {
     /// As `Kernel::put`, by whoever has the place's lock.
@@ -34,21 +34,14 @@ impl<N: Names> Heap<N> {
         ensures tallies { MatchResult result (λ b. till.new.tallies.items ≡ took arena b.len till.old.tallies.items) (λ _. till.new.tallies.items ≡ till.old.tallies.items) }
         ensures made { Makes (status_at p place.old.place) (space_of N.parts) (length bytes.old.items) bytes.old.items arena place.old place.new result }
         ensures bytes { MatchResult result (λ _. bytes.new.items ≡ []) (λ _. bytes.new.items ≡ bytes.old.items) }
+        ensures asked { OnOk result (Entered (arena ∷ []) till.old.seen till.new.seen) }
         ensures refused { IfErr result (AsksVault N.parts arena (rounded (length bytes.old.items)) till.old.seen till.new.seen) }
     {
         check_number(place, p)?;
-        let tallies = till.tallies.as_mut_slice();
-        let mut lent = Lent::new(rt, &self.arenas, &mut till.seen);
-        let mut desk = Desk {
-            rt,
-            records: &self.records,
-            channels: &self.channels,
-            vaults: &mut lent,
-            tallies,
-            gate,
-        };
+        let lent = Lent::new(rt, &self.arenas, till);
+        let mut desk = self.desk(rt, lent, gate);
         let answer = place.put(&mut desk, bytes, arena);
-        lent.end(&mut till.seen);
+        desk.vaults.end(till);
         self.tell_in_vain(rt, arena, &answer);
         answer
     }
@@ -67,22 +60,14 @@ impl<N: Names> Heap<N> {
         ensures same { IsSamePlace place.old place.new × IsTillOf N.parts till.new }
         ensures tallies { MatchResult result (λ v. till.new.tallies.items ≡ gave (r / MAX_RECORDS) (length v.items) till.old.tallies.items) (λ _. till.new.tallies.items ≡ till.old.tallies.items) }
         ensures arena { OnOk result (r / MAX_RECORDS < length N.parts.records.shape.names) }
-        ensures untouched { OnErr result (till.new.seen ≡ till.old.seen) }
+        ensures asked { MatchResult result (λ _. Entered (r / MAX_RECORDS ∷ []) till.old.seen till.new.seen) (λ _. till.new.seen ≡ till.old.seen) }
         ensures freed { GivesUp (λ v. HasBytes r place.old.place v.items) (status_at p place.old.place) r place.old place.new result }
     {
         check_number(place, p)?;
-        let tallies = till.tallies.as_mut_slice();
-        let mut lent = Lent::new(rt, &self.arenas, &mut till.seen);
-        let mut desk = Desk {
-            rt,
-            records: &self.records,
-            channels: &self.channels,
-            vaults: &mut lent,
-            tallies,
-            gate,
-        };
+        let lent = Lent::new(rt, &self.arenas, till);
+        let mut desk = self.desk(rt, lent, gate);
         let answer = place.into_bytes(&mut desk, r);
-        lent.end(&mut till.seen);
+        desk.vaults.end(till);
         self.tell_freed(rt, r, &answer);
         answer
     }

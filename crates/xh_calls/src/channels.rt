@@ -1,12 +1,11 @@
 //! Channels are opened, for one process or toward another.
-ghost use Rattle.std.specs.Prelude.{◌≡◌, ◌⊎◌, ℕ, ◌+◌, ◌*◌, ◌<◌, ◌++◌, Err, IfErr, IfOk, MatchResult, None, Ok, false, length, true};
+ghost use Rattle.std.specs.Prelude.{◌≡◌, ◌⊎◌, ℕ, ◌+◌, ◌*◌, ◌<◌, ◌++◌, ◌∷◌, [], Err, IfErr, IfOk, MatchResult, None, Ok, OnOk, false, length, true};
 ghost use Rattle.xh_channel.specs.Pairs.{IsPair};
 ghost use Rattle.xh_channel.specs.Endpoint.{EndpointOf};
 ghost use Rattle.xh_core.specs.declared.status.Status.TheVariants as status;
 ghost use Rattle.xh_core.specs.Calls.{arena_tests, start};
 ghost use Rattle.xh_core.specs.Refusing.{Tested, first_refusal};
 ghost use Rattle.xh_model.specs.declared.limits.TheConstants.{CHANNELS, END_BYTES};
-ghost use Rattle.xh_place.specs.Ending.{HasGivenBack};
 ghost use Rattle.xh_place.specs.Ends.{AreListed, Opens};
 ghost use Rattle.xh_place.specs.Places.{IsPlaceOf};
 ghost use Rattle.xh_place.specs.Seen.{FindsFull, IsSamePlace, PlaceSeen, Stays};
@@ -14,8 +13,8 @@ ghost use Rattle.xh_records.specs.History.{StartsWith};
 ghost use Rattle.xh_place.specs.Tallies.{took};
 ghost use Rattle.xh_records.specs.Seats.{IsRecord};
 ghost use Rattle.xh_calls.specs.Channels.{GoesBy, IsNoChannel, OpensChannel};
-ghost use Rattle.xh_calls.specs.Places.{IsServed, IsTillOf, status_at};
-ghost use Rattle.xh_calls.specs.Vaults.{AsksVault};
+ghost use Rattle.xh_calls.specs.Places.{GivesBack, IsServed, IsTillOf, status_at};
+ghost use Rattle.xh_calls.specs.Vaults.{AsksVault, Entered};
 ghost use Rattle.xh_calls.specs.Wires.{ClosesAgain, HasLow, OpensToward, ReceivesOr, toward_high};
 
 use crate::arenas::Lent;
@@ -27,7 +26,7 @@ use crate::wired::Wired;
 use std::sync::Wait;
 use xh_channel::Endpoint;
 use xh_core::{Block, Contract, Refused};
-use xh_place::{Desk, Gate, Place};
+use xh_place::{Gate, Place};
 
 // Both ends of a new channel, with a contract or without. NoChannel; OutOfMemory, where channels come back.
 fn open_channel<N: Names, R: Wait>(
@@ -74,20 +73,13 @@ impl<N: Names> Heap<N> {
         ensures same { IsSamePlace place.old place.new × IsTillOf N.parts till.new }
         ensures opened { MatchResult result (λ ends. Opens arena low high place.old place.new till.old.tallies.items till.new.tallies.items (Ok ends))
             (λ why. Opens arena low high place.old place.new till.old.tallies.items till.new.tallies.items (Err (record { why = why; low = low; high = high }))) }
+        ensures asked { OnOk result (Entered (arena ∷ arena ∷ []) till.old.seen till.new.seen) }
         ensures why { IfErr result (λ e. IsNoChannel N.parts ⊥ (FindsFull 1 place.old place.new arena) arena e × AsksVault N.parts arena (2 * END_BYTES) till.old.seen till.new.seen e) }
     {
-        let tallies = till.tallies.as_mut_slice();
-        let mut lent = Lent::new(rt, &self.arenas, &mut till.seen);
-        let mut desk = Desk {
-            rt,
-            records: &self.records,
-            channels: &self.channels,
-            vaults: &mut lent,
-            tallies,
-            gate,
-        };
+        let lent = Lent::new(rt, &self.arenas, till);
+        let mut desk = self.desk(rt, lent, gate);
         let answer = place.open(&mut desk, low, high, arena);
-        lent.end(&mut till.seen);
+        desk.vaults.end(till);
         match answer {
             Ok(ends) => Ok(ends),
             Err(unopened) => {
@@ -114,6 +106,7 @@ impl<N: Names> Heap<N> {
         ensures same { IsSamePlace place.old place.new × IsTillOf N.parts till.new }
         ensures tallies { MatchResult result (λ _. till.new.tallies.items ≡ took arena (2 * END_BYTES) till.old.tallies.items) (λ _. till.new.tallies.items ≡ till.old.tallies.items) }
         ensures opened { OpensChannel N.parts p arena contract place.old place.new result }
+        ensures asked { OnOk result (Entered (arena ∷ arena ∷ []) till.old.seen till.new.seen) }
         ensures refused { IfErr result (AsksVault N.parts arena (2 * END_BYTES) till.old.seen till.new.seen) }
         ensures ends { IfOk result (λ ends. (place.new.place.state ≡ status.Running) × ((low : EndpointOf) × (high : EndpointOf) × IsPair low high × AreListed low high place.new.place ends)) }
     {
@@ -137,6 +130,7 @@ impl<N: Names> Heap<N> {
         ensures same { IsSamePlace place.old place.new × IsTillOf N.parts till.new }
         ensures tallies { MatchResult result (λ _. till.new.tallies.items ≡ took arena (2 * END_BYTES) till.old.tallies.items) (λ _. till.new.tallies.items ≡ till.old.tallies.items) }
         ensures opened { OpensToward N.parts p arena contract place.old place.new result }
+        ensures asked { OnOk result (Entered (arena ∷ arena ∷ []) till.old.seen till.new.seen) }
         ensures refused { IfErr result (AsksVault N.parts arena (2 * END_BYTES) till.old.seen till.new.seen) }
         ensures exists { IfOk result (λ w. IsRecord N.parts.records.shape w.high.rec) }
     {
@@ -170,21 +164,13 @@ impl<N: Names> Heap<N> {
         requires served { IsServed N.parts place.old.place till.old }
         requires there { IsRecord N.parts.records.shape r × (channel < CHANNELS) }
         ensures same { IsSamePlace place.old place.new × IsTillOf N.parts till.new }
-        ensures received { (bytes : ℕ) × ReceivesOr q (toward_high channel) r bytes place.old place.new result × HasGivenBack bytes till.old.tallies.items till.new.tallies.items }
+        ensures received { (bytes : ℕ) × ReceivesOr q (toward_high channel) r bytes place.old place.new result × GivesBack bytes till.old till.new }
     {
-        let tallies = till.tallies.as_mut_slice();
         let toward = 2 * channel + 1;
-        let mut lent = Lent::new(rt, &self.arenas, &mut till.seen);
-        let mut desk = Desk {
-            rt,
-            records: &self.records,
-            channels: &self.channels,
-            vaults: &mut lent,
-            tallies,
-            gate,
-        };
+        let lent = Lent::new(rt, &self.arenas, till);
+        let mut desk = self.desk(rt, lent, gate);
         let answer = place.accept_end(&mut desk, q, r, toward);
-        lent.end(&mut till.seen);
+        desk.vaults.end(till);
         self.tell_swept(rt);
         answer
     }
@@ -216,7 +202,7 @@ impl<N: Names> Heap<N> {
         requires { IsServed N.parts place.old.place till.old }
         ensures same { IsSamePlace place.old place.new × IsTillOf N.parts till.new }
         ensures closed { (from : PlaceSeen) × Stays place.old from × StartsWith place.new.front from.front × (bytes : ℕ)
-            × ClosesAgain p wired.now.channel wired.now.low.rec from place.new bytes × HasGivenBack bytes till.old.tallies.items till.new.tallies.items }
+            × ClosesAgain p wired.now.channel wired.now.low.rec from place.new bytes × GivesBack bytes till.old till.new }
     {
         if let Err(_refused) = check_start(place, p) {
             return;

@@ -34,21 +34,20 @@ pub struct Heap<N: Names> {
 }
 
 impl<N: Names> Heap<N> {
-    // What a call on messages works on: no vault and no tally.
-    pub(crate) fn desk<'a, R, G>(
+    // What a call works on.
+    pub(crate) fn desk<'a, R, V, G>(
         &'a self,
         rt: &'a R,
-        none: &'a mut (),
+        vaults: V,
         gate: &'a G,
-    ) -> Desk<'a, R, (), G>
-        ensures { result.records.now ≡ N.parts.records }
+    ) -> Desk<'a, R, V, G>
+        ensures { (result.records.now ≡ N.parts.records) × (result.vaults ≡ vaults) }
     {
         Desk {
             rt,
             records: &self.records,
             channels: &self.channels,
-            vaults: none,
-            tallies: &mut [],
+            vaults,
             gate,
         }
     }

@@ -1,11 +1,10 @@
 //! Messages of a process, and the ends of its endpoints and of itself.
 ghost use Rattle.std.specs.Prelude.{◌≡◌, ℕ, IfErr};
 ghost use Rattle.xh_place.specs.Calls.{Closes, Stops};
-ghost use Rattle.xh_place.specs.Ending.{HasGivenBack};
 ghost use Rattle.xh_place.specs.Places.{IsPlaceOf};
 ghost use Rattle.xh_place.specs.Seen.{IsSamePlace};
 ghost use Rattle.xh_place.specs.Messages.{Gives, TakesAt};
-ghost use Rattle.xh_calls.specs.Places.{IsServed, IsTillOf, status_at};
+ghost use Rattle.xh_calls.specs.Places.{GivesBack, IsServed, IsTillOf, status_at};
 
 use crate::arenas::Lent;
 use crate::heap::{Heap, Till};
@@ -13,7 +12,7 @@ use crate::names::Names;
 use crate::starting::check_number;
 use std::sync::Wait;
 use xh_core::Refused;
-use xh_place::{Desk, Gate, Place, Taken};
+use xh_place::{Gate, Place, Taken};
 
 impl<N: Names> Heap<N> {
     /// As `Kernel::give`, by whoever has the place's lock.
@@ -32,7 +31,7 @@ impl<N: Names> Heap<N> {
         ensures given { Gives (status_at p place.old.place) e tag blocks.now place.old place.new result }
     {
         check_number(place, p)?;
-        place.give(&self.desk(rt, &mut (), gate), e, tag, blocks)
+        place.give(&self.desk(rt, (), gate), e, tag, blocks)
     }
 
     /// As `Kernel::take`, by whoever has the place's lock.
@@ -50,7 +49,7 @@ impl<N: Names> Heap<N> {
         ensures empty { IfErr result (λ why. why ≡ Refused.Empty → place.new.place ≡ place.old.place) }
     {
         check_number(place, p)?;
-        place.take(&self.desk(rt, &mut (), gate), e)
+        place.take(&self.desk(rt, (), gate), e)
     }
 
     /// As `Kernel::close`, by whoever has the place's lock.
@@ -65,21 +64,13 @@ impl<N: Names> Heap<N> {
     ) -> Result<u64, Refused>
         requires { IsServed N.parts place.old.place till.old }
         ensures same { IsSamePlace place.old place.new × IsTillOf N.parts till.new }
-        ensures closed { (bytes : ℕ) × Closes (status_at p place.old.place) e bytes place.old place.new result × HasGivenBack bytes till.old.tallies.items till.new.tallies.items }
+        ensures closed { (bytes : ℕ) × Closes (status_at p place.old.place) e bytes place.old place.new result × GivesBack bytes till.old till.new }
     {
         check_number(place, p)?;
-        let tallies = till.tallies.as_mut_slice();
-        let mut lent = Lent::new(rt, &self.arenas, &mut till.seen);
-        let mut desk = Desk {
-            rt,
-            records: &self.records,
-            channels: &self.channels,
-            vaults: &mut lent,
-            tallies,
-            gate,
-        };
+        let lent = Lent::new(rt, &self.arenas, till);
+        let mut desk = self.desk(rt, lent, gate);
         let answer = place.close_end(&mut desk, e);
-        lent.end(&mut till.seen);
+        desk.vaults.end(till);
         self.tell_swept(rt);
         answer
     }
@@ -96,21 +87,13 @@ impl<N: Names> Heap<N> {
     ) -> Result<u64, Refused>
         requires { IsServed N.parts place.old.place till.old }
         ensures same { IsSamePlace place.old place.new × IsTillOf N.parts till.new }
-        ensures stopped { (bytes : ℕ) × Stops (status_at p place.old.place) budget bytes place.old place.new result × HasGivenBack bytes till.old.tallies.items till.new.tallies.items }
+        ensures stopped { (bytes : ℕ) × Stops (status_at p place.old.place) budget bytes place.old place.new result × GivesBack bytes till.old till.new }
     {
         check_number(place, p)?;
-        let tallies = till.tallies.as_mut_slice();
-        let mut lent = Lent::new(rt, &self.arenas, &mut till.seen);
-        let mut desk = Desk {
-            rt,
-            records: &self.records,
-            channels: &self.channels,
-            vaults: &mut lent,
-            tallies,
-            gate,
-        };
+        let lent = Lent::new(rt, &self.arenas, till);
+        let mut desk = self.desk(rt, lent, gate);
         let answer = place.stop(&mut desk, budget);
-        lent.end(&mut till.seen);
+        desk.vaults.end(till);
         self.tell_swept(rt);
         answer
     }

@@ -9,11 +9,10 @@ pub use Rattle.std.proofs.Math.Seq.{take-append_seam, take-length}
 pub use Rattle.std.proofs.lemmas.Bool.{and_parts, and_right, false_from_ne_true, or_cases}
 pub use Rattle.std.proofs.lemmas.List.{length-replicate, length_push, map-append, set-get_or}
 pub use Rattle.xh_channel.specs.Calls.{EndpointPuts, EndpointShuts, EndpointTakes, OnlySaw, next_state}
-pub use Rattle.xh_channel.specs.Endpoint.{EndpointOf, Told}
+pub use Rattle.xh_channel.specs.Endpoint.{EndpointOf}
 pub use Rattle.xh_channel.specs.LineSeats.{LineView, SeatDoes, on_line, told_across}
 pub use Rattle.xh_channel.specs.Lines.{LinePuts, LineShuts, LineTakes, Lined, end_of, no_counts, now_shut, one_put, one_taken, waiting}
 pub use Rattle.xh_channel.specs.Agreement.{AgreesWith}
-pub use Rattle.xh_channel.specs.Numbers.{Numbered, message, number, tag}
 pub use Rattle.xh_channel.specs.Queues.{QueueView}
 pub use Rattle.xh_channel.specs.declared.counts.Counts.{Counts}
 pub use Rattle.xh_channel.specs.declared.line_end.LineEnd.{LineEnd}
@@ -23,6 +22,7 @@ pub use Rattle.xh_channel.specs.declared.message.Message.{Message}
 pub use Rattle.xh_channel.specs.inner.Ends.{IsUnsent, endpoint_of}
 pub use Rattle.xh_channel.specs.inner.FreeNumbers.{StandAtTheirNumbers, at_place, has_depth}
 pub use Rattle.xh_channel.specs.inner.LineRule.{Grows, IsEndBy, IsSettled, LiesFor, holding, line_view}
+pub use Rattle.xh_model.specs.Direction.{AreNumberedFrom}
 pub use Rattle.xh_model.proofs.Direction.{number_at, numbers_before, numbers_join}
 pub use Rattle.xh_model.specs.declared.limits.TheConstants.{CHANNELS, DIRECTIONS}
 pub use lib.ListN.{get_elem?}

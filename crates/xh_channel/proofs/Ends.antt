@@ -1,12 +1,11 @@
 -- What an end keeps and shows.
-use Rattle.xh_channel.proofs.Common.{AgreesWith, Bool, EndpointOf, EndpointTakes, Err, LineView, SeatDoes}
-use Rattle.xh_channel.proofs.Common.{List, None, Ok, OnErr, OnlySaw, QueueView, Result, Some, ap, arith, cond, endpoint_of, false, inl, is_some, length, length_push, on_line, refl, subst}
+use Rattle.xh_channel.proofs.Common.{◌++◌, ◌∷◌, [], AgreesWith, Bool, EndpointOf, EndpointTakes, Err, LineView, SeatDoes}
+use Rattle.xh_channel.proofs.Common.{List, None, Ok, QueueView, Result, Some, ap, arith, cond, endpoint_of, false, is_some, length, length_push, on_line, refl, subst}
 use Rattle.xh_channel.proofs.Common.{suc, sym, take, take-length, true, true≢false, ℕ, ◌∙◌, ◌≡◌, ◌≤◌}
 use Rattle.xh_model.specs.declared.row.Row.{Row}
 use Rattle.xh_channel.specs.declared.spot.Spot.{Spot}
 use Rattle.xh_channel.specs.inner.ClosedWords.{ClosedView}
 use Rattle.xh_channel.specs.declared.message.Message.{Message}
-use Rattle.xh_channel.specs.Calls.{GoesBack, Unpushed}
 use Rattle.xh_channel.specs.declared.refused.Refused.{Refused}
 use Rattle.xh_channel.specs.Directions.{WaitsAfter}
 use Rattle.xh_channel.specs.inner.Ends.{IsByLine, IsEnd}
@@ -25,19 +24,14 @@ agrees s t false true o p i j v w m n k l x y put taken prefix all shut = absurd
 agrees s t false false o p i j v w m n k l x y put taken prefix all shut =
     record { told_put = put; told_taken = taken; told_shut = shut; taken = prefix; sent = λ saw. sym (ap (λ z. take z o.role.sent) (all saw) ∙ take-length o.role.sent) }
 
--- what was seen of the peer leaves what was pushed
-pub none_pushed : (old new : EndpointOf) (m : Message) → OnlySaw old new → Unpushed old new m
-none_pushed old new m saw =
-    let same : new.pushed ≡ old.pushed = ap (λ (e : EndpointOf). e.pushed) saw.0 in
-    ((saw.0 ∙ (λ i. record old { pushed = sym same i; peer_shut = new.peer_shut }), saw.1), inl same)
-
 -- a take leaves what was sent, and a put adds one message to it
-pub take_sent : (old new : EndpointOf) (r : Result Message Refused) → EndpointTakes old new r × OnErr r (OnlySaw old new) → new.sent ≡ old.sent
-take_sent old new (Ok m) t = ap (λ (e : EndpointOf). e.sent) t.0.1.0
+pub take_sent : (old new : EndpointOf) (r : Result Message Refused) → EndpointTakes r old new → new.sent ≡ old.sent
+take_sent old new (Ok m) t = ap (λ (e : EndpointOf). e.sent) t.1.0
 take_sent old new (Err refused) t = ap (λ (e : EndpointOf). e.sent) t.1.0
 
-pub put_sent : (old new : EndpointOf) (m : Message) (n : ℕ) → GoesBack old new m → n ≡ suc (length old.sent) → n ≡ length new.sent
-put_sent old new m n goes is = let same = ap (λ (e : EndpointOf). length e.sent) goes.0 in omega (arith, length_push old.sent m, same, is)
+pub put_sent : (old new : EndpointOf) (m : Message) (n : ℕ) → new ≡ record old { sent = old.sent ++ m ∷ []; pushed = old.pushed ++ m ∷ []; state = new.state }
+    → n ≡ suc (length old.sent) → n ≡ length new.sent
+put_sent old new m n goes is = let same = ap (λ (e : EndpointOf). length e.sent) goes in omega (arith, length_push old.sent m, same, is)
 
 -- the end whose channel has a contract, by its seat at the line
 pub lined : (s : Spot) (b : Bool) (o i : QueueView) (w : ClosedView) (m n : ℕ) (k l : LineView) → b ≡ true → l.depth ≡ o.depth → on_line (endpoint_of s b o i w m k) l ≡ endpoint_of s b o i w n l

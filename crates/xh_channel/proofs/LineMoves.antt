@@ -2,12 +2,13 @@
 use Rattle.xh_channel.proofs.Common.{Account, Bool, Counts, EndpointOf, EndpointPuts, EndpointShuts, EndpointTakes, Err, Grows, IfOk, IsEndBy, IsSettled, IsSome, LiesFor, LineEnd}
 use Rattle.xh_channel.proofs.Common.{LinePuts, LineShuts, LineTakes, LineView, SeatDoes, Lined, List, Me, Message, None, Ok}
 use Rattle.xh_channel.proofs.Common.{OnErr, OnlySaw, Option, Part, Result, Some, TableId, [], ap, append_assoc, arith}
-use Rattle.xh_channel.proofs.Common.{end_of, false, false_from_ne_true, holding, inl, inr, length, length-append, length_push, line_view, message, on_line}
-use Rattle.xh_channel.proofs.Common.{now_shut, number, numbers_before, numbers_join, one_put, one_taken, refl, rest, subst, suc, sym, take, take-append_seam, true, true≢false, unwrap_or, waiting}
+use Rattle.xh_channel.proofs.Common.{end_of, false, false_from_ne_true, holding, inl, inr, length, length-append, length_push, line_view, on_line}
+use Rattle.xh_channel.proofs.Common.{now_shut, numbers_before, numbers_join, one_put, one_taken, refl, rest, subst, suc, sym, take, take-append_seam, true, true≢false, unwrap_or, waiting}
 use Rattle.xh_channel.proofs.Common.{zero, ℕ, ⊎_elim, ◌++◌, ◌+◌, ◌-◌, ◌<◌, ◌||◌, ◌∙◌, ◌∷◌, ◌≡◌, ◌≤◌}
 use Rattle.arrayvec.specs.ArrayVec.{ArrayVec}
 use Rattle.xh_model.specs.declared.row.Row.{Row}
-use Rattle.xh_model.specs.Direction.{AreNumberedFrom, IsDirection}
+use Rattle.xh_channel.proofs.Common.{AreNumberedFrom, ◌⊎◌}
+use Rattle.xh_channel.specs.Directions.{WaitsAfter}
 use Rattle.xh_model.specs.Rows.{allowed}
 use Rattle.xh_channel.specs.declared.refused.Refused.{Refused}
 use Rattle.xh_channel.specs.declared.refused.Refused.TheVariants as refused
@@ -15,6 +16,14 @@ use Rattle.xh_channel.specs.declared.unsent.Unsent.{Unsent}
 use Rattle.xh_channel.specs.declared.unsent.Unsent.TheVariants.{Full, PeerClosed, Protocol}
 use Rattle.xh_channel.specs.inner.LineRule.{Found, IsTold, counts_in, own_by, peer_by, settled, settled_by}
 use Rattle.xh_model.specs.declared.limits.TheConstants.{MAX_MESSAGES}
+use Rattle.xh_channel.specs.Directions.{number}
+
+-- what was seen of the peer leaves what was pushed
+none_pushed : (old new : EndpointOf) (m : Message) → OnlySaw old new
+    → OnlySaw (record old { pushed = new.pushed }) new × ((new.pushed ≡ old.pushed) ⊎ ((new.pushed ≡ old.pushed ++ m ∷ []) × (new.peer_shut ≡ true)))
+none_pushed old new m saw =
+    let same : new.pushed ≡ old.pushed = ap (λ (e : EndpointOf). e.pushed) saw.0 in
+    ((saw.0 ∙ (λ i. record old { pushed = sym same i; peer_shut = new.peer_shut }), saw.1), inl same)
 
 or_right : (a b : Bool) → b ≡ true → (a || b) ≡ true
 or_right true b e = refl
@@ -88,7 +97,7 @@ module _ (table : TableId) (v : Part) (peer : Account) (line line' : Lined) (fou
     depth = depth ∙ was.1.depth;
     state = ap (λ (x : LineEnd). x.state) same ∙ was.1.state;
     counts = ap (λ (x : LineEnd). x.counts) same ∙ was.1.counts;
-    waits = subst (λ (x : List Message × LineEnd). IsDirection number x.0 peer.got (waiting x.1)) (λ i. (sent i, sym same i)) was.1.waits;
+    waits = subst (λ (x : List Message × LineEnd). WaitsAfter x.0 peer.got (waiting x.1)) (λ i. (sent i, sym same i)) was.1.waits;
   }
 
   -- what contracts see of the seat once it gave the line back
@@ -125,6 +134,9 @@ module _ (table : TableId) (v : Part) (peer : Account) (line line' : Lined) (fou
   step_by tag side next e = (λ i. allowed (sym was.0.rows i) (sym was.0.state i) tag side) ∙ e
 
   module _ (tag : ℕ) (blocks : ArrayVec ℕ) where
+    abbrev next_message : Message
+    next_message = record { no = suc (length own.sent); tag = tag; blocks = blocks }
+
     next_at : (e : EndpointOf) → e.spot.side ≡ k → (next : Option ℕ) → allowed line.rows (end_of line k).state tag k ≡ next → allowed own.rows own.state tag e.spot.side ≡ next
     next_at e at next is = ap (allowed own.rows own.state tag) at ∙ step_by tag k next is
 
@@ -132,9 +144,9 @@ module _ (table : TableId) (v : Part) (peer : Account) (line line' : Lined) (fou
     full e = let sent = ap length was.1.waits.0 in let deep = was.0.depth in let told = found.told.1 in omega (arith, length-append peer.got (waiting (end_of line (1 - k))))
 
     pub put_done : (r : Result ℕ Unsent) → LinePuts line line' k tag blocks r → OnErr r (line' ≡ line)
-        → IsSettled (holding v peer) line' × SeatDoes (line_view table v) seen (λ e e'. EndpointPuts e e' tag blocks r × OnErr r (OnlySaw e e'))
+        → IsSettled (holding v peer) line' × SeatDoes (line_view table v) seen (EndpointPuts tag blocks r)
     put_done (Ok n) p _ =
-        let m : Message = message n tag blocks in
+        let m : Message = record { no = n; tag = tag; blocks = blocks } in
         let o = was.0 in
         let e = was.1 in
         let r = p.put in
@@ -149,7 +161,7 @@ module _ (table : TableId) (v : Part) (peer : Account) (line line' : Lined) (fou
             depth = p.rules.1 ∙ o.depth;
             state = refl;
             counts = r.1 ∙ ap one_put o.counts ∙ sym counts;
-            waits = subst (IsDirection number peer.sent own.got) (sym p.waits) o.waits;
+            waits = subst (WaitsAfter peer.sent own.got) (sym p.waits) o.waits;
           },
           record {
             rows = p.rules.0 ∙ e.rows;
@@ -163,21 +175,26 @@ module _ (table : TableId) (v : Part) (peer : Account) (line line' : Lined) (fou
         let unshut = saw_open r.2 in
         let after : LineView = record (line_view table (record v { own = own' })) { peer_shut = saw } in
         let same : after ≡ record after { peer_shut = v.told.shut } = λ i. record after { peer_shut = (unshut.1 ∙ sym unshut.0) i } in
-        let so : SeatDoes (line_view table v) after (λ e e'. EndpointPuts e e' tag blocks (Ok n)) =
-        λ f at. (is_next, unshut.0, (ap (on_line f) same, numbered, next_at f at (Some own'.state) r.4)) in
-        (s.0, λ f at. (subst (λ x. EndpointPuts (on_line f (line_view table v)) (on_line f x) tag blocks (Ok n)) (sym (seen_is own' s.1)) (so f at), tt))
-    put_done (Err Protocol) p same = ((kept same).0, λ e at. (next_at e at None p.put, only_saw same e))
-    put_done (Err PeerClosed) p same = ((kept same).0, λ e at. ((subst IsSome (sym (next_at e at _ refl)) p.put.0, saw_shut p.put.1), only_saw same e))
+        let so : SeatDoes (line_view table v) after (EndpointPuts tag blocks (Ok n)) =
+        λ f at. (is_next, unshut.0, ap (on_line f) same, numbered, next_at f at (Some own'.state) r.4) in
+        (s.0, λ f at. subst (λ x. EndpointPuts tag blocks (Ok n) (on_line f (line_view table v)) (on_line f x)) (sym (seen_is own' s.1)) (so f at))
+    put_done (Err Protocol) p same =
+        let more = λ (e : EndpointOf). none_pushed (on_line e (line_view table v)) (on_line e seen) next_message (only_saw same e) in
+        ((kept same).0, λ e at. (next_at e at None p.put, (more e).0, (more e).1))
+    put_done (Err PeerClosed) p same =
+        let more = λ (e : EndpointOf). none_pushed (on_line e (line_view table v)) (on_line e seen) next_message (only_saw same e) in
+        ((kept same).0, λ e at. ((subst IsSome (sym (next_at e at _ refl)) p.put.0, saw_shut p.put.1), (more e).0, (more e).1))
     put_done (Err Full) p same =
+        let more = λ (e : EndpointOf). none_pushed (on_line e (line_view table v)) (on_line e seen) next_message (only_saw same e) in
         let unshut = saw_open p.put.1 in
         let far = ⊎_elim (λ e. inl (full e)) (λ e. inr (ap (λ (c : Counts). c.put) (sym was.0.counts) ∙ e)) p.put.2 in
-        ((kept same).0, λ e at. ((subst IsSome (sym (next_at e at _ refl)) p.put.0, unshut.0, unshut.1, far), only_saw same e))
+        ((kept same).0, λ e at. ((subst IsSome (sym (next_at e at _ refl)) p.put.0, unshut.0, unshut.1, far), (more e).0, (more e).1))
 
   emptied : waiting (end_of line k) ≡ [] → v.told.put ≤ length own.got
   emptied e = let sent = ap length was.0.waits.0 in let none = ap length e in let told = found.told.0 in omega (arith, length-append own.got (waiting (end_of line k)))
 
   pub take_done : (r : Result Message Refused) → LineTakes line line' k r → OnErr r (line' ≡ line) → IfOk r (λ m. m.no ≤ MAX_MESSAGES)
-      → IsSettled (holding v peer) line' × SeatDoes (line_view table v) seen (λ e e'. EndpointTakes e e' r × OnErr r (OnlySaw e e'))
+      → IsSettled (holding v peer) line' × SeatDoes (line_view table v) seen (EndpointTakes r)
   take_done (Ok m) t _ few =
       let o = was.0 in
       let r = t.taken in
@@ -191,7 +208,7 @@ module _ (table : TableId) (v : Part) (peer : Account) (line line' : Lined) (fou
       ) in
       let s = settled_so v peer own' line' found.few ends' (omega arith, omega arith, λ q. q) found.told in
       let numbered = numbers_before number 0 (own.got ++ m ∷ []) (waiting (end_of line' k)) (subst (AreNumberedFrom number 0) split o.waits.1) in
-      let so : SeatDoes (line_view table v) (record (line_view table (record v { own = own' })) { peer_shut = saw }) (λ e e'. EndpointTakes e e' (Ok m)) =
+      let so : SeatDoes (line_view table v) (record (line_view table (record v { own = own' })) { peer_shut = saw }) (EndpointTakes (Ok m)) =
       λ e at. (
         r.0 ∙ ap (λ (c : Counts). suc c.taken) o.counts,
         (refl, saw_no_less),
@@ -199,7 +216,7 @@ module _ (table : TableId) (v : Part) (peer : Account) (line line' : Lined) (fou
         ap (λ n. allowed own.rows own.state m.tag (1 - n)) at ∙ step_by m.tag (1 - k) (Some own'.state) r.3,
         λ _. few,
       ) in
-      (s.0, λ e at. (subst (λ x. EndpointTakes (on_line e (line_view table v)) (on_line e x) (Ok m)) (sym (seen_is own' s.1)) (so e at), tt))
+      (s.0, λ e at. subst (λ x. EndpointTakes (Ok m) (on_line e (line_view table v)) (on_line e x)) (sym (seen_is own' s.1)) (so e at))
   take_done (Err (refused.PeerClosed back)) t same _ = ((kept same).0, λ e _. ((t.taken.0, emptied t.taken.1, saw_shut t.taken.2), only_saw same e))
   take_done (Err refused.Empty) t same _ = let unshut = saw_open t.taken.1 in ((kept same).0, λ e _. ((emptied t.taken.0, unshut.0, unshut.1), only_saw same e))
   take_done (Err refused.OutOfMemory) t same _ = absurd t.taken
@@ -216,7 +233,7 @@ module _ (table : TableId) (v : Part) (peer : Account) (line line' : Lined) (fou
           depth = t.rules.1 ∙ o.depth;
           state = t.state ∙ o.state;
           counts = t.shut ∙ ap now_shut o.counts;
-          waits = subst (IsDirection number peer.sent own.got) (sym t.waits) o.waits;
+          waits = subst (WaitsAfter peer.sent own.got) (sym t.waits) o.waits;
         },
         peer_same t.rules.0 t.rules.1 t.peer own' refl,
       ) in

@@ -1,12 +1,12 @@
 -- Each move keeps the rule of a direction.
-use Rattle.xh_channel.proofs.Common.{List, Message, Numbered, [], ap, append_assoc, arith, false, get_elem?, length, length-append}
-use Rattle.xh_channel.proofs.Common.{number, number_at, numbers_before, numbers_join, refl, set, some, subst, suc, sym, true, true≢false, ℕ}
+use Rattle.xh_channel.proofs.Common.{AreNumberedFrom, List, Message, [], ap, append_assoc, arith, false, get_elem?, length, length-append}
+use Rattle.xh_channel.proofs.Common.{number_at, numbers_before, numbers_join, refl, set, some, subst, suc, sym, true, true≢false, ℕ}
 use Rattle.xh_channel.proofs.Common.{⊎_elim, ◌++◌, ◌∙◌, ◌∷◌, ◌≡◌, ◌≢◌, ◌≤◌}
 use Rattle.crossbeam_queue.specs.Fifo.{Forks, Learns, Merges, Pops, Pushes}
 use Rattle.crossbeam_queue.proofs.Lists.{at_set}
 use Rattle.xh_channel.specs.declared.queue_rule.Role.{Role}
 use Rattle.xh_channel.proofs.Views.{Every, every_set, every_two, every_snoc, one_view}
-use Rattle.xh_channel.specs.Directions.{Fits, Got, Ordered, Sent, WaitsAhead, WaitsBehind, role}
+use Rattle.xh_channel.specs.Directions.{Fits, Got, Ordered, Sent, WaitsAhead, WaitsBehind, role, number}
 
 pub begins : Ordered [] (role true true [] [] 0 0 ∷ [])
 begins = (0, 0, [], [], (refl, tt), one_view (Fits 0 0 [] []) (role true true [] [] 0 0) ((λ _. (refl, refl)), (λ _. (refl, refl)), omega arith, omega arith))
@@ -32,7 +32,7 @@ sends n port v x may next items views _ h at =
         every_set (Fits h.0 h.1 sent h.3) views port w ((λ _. ((mine.0 may).0, ap (λ l. l ++ x ∷ []) same)), mine.1, grows v.told_put h.2 x mine.2, mine.3)
             (λ j u other e. let f = h.5 j u e in ((λ p. absurd (other ((f.0 p).0 ∙ sym (mine.0 may).0))), f.1, grows u.told_put h.2 x f.2, f.3)),
       ),
-      (refl, subst (λ l. Numbered (l ++ x ∷ [])) (sym same) numbered),
+      (refl, subst (λ l. AreNumberedFrom number 0 (l ++ x ∷ [])) (sym same) numbered),
     )
 
 pub gets : (port : ℕ) (v : Role) → v.pops ≡ true → Pops Ordered port v (Got v)
@@ -54,8 +54,9 @@ gets port v may x items views h at =
       ),
       (
         refl,
-        (let first = number_at number 0 h.3 x items (subst Numbered h.4.0 h.4.1) in let long = ap length same in omega arith),
-        subst (λ l. Numbered (l ++ x ∷ [])) (sym same) (numbers_before number 0 got items (subst Numbered split h.4.1)),
+        (let first = number_at number 0 h.3 x items (subst (AreNumberedFrom number 0) h.4.0 h.4.1) in let long = ap length same in omega arith),
+        subst (λ l. AreNumberedFrom number 0 (l ++ x ∷ [])) (sym same)
+            (numbers_before number 0 got items (subst (AreNumberedFrom number 0) split h.4.1)),
       ),
     )
 

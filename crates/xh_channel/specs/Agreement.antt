@@ -6,7 +6,7 @@ use Rattle.xh_channel.specs.Endpoint.{EndpointOf}
 
 -- an end that was told all that its peer did
 abbrev pub told_all : EndpointOf → EndpointOf → EndpointOf
-told_all end peer = record end { peer_shut = peer.shut; told = record { put = length peer.pushed; taken = length peer.got } }
+told_all end peer = record end { peer_shut = peer.shut; told_put = length peer.pushed; told_taken = length peer.got }
 
 -- the two ends of one channel
 pub record ArePeers (one other : EndpointOf) : Type 0 where
@@ -20,8 +20,8 @@ pub record ArePeers (one other : EndpointOf) : Type 0 where
 
 -- what an end saw or was told of its peer is no more than the peer did, what it took is a prefix of what the peer pushed, and where it saw no shut peer it sent all that it pushed
 pub record AgreesWith (end peer : EndpointOf) : Type 0 where
-  pub told_put : end.told.put ≤ length peer.pushed
-  pub told_taken : end.told.taken ≤ length peer.got
+  pub told_put : end.told_put ≤ length peer.pushed
+  pub told_taken : end.told_taken ≤ length peer.got
   pub told_shut : end.peer_shut ≡ true → peer.shut ≡ true
   pub taken : (items : List Message) × WaitsAfter peer.pushed end.got items
   pub sent : end.peer_shut ≡ false → end.pushed ≡ end.sent

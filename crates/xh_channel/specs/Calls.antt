@@ -3,6 +3,7 @@ use Rattle.std.specs.Prelude.{◌≡◌, ◌⊎◌, ℕ, suc, ◌+◌, ◌-◌, 
 use Rattle.arrayvec.specs.ArrayVec.{ArrayVec}
 use Rattle.xh_model.specs.declared.limits.TheConstants.{MAX_MESSAGES}
 use Rattle.xh_model.specs.declared.row.Row.{Row}
+use Rattle.xh_model.specs.Direction.{AreNumberedFrom}
 use Rattle.xh_model.specs.Rows.{allowed}
 use Rattle.xh_channel.specs.declared.message.Message.{Message}
 use Rattle.xh_channel.specs.declared.refused.Refused.{Refused}
@@ -10,7 +11,7 @@ use Rattle.xh_channel.specs.declared.refused.Refused.TheVariants as refused
 use Rattle.xh_channel.specs.declared.unsent.Unsent.{Unsent}
 use Rattle.xh_channel.specs.declared.unsent.Unsent.TheVariants.{Protocol, PeerClosed, Full}
 use Rattle.xh_channel.specs.Endpoint.{EndpointOf}
-use Rattle.xh_channel.specs.Numbers.{Numbered, message}
+use Rattle.xh_channel.specs.Directions.{number}
 
 -- the state after a message with this tag by this side; without a contract the state stays
 abbrev pub next_state : Option (List Row) → ℕ → ℕ → ℕ → Option ℕ
@@ -27,50 +28,38 @@ Unopened comes_back r = (r ≡ refused.NoChannel) ⊎ ((r ≡ refused.OutOfMemor
 
 -- ---- put
 
--- it put as many messages as the depth beyond those that it was told were taken
-abbrev pub IsFullAsTold : EndpointOf → Type 0
-IsFullAsTold end = end.told.taken + end.depth ≤ length end.sent
-
--- m went to the back of what was sent, which is numbered, and the contract moved the state
-abbrev pub GoesBack : EndpointOf → EndpointOf → Message → Type 0
-GoesBack old new m = (new ≡ record old { sent = old.sent ++ m ∷ []; pushed = old.pushed ++ m ∷ []; state = new.state }) × Numbered new.sent
-    × (next_state old.contract old.state m.tag old.spot.side ≡ Some new.state)
-
 -- why nothing was sent. Protocol: the contract doesn't allow the message, and else it does. PeerClosed: the peer was seen shut.
 -- Full: it was seen open, and the depth is reached as far as was told, or the direction has carried its last message
 abbrev pub Unput : EndpointOf → EndpointOf → ℕ → Unsent → Type 0
 Unput old new tag Protocol = next_state old.contract old.state tag old.spot.side ≡ None
 Unput old new tag PeerClosed = IsSome (next_state old.contract old.state tag old.spot.side) × (new.peer_shut ≡ true)
 Unput old new tag Full = IsSome (next_state old.contract old.state tag old.spot.side) × (old.peer_shut ≡ false) × (new.peer_shut ≡ false)
-    × (IsFullAsTold old ⊎ (length old.sent ≡ MAX_MESSAGES))
+    × ((old.told_taken + old.depth ≤ length old.sent) ⊎ (length old.sent ≡ MAX_MESSAGES))
 
--- a put: the peer was seen open, and a message with the next number went to the back; or why not
-abbrev pub EndpointPuts : EndpointOf → EndpointOf → ℕ → ArrayVec ℕ → Result ℕ Unsent → Type 0
-EndpointPuts old new tag blocks result = MatchResult result (λ n. (n ≡ suc (length old.sent)) × (old.peer_shut ≡ false) × GoesBack old new (message n tag blocks)) (Unput old new tag)
-
--- a put that is refused leaves nothing behind, or one message that only the shut peer can find
-abbrev pub Unpushed : EndpointOf → EndpointOf → Message → Type 0
-Unpushed old new m = OnlySaw (record old { pushed = new.pushed }) new × ((new.pushed ≡ old.pushed) ⊎ ((new.pushed ≡ old.pushed ++ m ∷ []) × (new.peer_shut ≡ true)))
+-- A put. The peer was seen open, and the message with the next number went to the back of what was sent, which is numbered, and the contract moved the state.
+-- Or why not, and then it leaves nothing behind, or one message that only the shut peer can find.
+abbrev pub EndpointPuts : ℕ → ArrayVec ℕ → Result ℕ Unsent → EndpointOf → EndpointOf → Type 0
+EndpointPuts tag blocks result old new =
+    let m : ℕ → Message = λ n. record { no = n; tag = tag; blocks = blocks } in
+    MatchResult result (λ n. (n ≡ suc (length old.sent)) × (old.peer_shut ≡ false) × (new ≡ record old { sent = old.sent ++ m n ∷ []; pushed = old.pushed ++ m n ∷ []; state = new.state })
+    × AreNumberedFrom number 0 new.sent × (next_state old.contract old.state tag old.spot.side ≡ Some new.state))
+    (λ u. Unput old new tag u × OnlySaw (record old { pushed = new.pushed }) new
+    × ((new.pushed ≡ old.pushed) ⊎ ((new.pushed ≡ old.pushed ++ m (suc (length old.sent)) ∷ []) × (new.peer_shut ≡ true))))
 
 -- ---- take
 
--- m comes after what was taken, which is numbered, and the contract moved the state. With a contract its number is at most 2^62 - 1
-abbrev pub ComesNext : EndpointOf → EndpointOf → Message → Type 0
-ComesNext old new m = (m.no ≡ suc (length old.got)) × OnlySaw (record old { got = old.got ++ m ∷ []; state = new.state }) new × Numbered new.got
-    × (next_state old.contract old.state m.tag (1 - old.spot.side) ≡ Some new.state) × (is_some old.contract ≡ true → m.no ≤ MAX_MESSAGES)
-
--- it took as many messages as it was told were put
-abbrev pub IsEmptyAsTold : EndpointOf → Type 0
-IsEmptyAsTold end = end.told.put ≤ length end.got
-
--- why nothing was taken: the peer was seen shut, or it was seen open
+-- why nothing was taken, where it took as many messages as it was told were put: the peer was seen shut, or it was seen open
 abbrev pub Untaken : EndpointOf → EndpointOf → Refused → Type 0
-Untaken old new (refused.PeerClosed back) = (back.items ≡ []) × IsEmptyAsTold old × (new.peer_shut ≡ true)
-Untaken old new refused.Empty = IsEmptyAsTold old × (old.peer_shut ≡ false) × (new.peer_shut ≡ false)
+Untaken old new (refused.PeerClosed back) = (back.items ≡ []) × (old.told_put ≤ length old.got) × (new.peer_shut ≡ true)
+Untaken old new refused.Empty = (old.told_put ≤ length old.got) × (old.peer_shut ≡ false) × (new.peer_shut ≡ false)
 Untaken old new _ = ⊥
 
-abbrev pub EndpointTakes : EndpointOf → EndpointOf → Result Message Refused → Type 0
-EndpointTakes old new result = MatchResult result (ComesNext old new) (Untaken old new)
+-- A take. The message comes after what was taken, which is numbered, and the contract moved the state; with a contract its number is at most 2^62 - 1. Or why not.
+abbrev pub EndpointTakes : Result Message Refused → EndpointOf → EndpointOf → Type 0
+EndpointTakes result old new = MatchResult result
+    (λ m. (m.no ≡ suc (length old.got)) × OnlySaw (record old { got = old.got ++ m ∷ []; state = new.state }) new × AreNumberedFrom number 0 new.got
+    × (next_state old.contract old.state m.tag (1 - old.spot.side) ≡ Some new.state) × (is_some old.contract ≡ true → m.no ≤ MAX_MESSAGES))
+    (λ refused. Untaken old new refused × OnlySaw old new)
 
 -- ---- shut
 

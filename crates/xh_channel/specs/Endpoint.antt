@@ -5,15 +5,10 @@ use Rattle.xh_model.specs.declared.row.Row.{Row}
 use Rattle.xh_channel.specs.declared.message.Message.{Message}
 use Rattle.xh_channel.specs.declared.spot.Spot.{Spot}
 
--- how many messages an end was told that its peer put and took
-pub record Told : Type 0 where
-  pub put : ℕ
-  pub taken : ℕ
-
 -- Its spot; how many messages may wait in a direction; the rows of its channel's contract, if there is one, and its state by them, 0 without a contract;
 -- the tables of its two queues, of the closed words and of its line.
 -- Of what it did: the messages that it sent, all that it pushed and what it took, in order, and whether it was shut.
--- Of its peer: whether it saw or was told that it is shut, and what else it was told
+-- Of its peer: whether it saw or was told that it is shut, and how many messages it was told that it put and took
 pub record EndpointOf : Type 0 where
   pub spot : Spot
   pub depth : ℕ
@@ -28,4 +23,5 @@ pub record EndpointOf : Type 0 where
   pub got : List Message
   pub shut : Bool
   pub peer_shut : Bool
-  pub told : Told
+  pub told_put : ℕ
+  pub told_taken : ℕ

@@ -5,7 +5,6 @@ pub mod Directions
 pub mod Endpoint
 pub mod LineSeats
 pub mod Lines
-pub mod Numbers
 pub mod Pairs
 pub mod Queues
 pub mod Refusals

@@ -4,11 +4,10 @@ use Rattle.atomic_table.specs.Seated.{TableId}
 use Rattle.xh_model.specs.declared.row.Row.{Row}
 use Rattle.xh_model.specs.Rows.{row_at}
 use Rattle.xh_channel.specs.declared.message.Message.{Message}
-use Rattle.xh_channel.specs.Endpoint.{EndpointOf, Told}
-use Rattle.xh_channel.specs.Pairs.{untold}
+use Rattle.xh_channel.specs.Endpoint.{EndpointOf}
 
 -- Its table and its side; the contract's rows and the depth, which is 0 before the line is begun; its state; the messages that it put and took, and whether it was shut.
--- Of its peer: whether it saw or was told that it is shut, and what else it was told
+-- Of its peer: whether it saw or was told that it is shut, and how many messages it was told that it put and took
 pub record LineView : Type 0 where
   pub table : TableId
   pub side : ℕ
@@ -19,14 +18,15 @@ pub record LineView : Type 0 where
   pub got : List Message
   pub shut : Bool
   pub peer_shut : Bool
-  pub told : Told
+  pub told_put : ℕ
+  pub told_taken : ℕ
 
 abbrev pub IsBegun : LineView → Type 0
 IsBegun s = 1 ≤ s.depth
 
 -- nothing was put, taken or shut, and nothing was told
 abbrev pub IsBlank : LineView → Type 0
-IsBlank s = (s.sent ≡ []) × (s.got ≡ []) × (s.shut ≡ false) × (s.peer_shut ≡ false) × (s.told ≡ untold)
+IsBlank s = (s.sent ≡ []) × (s.got ≡ []) × (s.shut ≡ false) × (s.peer_shut ≡ false) × (s.told_put ≡ 0) × (s.told_taken ≡ 0)
 
 -- the two seats of a line
 abbrev pub AreAcross : LineView → LineView → Type 0
@@ -48,7 +48,8 @@ on_line e s = record e {
   got = s.got;
   shut = s.shut;
   peer_shut = s.peer_shut;
-  told = s.told;
+  told_put = s.told_put;
+  told_taken = s.told_taken;
 }
 
 -- from the one view of its seat to the other an endpoint did what `does` says
@@ -57,4 +58,4 @@ SeatDoes old new does = (e : EndpointOf) → e.spot.side ≡ old.side → does (
 
 -- a seat that was told all that its peer did
 abbrev pub told_across : LineView → LineView → LineView
-told_across s peer = record s { peer_shut = peer.shut; told = record { put = length peer.sent; taken = length peer.got } }
+told_across s peer = record s { peer_shut = peer.shut; told_put = length peer.sent; told_taken = length peer.got }

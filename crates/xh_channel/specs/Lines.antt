@@ -3,6 +3,7 @@ use Rattle.std.specs.Prelude.{◌≡◌, ◌⊎◌, ℕ, zero, suc, ◌+◌, ◌
 use Rattle.arrayvec.specs.ArrayVec.{ArrayVec}
 use Rattle.xh_model.specs.declared.limits.TheConstants.{MAX_DEPTH, MAX_MESSAGES}
 use Rattle.xh_model.specs.declared.row.Row.{Row}
+use Rattle.xh_model.specs.Direction.{AreNumberedFrom}
 use Rattle.xh_model.specs.Rows.{allowed, row_at, IsValid, InStep}
 use Rattle.xh_core.specs.Talks.{AreOrderly}
 use Rattle.xh_channel.specs.declared.counts.Counts.{Counts}
@@ -12,7 +13,7 @@ use Rattle.xh_channel.specs.declared.refused.Refused.{Refused}
 use Rattle.xh_channel.specs.declared.refused.Refused.TheVariants as refused
 use Rattle.xh_channel.specs.declared.unsent.Unsent.{Unsent}
 use Rattle.xh_channel.specs.declared.unsent.Unsent.TheVariants.{Protocol, PeerClosed, Full}
-use Rattle.xh_channel.specs.Numbers.{NumberedFrom, message, tag}
+use Rattle.xh_channel.specs.Directions.{number}
 
 abbrev pub no_counts : Counts
 no_counts = record { put = 0; taken = 0; shut = false }
@@ -32,11 +33,11 @@ waiting end = end.waiting.items
 
 -- the tags of the messages on their way to this end
 abbrev pub tags : LineEnd → List ℕ
-tags end = map tag (waiting end)
+tags end = map (λ (m : Message). m.tag) (waiting end)
 
 -- what an end put is what its peer took and then what waits for the peer, numbered on
 abbrev pub Follows : LineEnd → LineEnd → Type 0
-Follows own peer = (own.counts.put ≡ peer.counts.taken + length (waiting peer)) × NumberedFrom peer.counts.taken (waiting peer)
+Follows own peer = (own.counts.put ≡ peer.counts.taken + length (waiting peer)) × AreNumberedFrom number peer.counts.taken (waiting peer)
 
 -- why a put by `own` toward `peer` was refused: the state doesn't allow the message, the peer is shut,
 -- or as many wait as the depth or the direction has carried its last message
@@ -49,7 +50,7 @@ UnputBetween rows depth side own peer t Full = IsSome (allowed rows own.state t 
 -- a put by `own` toward `peer`, which isn't shut: the message is at the back, and the state of `own` moves by the contract; or why not
 abbrev pub PutsBetween : List Row → ℕ → ℕ → LineEnd → LineEnd → LineEnd → LineEnd → ℕ → ArrayVec ℕ → Result ℕ Unsent → Type 0
 PutsBetween rows depth side own own' peer peer' t blocks result = MatchResult result
-    (λ n. (n ≡ suc own.counts.put) × (own'.counts ≡ one_put own.counts) × (peer.counts.shut ≡ false) × (waiting peer' ≡ waiting peer ++ message n t blocks ∷ [])
+    (λ n. (n ≡ suc own.counts.put) × (own'.counts ≡ one_put own.counts) × (peer.counts.shut ≡ false) × (waiting peer' ≡ waiting peer ++ record { no = n; tag = t; blocks = blocks } ∷ [])
     × (allowed rows own.state t side ≡ Some own'.state))
     (UnputBetween rows depth side own peer t)
 

@@ -3,10 +3,7 @@ use Rattle.std.specs.Prelude.{◌≡◌, ◌<◌, false, List, [], None, Some}
 use Rattle.xh_model.specs.declared.limits.TheConstants.{CHANNELS}
 use Rattle.xh_model.specs.declared.row.Row.{Row}
 use Rattle.xh_model.specs.Rows.{row_at}
-use Rattle.xh_channel.specs.Endpoint.{EndpointOf, Told}
-
-abbrev pub untold : Told
-untold = record { put = 0; taken = 0 }
+use Rattle.xh_channel.specs.Endpoint.{EndpointOf}
 
 -- nothing was put, taken or shut, and nothing was told
 pub record IsUnused (end : EndpointOf) : Type 0 where
@@ -15,7 +12,7 @@ pub record IsUnused (end : EndpointOf) : Type 0 where
   pub got : end.got ≡ []
   pub shut : end.shut ≡ false
   pub peer_shut : end.peer_shut ≡ false
-  pub told : end.told ≡ untold
+  pub told : (end.told_put ≡ 0) × (end.told_taken ≡ 0)
 
 -- the sides 0 and 1 of one channel, each at the other's queues and both at one line, by the same contract in the same state, both unused
 pub record IsPair (low high : EndpointOf) : Type 0 where

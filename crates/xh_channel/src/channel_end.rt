@@ -1,10 +1,9 @@
 //! One end of a channel, apart from where its number is free again.
-ghost use Rattle.std.specs.Prelude.{◌≡◌, ◌+◌, ◌*◌, ◌<◌, ◌≤◌, suc, true, false, is_some, length, OnErr, IfOk, MatchBool};
+ghost use Rattle.std.specs.Prelude.{◌≡◌, ◌+◌, ◌*◌, ◌<◌, ◌≤◌, true, false, is_some, length, OnErr, IfOk, MatchBool};
 ghost use Rattle.xh_model.specs.declared.limits.TheConstants.{MAX_DEPTH, MAX_MESSAGES};
 ghost use Rattle.xh_channel.specs.Agreement.{AgreesWith, ArePeers, told_all};
-ghost use Rattle.xh_channel.specs.Calls.{EndpointPuts, EndpointShuts, EndpointTakes, OnlySaw, Unpushed};
+ghost use Rattle.xh_channel.specs.Calls.{EndpointPuts, EndpointShuts, EndpointTakes};
 ghost use Rattle.xh_channel.specs.LineSeats.{IsBlank};
-ghost use Rattle.xh_channel.specs.Numbers.{message};
 ghost use Rattle.xh_channel.specs.Pairs.{IsPair, IsUnused, ruled_by, unruled};
 ghost use Rattle.xh_channel.specs.inner.Ends.{AreIdle, IsUnsent};
 
@@ -192,9 +191,8 @@ impl ChannelEnd {
         blocks: ArrayVec<u16, MAX_BLOCKS>,
     ) -> Result<u64, Unsent>
         requires { is_some self.old.contract ≡ false }
-        ensures put { EndpointPuts self.old self.new tag blocks result }
+        ensures put { EndpointPuts tag blocks result self.old self.new }
         ensures last { IfOk result (λ no. no ≤ MAX_MESSAGES) }
-        ensures kept { OnErr result (Unpushed self.old self.new (message (suc (length self.old.sent)) tag blocks)) }
     {
         if self.word.peer_is_shut() {
             return Err(Unsent::PeerClosed);
@@ -217,7 +215,7 @@ impl ChannelEnd {
     // Pops. Where nothing comes it answers by what a look before the pop saw of the peer, and looks no more.
     fn pop_after_look<R: Wait>(&mut self, rt: &R, closed: bool) -> Result<Message, Refused>
         requires { (is_some self.old.contract ≡ false) × (closed ≡ self.old.peer_shut) }
-        ensures taken { EndpointTakes self.old self.new result }
+        ensures taken { EndpointTakes result self.old self.new }
         ensures seen { (self.new.peer_shut ≡ self.old.peer_shut) × OnErr result (self.new ≡ self.old) }
     {
         match self.receiver.pop(rt) {
@@ -232,8 +230,7 @@ impl ChannelEnd {
     /// Looks at the peer's word, and then pops.
     pub fn take_from_queue<R: Wait>(&mut self, rt: &R) -> Result<Message, Refused>
         requires { is_some self.old.contract ≡ false }
-        ensures taken { EndpointTakes self.old self.new result }
-        ensures kept { OnErr result (OnlySaw self.old self.new) }
+        ensures taken { EndpointTakes result self.old self.new }
     {
         let closed = self.word.peer_is_shut();
         self.pop_after_look(rt, closed)
@@ -247,9 +244,8 @@ impl ChannelEnd {
         blocks: ArrayVec<u16, MAX_BLOCKS>,
     ) -> Result<u64, Unsent>
         requires { is_some self.old.contract ≡ true }
-        ensures put { EndpointPuts self.old self.new tag blocks result }
+        ensures put { EndpointPuts tag blocks result self.old self.new }
         ensures last { IfOk result (λ no. no ≤ MAX_MESSAGES) }
-        ensures refused { OnErr result (OnlySaw self.old self.new) }
     {
         match self.line.put(rt, tag, blocks) {
             Ok(no) => {
@@ -267,9 +263,8 @@ impl ChannelEnd {
         tag: u16,
         blocks: ArrayVec<u16, MAX_BLOCKS>,
     ) -> Result<u64, Unsent>
-        ensures put { EndpointPuts self.old self.new tag blocks result }
+        ensures put { EndpointPuts tag blocks result self.old self.new }
         ensures last { IfOk result (λ no. no ≤ MAX_MESSAGES) }
-        ensures kept { OnErr result (Unpushed self.old self.new (message (suc (length self.old.sent)) tag blocks)) }
     {
         if self.has_contract {
             self.put_on_line(rt, tag, blocks)
@@ -280,8 +275,7 @@ impl ChannelEnd {
 
     /// Takes from the queue, or from the line where the channel has a contract.
     pub fn take<R: Wait>(&mut self, rt: &R) -> Result<Message, Refused>
-        ensures taken { EndpointTakes self.old self.new result }
-        ensures kept { OnErr result (OnlySaw self.old self.new) }
+        ensures taken { EndpointTakes result self.old self.new }
     {
         if self.has_contract {
             self.line.take(rt)

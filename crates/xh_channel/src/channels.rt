@@ -1,10 +1,9 @@
 //! All channels of a heap.
-ghost use Rattle.std.specs.Prelude.{◌≡◌, ℕ, ◌+◌, ◌*◌, ◌<◌, ◌≤◌, ◌⊎◌, suc, true, false, is_some, length, IfOk, IfErr, IfSome, OnErr, None, Some};
+ghost use Rattle.std.specs.Prelude.{◌≡◌, ℕ, ◌+◌, ◌*◌, ◌<◌, ◌≤◌, ◌⊎◌, true, false, is_some, length, IfOk, IfErr, IfSome, None, Some};
 ghost use Rattle.xh_model.specs.Rows.{row_at};
 ghost use Rattle.xh_model.specs.declared.limits.TheConstants.{CHANNELS, MAX_DEPTH, MAX_MESSAGES, PLACES};
-ghost use Rattle.xh_channel.specs.Calls.{EndpointPuts, EndpointShuts, EndpointTakes, OnlySaw, Unopened, Unpushed};
+ghost use Rattle.xh_channel.specs.Calls.{EndpointPuts, EndpointShuts, EndpointTakes, Unopened};
 ghost use Rattle.xh_channel.specs.inner.FreeNumbers.{StandAtTheirNumbers, at_place, has_depth};
-ghost use Rattle.xh_channel.specs.Numbers.{message};
 ghost use Rattle.xh_channel.specs.Pairs.{IsPair};
 ghost use Rattle.xh_channel.specs.Queues.{IsNewDirection};
 ghost use Rattle.xh_channel.specs.declared.refused.Refused.TheVariants.{OutOfMemory, BadSize};
@@ -277,9 +276,8 @@ impl Channels {
         tag: u16,
         blocks: ArrayVec<u16, MAX_BLOCKS>,
     ) -> Result<u64, Unsent>
-        ensures put { EndpointPuts end.old end.new tag blocks result }
+        ensures put { EndpointPuts tag blocks result end.old end.new }
         ensures last { IfOk result (λ no. no ≤ MAX_MESSAGES) }
-        ensures kept { OnErr result (Unpushed end.old end.new (message (suc (length end.old.sent)) tag blocks)) }
     {
         let no = end.inner.put(rt, tag, blocks)?;
         end.inner.signal.raise();
@@ -290,8 +288,7 @@ impl Channels {
     /// end's state. With none, PeerClosed where the peer was seen shut before it looked for one, and else Empty: this end has taken all
     /// that it was told were put. An end that was shut still takes what is left.
     pub fn take<R: Wait>(&self, rt: &R, end: &mut Endpoint) -> Result<Message, Refused>
-        ensures taken { EndpointTakes end.old end.new result }
-        ensures kept { OnErr result (OnlySaw end.old end.new) }
+        ensures taken { EndpointTakes result end.old end.new }
     {
         let taken = end.inner.take(rt);
         if taken.is_ok() {

@@ -1,8 +1,8 @@
 //! An end's seat at the line of its channel.
-ghost use Rattle.std.specs.Prelude.{◌≡◌, ◌+◌, ◌<◌, ◌≤◌, IfOk, OnErr};
+ghost use Rattle.std.specs.Prelude.{◌≡◌, ◌+◌, ◌<◌, ◌≤◌, IfOk};
 ghost use Rattle.xh_model.specs.declared.limits.TheConstants.{MAX_DEPTH, MAX_MESSAGES};
 ghost use Rattle.xh_channel.specs.Agreement.{AgreesWith};
-ghost use Rattle.xh_channel.specs.Calls.{EndpointPuts, EndpointShuts, EndpointTakes, OnlySaw};
+ghost use Rattle.xh_channel.specs.Calls.{EndpointPuts, EndpointShuts, EndpointTakes};
 ghost use Rattle.xh_channel.specs.Endpoint.{EndpointOf};
 ghost use Rattle.xh_channel.specs.LineSeats.{AreAcross, IsBegun, IsBlank, SeatDoes, begun, on_line, told_across};
 ghost use Rattle.std.specs.Arc.{arc_value};
@@ -137,7 +137,7 @@ impl LineSeat {
         blocks: ArrayVec<u16, MAX_BLOCKS>,
     ) -> Result<u64, Unsent>
         requires { IsBegun self.old }
-        ensures put { SeatDoes self.old self.new (λ e e'. EndpointPuts e e' tag blocks result × OnErr result (OnlySaw e e')) }
+        ensures put { SeatDoes self.old self.new (EndpointPuts tag blocks result) }
         ensures same { (self.new.side ≡ self.old.side) × (self.new.depth ≡ self.old.depth) }
         ensures last { IfOk result (λ no. no ≤ MAX_MESSAGES) }
     {
@@ -154,7 +154,7 @@ impl LineSeat {
     /// The message that comes next. Where none waits, PeerClosed if the peer is shut, else Empty.
     pub fn take<R: Wait>(&mut self, rt: &R) -> Result<Message, Refused>
         requires { IsBegun self.old }
-        ensures taken { SeatDoes self.old self.new (λ e e'. EndpointTakes e e' result × OnErr result (OnlySaw e e')) }
+        ensures taken { SeatDoes self.old self.new (EndpointTakes result) }
         ensures same { (self.new.side ≡ self.old.side) × (self.new.depth ≡ self.old.depth) }
     {
         let board = &self.table.shared;

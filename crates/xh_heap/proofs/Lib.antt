@@ -1,3 +1,4 @@
 mod InTurn
 mod Named
 mod Several
+mod Wired

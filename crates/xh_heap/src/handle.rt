@@ -1,5 +1,5 @@
 //! A process of a kernel.
-ghost use Rattle.std.specs.Prelude.{IfOk, Ok};
+ghost use Rattle.std.specs.Prelude.{◌≡◌, MatchResult, Ok};
 ghost use Rattle.xh_kernel.specs.Accounts.{AccountOf};
 ghost use Rattle.xh_kernel.specs.Waits.{SpawnsAt};
 
@@ -58,7 +58,7 @@ impl<'a, 'k, N: Names, R: Wait> Handle<'a, 'k, N, R> {
         kernel: &'a Kernel<N>,
         spares: &'a Spares<'k, N>,
     ) -> Result<Handle<'a, 'k, N, R>, Refused>
-        ensures { IfOk result (λ p. (before : AccountOf) × SpawnsAt N.parts N.leads before p.account.now (Ok p.number)) }
+        ensures { MatchResult result (λ p. (before : AccountOf) × SpawnsAt N.parts N.leads before p.account.now (Ok p.number)) (λ why. why ≡ Refused.NoPlace) }
     {
         let Some((account, look)) = spares.lock(rt).pop() else {
             return Err(Refused::NoPlace);

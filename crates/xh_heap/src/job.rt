@@ -1,5 +1,6 @@
 //! What is done on a heap.
-ghost use Rattle.std.specs.Prelude.{◌≡◌, ◌<◌, ◌≤◌, HoldsAt, IfErr, IfOk, length};
+ghost use Rattle.std.specs.Prelude.{◌≡◌, ◌<◌, ◌≤◌, HoldsAt, IfErr, IfOk, None, Some, length};
+ghost use Rattle.xh_heap.specs.Teams.{OpensOwn, WiresTo, WiresTwo};
 
 use crate::process::Process;
 use crate::values::End;
@@ -21,12 +22,11 @@ impl<'a, P: Process> Team<'a, P> {
     }
 
     /// A channel between two: side 0 is of the process at `one`, side 1 of that at `other`. NoProcess of an index, then
-    /// as `Process::wire`.
-    pub fn wire(&mut self, one: usize, other: usize) -> Result<(End, End), Refused> {
-        match self.pair(one, other)? {
-            (own, Some(other)) => own.wire(other),
-            (own, None) => own.open(),
-        }
+    /// as `Process::wire`, or as `Process::open` where both are one.
+    pub fn wire(&mut self, one: usize, other: usize) -> Result<(End, End), Refused>
+        ensures { WiresTwo P.parts P.leads None P.handle one other self.old.all.now self.new.all.now result }
+    {
+        connect(self.all, one, other, None)
     }
 
     /// As `wire`; the channel goes by the contract.
@@ -35,31 +35,56 @@ impl<'a, P: Process> Team<'a, P> {
         one: usize,
         other: usize,
         contract: Contract,
-    ) -> Result<(End, End), Refused> {
-        match self.pair(one, other)? {
-            (own, Some(other)) => own.wire_with(other, contract),
-            (own, None) => own.open_with(contract),
-        }
+    ) -> Result<(End, End), Refused>
+        ensures { WiresTwo P.parts P.leads (Some contract) P.handle one other self.old.all.now self.new.all.now result }
+    {
+        connect(self.all, one, other, Some(contract))
     }
+}
 
-    // The process at `one`, and that at `other`, where it is another.
-    fn pair(&mut self, one: usize, other: usize) -> Result<(&mut P, Option<&P>), Refused> {
-        if one == other {
-            return Ok((self.at(one)?, None));
-        }
-        let all = &mut self.all[..];
-        let last = one.max(other);
-        if all.len() <= last {
-            return Err(Refused::NoProcess);
-        }
-        let (low, high) = all.split_at_mut(last);
-        if one < other {
-            let high = &*high;
-            Ok((&mut low[one], Some(&high[0])))
-        } else {
-            let low = &*low;
-            Ok((&mut high[0], Some(&low[other])))
-        }
+// A channel of two of these, by a contract or by none.
+fn connect<P: Process>(
+    all: &mut [P],
+    one: usize,
+    other: usize,
+    contract: Option<Contract>,
+) -> Result<(End, End), Refused>
+    ensures { WiresTwo P.parts P.leads contract P.handle one other all.old all.new result }
+{
+    if all.len() <= one.max(other) {
+        return Err(Refused::NoProcess);
+    }
+    if one == other {
+        return open_by(&mut all[one], contract);
+    }
+    if one < other {
+        let (low, high) = all.split_at_mut(other);
+        wire_by(&mut low[one], &high[0], contract)
+    } else {
+        let (low, high) = all.split_at_mut(one);
+        wire_by(&mut high[0], &low[other], contract)
+    }
+}
+
+fn open_by<P: Process>(own: &mut P, contract: Option<Contract>) -> Result<(End, End), Refused>
+    ensures { OpensOwn P.parts P.leads contract (P.handle own.old) (P.handle own.new) result }
+{
+    match contract {
+        Some(contract) => own.open_with(contract),
+        None => own.open(),
+    }
+}
+
+fn wire_by<P: Process>(
+    own: &mut P,
+    other: &P,
+    contract: Option<Contract>,
+) -> Result<(End, End), Refused>
+    ensures { WiresTo P.parts P.leads contract (P.handle other.now) (P.handle own.old) (P.handle own.new) result }
+{
+    match contract {
+        Some(contract) => own.wire_with(other, contract),
+        None => own.wire(other),
     }
 }
 

@@ -48,9 +48,9 @@ pub trait Process: Drop {
         ensures { result ≡ (handle self.now).number };
 
     /// A new process, by a handle of its own. NoPlace where 33 handles are there, or each of the 32 places has a process that runs
-    /// or is ending, or had its 2,047.
+    /// or is ending, or had its 2,047; nothing else refuses.
     fn spawn(&self) -> Result<Self, Refused>
-        ensures { IfOk result (λ p. (before : AccountOf) × SpawnsAt parts leads before (handle p).account (Ok (handle p).number)) };
+        ensures { MatchResult result (λ p. (before : AccountOf) × SpawnsAt parts leads before (handle p).account (Ok (handle p).number)) (λ why. why ≡ refused.NoPlace) };
 
     /// A block of `n` bytes of arena 0, as `alloc_in`.
     fn alloc(&mut self, n: u32) -> Result<Block, Refused>

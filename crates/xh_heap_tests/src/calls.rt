@@ -102,20 +102,28 @@ fn rooms<P: Process>(own: &mut P, other: &mut P) -> Result<[u64; 8], Refused> {
     ])
 }
 
-/// By its contract side 0 gives messages of the tag 5.
-pub const FIVES: &[Row] = &[Row {
-    state: 0,
-    tag: 5,
-    side: 0,
-    next: 0,
-}];
+/// Side 0 asks by the tag 5, and side 1 answers by 6.
+pub const ASK: &[Row] = &[
+    Row {
+        state: 0,
+        tag: 5,
+        side: 0,
+        next: 1,
+    },
+    Row {
+        state: 1,
+        tag: 6,
+        side: 1,
+        next: 0,
+    },
+];
 
 /// Channels of one process and of two, under a contract and without one; an end is closed.
 fn channels<P: Process>(own: &mut P, other: &mut P) -> Result<[u64; 8], Refused> {
     let (low, high) = own.open()?;
     own.give(&low, 3, Items::new())?;
-    let (ruled, _) = own.open_with(Contract::new(FIVES)?)?;
-    let (wired, at_other) = own.wire_with(other, Contract::new(FIVES)?)?;
+    let (ruled, _) = own.open_with(Contract::new(ASK)?)?;
+    let (wired, at_other) = own.wire_with(other, Contract::new(ASK)?)?;
     Ok([
         tag_of(own.take(&high)),
         code(own.give(&ruled, 4, Items::new())),

@@ -1,5 +1,5 @@
 //! Whole runs: their limits, refused plans, handles that are dropped, and refused growths.
-use crate::calls::{FIVES, code, tag_at, tag_of};
+use crate::calls::{ASK, code, tag_at, tag_of};
 use std::alloc::Global;
 use std::process::Abort;
 use std::time::Duration;
@@ -57,7 +57,7 @@ impl Job for Planned {
     type Answer = (usize, u64);
 
     fn plan<P: Process>(&self, team: &mut Team<P>) -> Result<[u64; 4], Refused> {
-        let (out, into) = team.wire_with(1, 0, Contract::new(FIVES)?)?;
+        let (out, into) = team.wire_with(1, 0, Contract::new(ASK)?)?;
         Ok([
             code(team.at(1)?.give(&out, 4, Items::new())),
             code(team.at(1)?.give(&out, 5, Items::new())),
@@ -87,24 +87,38 @@ fn each_does_its_work_once(rt: HostRuntime) {
     assert!(rt; text.as_str().starts_with(ARENA));
 }
 
-/// The first two wait for each other until the third kills the first.
-struct Locked;
+/// The first two wait for each other; the third waits for a word of the first, in vain, and ends it.
+#[derive(Drop)]
+struct Watched<R> {
+    rt: R,
+}
 
-impl Job for Locked {
-    type Plan = ((End, End), u16);
+impl<R: Print + Drop> Watched<R> {
+    fn watch<P: Process>(&self, own: &mut P, quiet: &End, first: u16) -> Result<u64, Refused> {
+        if let Err(Refused::Empty) = own.take_for(quiet, Duration::from_millis(20)) {
+            let _ = println!(self.rt; "{}", own.overview());
+            return own.kill(first);
+        }
+        Ok(0)
+    }
+}
+
+impl<R: Print + Drop> Job for Watched<R> {
+    type Plan = ((End, End), End, u16);
 
     type Answer = u64;
 
     fn plan<P: Process>(&self, team: &mut Team<P>) -> Result<Self::Plan, Refused> {
-        Ok((team.wire(0, 1)?, team.at(0)?.number()))
+        let (quiet, _) = team.wire(2, 0)?;
+        Ok((team.wire(0, 1)?, quiet, team.at(0)?.number()))
     }
 
     fn work<P: Process>(&self, plan: &Self::Plan, index: usize, own: &mut P) -> u64 {
-        let ((one, other), first) = plan;
+        let ((one, other), quiet, first) = plan;
         match index {
             0 => tag_of(own.take_wait(one)),
             1 => tag_of(own.take_wait(other)),
-            _ => code(own.kill(*first)),
+            _ => code(self.watch(own, quiet, *first)),
         }
     }
 }
@@ -180,9 +194,9 @@ fn who_waits_is_seen(rt: HostRuntime) {
 /// A run of which a thread is refused begins no work, and says so. The gate refuses each in turn.
 #[test]
 fn threads_of_a_run(rt: HostRuntime) {
-    match run(&rt, rt.alloc(), one_arena(1024), 3, &Locked) {
+    match run(&rt, rt.alloc(), one_arena(1024), 3, &Watched { rt: &rt }) {
         Ok(closed) => {
-            assert_eq!(rt; closed.answers.as_slice(), [1012, 1015, 32].as_slice());
+            assert_eq!(rt; closed.answers.as_slice(), [1012, 1015, 64].as_slice());
         }
         Err(refused) => {
             assert_eq!(rt; refused.name(), "OutOfMemory");

@@ -1,5 +1,4 @@
-//! Two processes, each on a thread of its own: one gives the other a block with a text, which is not copied on its way,
-//! and the other counts its words.
+//! Two processes on threads: one gives the other a block with a text, and the other counts its words.
 #![tactic(auto)]
 
 use xh_heap::{End, Job, Process, Refused, Team, one_arena, run};

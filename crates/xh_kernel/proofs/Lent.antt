@@ -18,7 +18,7 @@ use Rattle.xh_model.proofs.Keyed.{put_at}
 use Rattle.xh_model.specs.Keyed.{put, value_at}
 use Rattle.xh_place.specs.Bodies.{bytes, patched}
 use Rattle.xh_place.specs.Calls.{HasBytes, Lends, LendsMut, Reads, Writes, bytes_in, made_of}
-use Rattle.xh_place.specs.Places.{Item, PlaceOf, found, header_of, with_blocks}
+use Rattle.xh_place.specs.Places.{Item, PlaceOf, found, header_of}
 use Rattle.xh_place.specs.Seen.{Did}
 
 -- the bytes of the block of a record; none of an endpoint, and none where there is no block
@@ -64,18 +64,18 @@ all_over xs ys long =
 
 is_write : (p r : ℕ) (old new : PlaceSeen) (xs ys : List ℕ) → IsSamePlace old new → Did old.place.process [] old.front new.front → HasBytes r old.place xs → length ys ≡ length xs
     → first_refusal (start (status_at p old.place) ++ range_tests (found old.place r) 0 0) ≡ None
-    → new.place ≡ with_blocks old.place (put r (made_of ys) old.place.blocks) → Writes (status_at p old.place) r 0 ys old new (Ok tt)
+    → new.place ≡ record old.place { blocks = put r (made_of ys) old.place.blocks } → Writes (status_at p old.place) r 0 ys old new (Ok tt)
 is_write p r old new xs ys same quiet has long fine is = let le : length ys ≤ length xs = omega arith in record {
   place = same;
   quiet = quiet;
   written = (
     passes (start (status_at p old.place)) xs (length ys) (found old.place r) (ap (option_map header_of) has) le fine,
-    (made_of xs, has, is ∙ ap (λ (x : Item). with_blocks old.place (put r x old.place.blocks)) (all_over xs ys long)),
+    (made_of xs, has, is ∙ ap (λ (x : Item). record old.place { blocks = put r x old.place.blocks }) (all_over xs ys long)),
   );
   refused = tt;
 }
 
-has_left : (r : ℕ) (old new : PlaceOf) (xs ys : List ℕ) → HasBytes r old xs → new ≡ with_blocks old (put r (made_of ys) old.blocks) → HasBytes r new ys
+has_left : (r : ℕ) (old new : PlaceOf) (xs ys : List ℕ) → HasBytes r old xs → new ≡ record old { blocks = put r (made_of ys) old.blocks } → HasBytes r new ys
 has_left r old new xs ys has is = ap (λ (q : PlaceOf). value_at r q.blocks) is ∙ put_at r (made_of ys) (made_of xs) old.blocks has
 
 -- ---- what the notes say is what was done

@@ -1,10 +1,10 @@
 -- What contracts see of an account, and what calls do to it.
-use Rattle.std.specs.Prelude.{◌≡◌, ℕ, ◌*◌, ◌<◌, List, [], map, replicate, slice_index_or, length, Option, Some, None, Result, IfErr, MatchResult}
+use Rattle.std.specs.Prelude.{◌≡◌, ℕ, ◌*◌, ◌<◌, ◌≤◌, List, [], ◌∷◌, map, replicate, slice_index_or, length, Option, Some, None, Result, IfErr, MatchResult}
 use Rattle.atomic_table.specs.Seated.{TableId}
 use Rattle.xh_arena.specs.Views.{TallyOf, VaultOf}
 use Rattle.xh_calls.specs.Parts.{PartsOf}
 use Rattle.xh_calls.specs.Tallies.{fresh_tally}
-use Rattle.xh_calls.specs.Vaults.{AsksVault, Tells}
+use Rattle.xh_calls.specs.Vaults.{AsksVault, EntersEach, Tells}
 use Rattle.xh_core.specs.declared.ledger.ArenaLine.{ArenaLine}
 use Rattle.xh_core.specs.declared.refused.Refused.{Refused}
 use Rattle.xh_history.specs.Histories.{FrontOf, History}
@@ -31,25 +31,29 @@ moved_of (Some t) = Some (t.taken, t.back)
 abbrev pub IsUnmoved : AccountOf → AccountOf → Type 0
 IsUnmoved old new = (new.number ≡ old.number) × (new.tallies ≡ old.tallies)
 
--- so, and no arena was asked: of their histories the worker has seen what it had
+-- the worker called on these arenas, one after another, and signed each call: of all others' histories it has seen what it had
+abbrev pub Asked : List ℕ → AccountOf → AccountOf → Type 0
+Asked arenas old new = (new.signs ≡ old.signs) × EntersEach arenas old.signs old.vaults new.vaults
+
+-- no bytes were moved, and no arena was asked
 abbrev pub IsStill : AccountOf → AccountOf → Type 0
-IsStill old new = IsUnmoved old new × (new.signs ≡ old.signs) × (new.vaults ≡ old.vaults)
+IsStill old new = IsUnmoved old new × Asked [] old new
 
--- n bytes of the arena were taken
-abbrev pub HasTaken : ℕ → ℕ → AccountOf → AccountOf → Type 0
-HasTaken arena n old new = (new.number ≡ old.number) × (new.tallies ≡ took arena n old.tallies)
+-- n bytes of the arena were taken, by calls on these
+abbrev pub HasTaken : ℕ → ℕ → List ℕ → AccountOf → AccountOf → Type 0
+HasTaken arena n arenas old new = (new.number ≡ old.number) × (new.tallies ≡ took arena n old.tallies) × Asked arenas old new
 
--- n bytes of the arena, which there is, were given back
+-- n bytes of the arena, which there is, were given back, by one call on it
 abbrev pub HasGiven : ℕ → ℕ → AccountOf → AccountOf → Type 0
-HasGiven arena n old new = (new.number ≡ old.number) × (new.tallies ≡ gave arena n old.tallies) × (arena < length old.tallies)
+HasGiven arena n old new = (new.number ≡ old.number) × (new.tallies ≡ gave arena n old.tallies) × (arena < length old.tallies) × Asked (arena ∷ []) old new
 
--- so many bytes were given back, of each arena some or none, and no others moved
+-- so many bytes were given back, of each arena some or none, and no others moved, by no more calls on arenas
 abbrev pub HasBack : ℕ → AccountOf → AccountOf → Type 0
-HasBack bytes old new = (new.number ≡ old.number) × HasGivenBack bytes old.tallies new.tallies
+HasBack bytes old new = (new.number ≡ old.number) × HasGivenBack bytes old.tallies new.tallies × ((arenas : List ℕ) × Asked arenas old new × (length arenas ≤ bytes))
 
--- where both ends of a channel came 64 bytes of the arena were taken
+-- where both ends of a channel came 64 bytes of the arena were taken, by a carve and a cut
 abbrev pub TakesEnds : ℕ → AccountOf → AccountOf → {A : Type 0} → Result A Refused → Type 0
-TakesEnds arena old new result = MatchResult result (λ _. HasTaken arena (2 * END_BYTES) old new) (λ _. IsUnmoved old new)
+TakesEnds arena old new result = MatchResult result (λ _. HasTaken arena (2 * END_BYTES) (arena ∷ arena ∷ []) old new) (λ _. IsUnmoved old new)
 
 -- the account of the worker k, with nothing taken and nothing seen, over vaults of these names
 abbrev pub fresh : List TableId → ℕ → AccountOf

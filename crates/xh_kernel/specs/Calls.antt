@@ -6,7 +6,7 @@ use Rattle.xh_calls.specs.declared.call.Entry.{Entry}
 use Rattle.xh_calls.specs.Leading.{Leading}
 use Rattle.xh_core.specs.declared.glance.Glance.{Glance}
 use Rattle.xh_history.specs.Histories.{History, at, calls_of}
-use Rattle.xh_kernel.specs.Accounts.{AccountOf, HasBack, HasGiven, HasTaken, IsStill, IsUnmoved, TakesEnds}
+use Rattle.xh_kernel.specs.Accounts.{AccountOf, Asked, HasBack, HasGiven, HasTaken, IsStill, IsUnmoved, TakesEnds}
 use Rattle.xh_model.specs.declared.limits.TheConstants.{MAX_RECORDS}
 use Rattle.xh_place.specs.Seen.{PlaceSeen}
 
@@ -21,13 +21,13 @@ pub record Noted (k : ℕ) (e : Call) (number : ℕ) (old new : List (History En
 abbrev pub Steps : Leading → ℕ → History Entry → (PlaceSeen → PlaceSeen → Type 0) → Type 0
 Steps leads k h R = ∥ ((earlier : History Entry) × (c : ℕ × Entry) × (old : PlaceSeen) × (new : PlaceSeen) × (h ≡ earlier ++ c ∷ []) × leads k earlier old × leads k h new × R old new) ∥₁
 
--- the bytes that the call took and gave back, arena by arena, by the account; and where it can have asked no arena, that it hasn't
+-- the bytes that the call took and gave back, arena by arena, by the account, and the calls on arenas that it made; of one that was refused for want of space `VaultRefuses` says these
 abbrev pub Moves : Call → AccountOf → AccountOf → Type 0
-Moves (call.Alloc p n arena result) old new = MatchResult result (λ b. HasTaken arena b.len old new) (λ _. IsUnmoved old new)
-Moves (call.Put p xs arena result) old new = MatchResult result (λ b. HasTaken arena b.len old new) (λ _. IsUnmoved old new)
+Moves (call.Alloc p n arena result) old new = MatchResult result (λ b. HasTaken arena b.len (arena ∷ []) old new) (λ _. IsUnmoved old new)
+Moves (call.Put p xs arena result) old new = MatchResult result (λ b. HasTaken arena b.len (arena ∷ []) old new) (λ _. IsUnmoved old new)
 Moves (call.Free p r result) old new = MatchResult result (λ n. HasGiven (r / MAX_RECORDS) n old new) (λ _. IsStill old new)
 Moves (call.IntoBytes p r result) old new = MatchResult result (λ xs. HasGiven (r / MAX_RECORDS) (length xs) old new) (λ _. IsStill old new)
-Moves (call.Split p r k result) old new = MatchResult result (λ _. IsUnmoved old new) (λ _. IsStill old new)
+Moves (call.Split p r k result) old new = MatchResult result (λ _. IsUnmoved old new × Asked (r / MAX_RECORDS ∷ []) old new) (λ _. IsStill old new)
 Moves (call.Open p arena contract result) old new = TakesEnds arena old new result
 Moves (call.OpenToward p arena contract result) old new = TakesEnds arena old new result
 Moves (call.Receive q r channel bytes result) old new = HasBack bytes old new

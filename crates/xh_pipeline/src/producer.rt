@@ -1,31 +1,29 @@
-//! The producer: it makes the blocks, round by round, and makes a round again that was lost.
+//! The producer: it makes the frames, round by round, and makes a round again that was lost.
 
-use crate::protocol::{BLOCK, DATA, EACH, END, ROUNDS, WHOLE, next_end};
-use xh_heap::{End, Items, Process, Refused, Returned};
+use crate::protocol::{DATA, EACH, END, FRAME, ROUNDS, WHOLE, next_end};
+use xh_heap::{End, Items, Process, Refused};
 
-// Makes the blocks of a round and gives them; the first byte of a block is its number. Where the receiver is gone,
-// the block has come back, and is freed.
+// Makes the frames of a round and gives them; the first byte of a frame is its number. Each waits for memory until the stage has
+// taken the one before out of the heap. Where the receiver is gone, the frame has come back, and is freed.
 fn give_round<P: Process>(own: &mut P, out: &End, round: u8) -> Result<(), Refused> {
     for index in 0..EACH {
-        let block = own.alloc(BLOCK)?;
-        own.write(&block, 0, &[round.wrapping_mul(EACH).wrapping_add(index)])?;
-        match own.give_block(out, DATA, block) {
-            Ok(_number) => {}
-            Err(
-                Returned {
-                    why: Refused::PeerClosed { back: _ },
-                    value: Some(block),
-                },
-            ) => {
-                own.free(block)?;
-            }
-            Err(refused) => return Err(refused.why),
+        let number = round.wrapping_mul(EACH).wrapping_add(index);
+        let frame = own.alloc_wait(0, FRAME)?;
+        own.write(&frame, 0, &[number])?;
+        let Err(refused) = own.give_block(out, DATA, frame) else {
+            continue;
+        };
+        let Refused::PeerClosed { back: _ } = refused.why else {
+            return Err(refused.why);
+        };
+        if let Some(frame) = refused.value {
+            own.free(frame)?;
         }
     }
     Ok(())
 }
 
-/// Makes each round until it came whole. The end by which blocks go out comes from the supervisor, and a new one for it where
+/// Makes each round until it came whole. The end by which frames go out comes from the supervisor, and a new one for it where
 /// a round was lost.
 pub(crate) fn produce<P: Process>(
     own: &mut P,

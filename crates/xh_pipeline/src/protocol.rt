@@ -2,21 +2,21 @@
 
 use xh_heap::{End, Process, Refused};
 
-/// The bytes of a block.
-pub(crate) const BLOCK: u32 = 64 * 1024;
+/// The bytes of a frame.
+pub(crate) const FRAME: u32 = 8 << 20;
 
-/// How many rounds there are, and how many blocks a round has. The producer waits for each round's end.
-pub(crate) const ROUNDS: u8 = 16;
+/// How many rounds there are, and how many frames a round has. The producer waits for each round's end.
+pub(crate) const ROUNDS: u8 = 4;
 
-pub(crate) const EACH: u8 = 4;
+pub(crate) const EACH: u8 = 2;
 
-/// The first stage hangs at the block after so many.
-pub(crate) const LIMIT: u32 = 32;
+/// The first stage hangs at the frame after so many, the last of a round: no frame is in arena 0 while new ends are made there.
+pub(crate) const LIMIT: u32 = 5;
 
-/// What each stage adds to the first byte of a block.
+/// What each stage adds to the first byte of a frame.
 pub(crate) const MARK: u8 = 64;
 
-/// The tags of messages. A block on its way; blocks before this message may be missing; no block
+/// The tags of messages. A frame on its way; frames before this message may be missing; no frame
 /// comes after it.
 pub(crate) const DATA: u16 = 0;
 

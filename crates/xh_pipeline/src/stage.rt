@@ -1,9 +1,9 @@
-//! A stage: it marks each block that comes, and gives it on.
+//! A stage: it marks each frame that comes, and gives it on.
 
 use crate::protocol::{DATA, END, HUNG, LOST, MARK, next_end};
 use xh_heap::{Block, End, Items, Process, Refused};
 
-/// Where a stage stands: its ends to the supervisor, for what comes and for what goes. With a limit it hangs at the block after so
+/// Where a stage stands: its ends to the supervisor, for what comes and for what goes. With a limit it hangs at the frame after so
 /// many.
 #[derive(Drop)]
 pub(crate) struct Post {
@@ -13,16 +13,18 @@ pub(crate) struct Post {
     pub(crate) limit: Option<u32>,
 }
 
-// Marks a block and gives it on.
-fn pass<P: Process>(own: &mut P, out: &End, block: Block) -> Result<(), Refused> {
-    let mut first = [0];
-    own.read(&block, 0, &mut first)?;
-    own.write(&block, 0, &[first[0].wrapping_add(MARK)])?;
-    own.give_block(out, DATA, block)?;
+// Marks a frame and gives it on.
+fn pass<P: Process>(own: &mut P, out: &End, frame: Block) -> Result<(), Refused> {
+    let mut bytes = own.into_bytes(frame)?;
+    if let Some(first) = bytes.first_mut() {
+        *first = first.wrapping_add(MARK);
+    }
+    let frame = own.put_in(1, &mut bytes)?;
+    own.give_block(out, DATA, frame)?;
     Ok(())
 }
 
-/// Marks blocks until no more come. Where the stage before was killed, the next one learns it, and a new endpoint comes for the
+/// Marks frames until no more come. Where the stage before was killed, the next one learns it, and a new endpoint comes for the
 /// old one.
 pub(crate) fn stage<P: Process>(
     own: &mut P,

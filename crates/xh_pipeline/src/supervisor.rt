@@ -26,15 +26,13 @@ pub(crate) fn supervise<P: Process>(
         let (watched, control) = own.wire(&stage)?;
         let (to_stage, input) = own.wire(&stage)?;
         let (from_stage, out) = own.wire(&stage)?;
-        threads.start(
-            stage,
-            Post {
-                control,
-                input,
-                out,
-                limit,
-            },
-        )?;
+        let post = Post {
+            control,
+            input,
+            out,
+            limit,
+        };
+        threads.start(stage, post)?;
         give_end(own, &plan.producer.0, to_stage)?;
         give_end(own, &plan.second.0, from_stage)?;
         if own.take_wait(&watched).is_ok() {

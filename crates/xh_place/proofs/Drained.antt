@@ -2,7 +2,7 @@
 use Rattle.xh_place.specs.Seen.{Sight, bears, brings}
 use Rattle.xh_place.proofs.Words.{on_err_weaker, ◌≡◌, ℕ, ◌≤◌, inl, inr, List, [], ◌∷◌, ◌++◌, append_assoc, append-nil, length, refl, sym, ap, ◌∙◌, subst, Some, None, Option, Ok, Err, Result}
 use Rattle.xh_place.proofs.Words.{MatchResult, map, map-append, Message, EndpointOf, Refused, put, value_at, front_at, put_at, put_same, put_twice, Content, bytes, endpoint, kind_of, toward, Taken}
-use Rattle.xh_place.proofs.Words.{AreGot, Body, EndsWith, Event, IsDrained, EndpointShuts, Got, Shape, StartsWith, Takes, TakesEach, blocks_of, record_of, EndDoes, end_block, toward_in}
+use Rattle.xh_place.proofs.Words.{AreGot, Body, EndsWith, Event, IsDrained, EndpointShuts, Got, Shape, StartsWith, EndpointTakes, TakesEach, blocks_of, record_of, EndDoes, end_block, toward_in}
 use Rattle.xh_place.proofs.Words.{away_in, Clears}
 use Rattle.xh_place.proofs.Words.{Becomes, Did, Drains, IsUntaken, IsSeenAfter, IsSent, IsTaken, Item, PlaceOf, with_blocks, with_more, IsSeen, PlaceSeen, Stays, accepted_on, passed_on, picked}
 use Rattle.xh_place.proofs.Words.{true, false, ◌+◌, arith}
@@ -29,21 +29,21 @@ end_in p (Some x) = end_of p x.content
 one_end : (p q : EndpointOf) → Some (end_block p) ≡ Some (end_block q) → p ≡ q
 one_end p q e = ap (end_in p) e
 
-each_more : (ms : List Message) (m : Message) (old mid new : EndpointOf) → TakesEach ms old mid → Takes (Ok m) mid new → TakesEach (ms ++ m ∷ []) old new
-each_more [] m old mid new each one = (new, subst (λ (p : EndpointOf). Takes (Ok m) p new) each one, refl)
+each_more : (ms : List Message) (m : Message) (old mid new : EndpointOf) → TakesEach ms old mid → EndpointTakes (Ok m) mid new → TakesEach (ms ++ m ∷ []) old new
+each_more [] m old mid new each one = (new, subst (λ (p : EndpointOf). EndpointTakes (Ok m) p new) each one, refl)
 each_more (n ∷ ms) m old mid new each one = (each.0, each.1, each_more ms m each.0 mid new each.2 one)
 
 -- it goes by the contract that it went by
 each_stays : (ms : List Message) (old new : EndpointOf) → TakesEach ms old new → new.contract ≡ old.contract
 each_stays [] old new each = ap (λ (e : EndpointOf). e.contract) each
-each_stays (m ∷ ms) old new each = each_stays ms each.0 new each.2 ∙ ap (λ (e : EndpointOf). e.contract) each.1.answer.1.0
+each_stays (m ∷ ms) old new each = each_stays ms each.0 new each.2 ∙ ap (λ (e : EndpointOf). e.contract) each.1.1.0
 
 -- no more messages come with a contract than may be numbered
 each_few : (ms : List Message) (old new : EndpointOf) → TakesEach ms old new → is_some old.contract ≡ true → 1 ≤ length ms → length old.got + length ms ≤ MAX_MESSAGES
 each_few [] old new each has some = absurd (omega arith)
-each_few (m ∷ []) old new each has some = let no = each.1.answer.0 in let few = each.1.answer.4 has in omega (arith, no, few)
+each_few (m ∷ []) old new each has some = let no = each.1.0 in let few = each.1.4 has in omega (arith, no, few)
 each_few (m ∷ n ∷ ms) old new each has some =
-    let mid : EndpointOf = each.0 in let took = each.1.answer.1.0 in
+    let mid : EndpointOf = each.0 in let took = each.1.1.0 in
     let one : length mid.got ≡ length (old.got ++ m ∷ []) = ap (λ (e : EndpointOf). length e.got) took in
     let more = each_few (n ∷ ms) mid new each.2 (ap (λ (e : EndpointOf). is_some e.contract) took ∙ has) (omega arith) in
     omega (arith, one, length-append old.got (m ∷ []), more)
@@ -104,11 +104,11 @@ module _ (saw : ℕ → Sight → Type 0) (e : ℕ) (ms : List Message) (ys : Li
   same_after : (p : EndpointOf) → value_at e mid.blocks ≡ Some (end_block p) → p ≡ after
   same_after p at = one_end p after (sym at ∙ draining_at)
 
-  pub draining_more : (next new : PlaceOf) (m : Message) (zs : List (ℕ × Item)) (gots : List Got) → EndDoes e mid next (Takes (Ok m)) → map record_of gots ≡ m.blocks.items
+  pub draining_more : (next new : PlaceOf) (m : Message) (zs : List (ℕ × Item)) (gots : List Got) → EndDoes e mid next (EndpointTakes (Ok m)) → map record_of gots ≡ m.blocks.items
       → AreGot saw (toward_in (value_at e mid.blocks)) zs gots → new ≡ with_more zs next → Draining saw e (ms ++ m ∷ []) (ys ++ zs) old new
   draining_more next new m zs gots does records got list =
       let q : EndpointOf = does.1 in
-      let one : Takes (Ok m) after q = subst (λ (p : EndpointOf). Takes (Ok m) p q) (same_after does.0 does.2) does.4 in
+      let one : EndpointTakes (Ok m) after q = subst (λ (p : EndpointOf). EndpointTakes (Ok m) p q) (same_after does.0 does.2) does.4 in
       let base : PlaceOf = with_blocks old (put e (end_block q) old.blocks) in (
         base,
         is.1 ++ gots,
@@ -121,7 +121,7 @@ module _ (saw : ℕ → Sight → Type 0) (e : ℕ) (ms : List Message) (ys : Li
   pub drained : (new : PlaceOf) (refused : Refused) → IsUntaken e mid new refused → Drains saw e ys old new
   drained new refused t =
       let does = t.1 in let q : EndpointOf = does.1 in
-      let one : Takes (Err t.0) after q = subst (λ (p : EndpointOf). Takes (Err t.0) p q) (same_after does.0 does.2) does.4 in
+      let one : EndpointTakes (Err t.0) after q = subst (λ (p : EndpointOf). EndpointTakes (Err t.0) p q) (same_after does.0 does.2) does.4 in
       (with_blocks old (put e (end_block q) old.blocks), ms, is.1, (before, q, is.2.2, refl, (after, is.2.4, inl (t.0, one))), is.3, is.4, does.3 ∙ draining_put q)
 
   pub drained_all : 18446744073709551615 ≤ length ms → Drains saw e ys old mid
@@ -176,7 +176,7 @@ taken_from e old mid new (Ok taken) same is =
       mid = is.mid;
       m = is.m;
       gained = is.gained;
-      made = subst (λ (p : PlaceOf). EndDoes e p is.mid (Takes (Ok is.m))) same.0 is.made;
+      made = subst (λ (p : PlaceOf). EndDoes e p is.mid (EndpointTakes (Ok is.m))) same.0 is.made;
       told = is.told;
       list = stays_then (with_more is.gained is.mid) (accepted_on old.place.process (toward_in (value_at e old.place.blocks)) is.gained) old mid new same
           (subst (λ (p : PlaceOf). Becomes (with_more is.gained is.mid) (accepted_on p.process (toward_in (value_at e p.blocks)) is.gained) mid new) same.0 is.list);

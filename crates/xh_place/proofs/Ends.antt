@@ -2,7 +2,7 @@
 use Rattle.xh_place.proofs.Words.{rules, refl, Content, bytes, ◌≡◌, ℕ, List, true, sym, ap, ◌∙◌, subst, Some, LotOf, Status, END_BYTES, put, value_at, Shape, IsLotOf, Held, with_lots}
 use Rattle.xh_place.proofs.Words.{EndpointOf, Body, End, content_of}
 use Rattle.xh_place.proofs.Words.{endpoint, fits_in, kind_of, IsEnd, LotDoes, bare, EndDoes, end_block, Item, PlaceOf, IsBlock, IsPlace, item_of, shown, with_blocks, Ok, Err, Result, IfErr}
-use Rattle.xh_place.proofs.Words.{MatchResult, Message, Refused, put_same, toward, Taken, EndpointShuts, Takes, IsTaken, IsUntaken, PlaceSeen, Did, []}
+use Rattle.xh_place.proofs.Words.{MatchResult, Message, Refused, put_same, toward, Taken, EndpointShuts, EndpointTakes, IsTaken, IsUntaken, PlaceSeen, Did, []}
 use Rattle.xh_channel.specs.declared.refused.Refused.{Refused as NoMessage}
 use Rattle.xh_channel.specs.Refusals.{same_refusal}
 use Rattle.xh_core.specs.declared.refused.Refused.TheVariants.{Empty}
@@ -58,20 +58,20 @@ module _ {seat : Held Body} (rs : List ℕ) {room total : ℕ} {state : Status} 
 
 -- ---- an endpoint stays at its direction
 
-pub way_taken : (m : Message) (old new : EndpointOf) → Takes (Ok m) old new → toward (endpoint new) ≡ toward (endpoint old)
-way_taken m old new t = ap (λ (e : EndpointOf). toward (endpoint e)) t.answer.1.0
+pub way_taken : (m : Message) (old new : EndpointOf) → EndpointTakes (Ok m) old new → toward (endpoint new) ≡ toward (endpoint old)
+way_taken m old new t = ap (λ (e : EndpointOf). toward (endpoint e)) t.1.0
 
 pub way_shut : (old new : EndpointOf) → EndpointShuts old new → toward (endpoint new) ≡ toward (endpoint old)
 way_shut old new t = ap (λ (e : EndpointOf). toward (endpoint e)) t.0
 
 -- ---- a take that answers Empty changes nothing
 
-same_end : (p q : EndpointOf) → Takes (Err none.Empty) p q → q ≡ p
-same_end p q t = t.kept.0 ∙ (λ i. record p { peer_shut = (t.answer.2 ∙ sym t.answer.1) i })
+same_end : (p q : EndpointOf) → EndpointTakes (Err none.Empty) p q → q ≡ p
+same_end p q t = t.1.0 ∙ (λ i. record p { peer_shut = (t.0.2 ∙ sym t.0.1) i })
 
 untaken_empty : (e : ℕ) (old new : PlaceOf) → IsUntaken e old new Empty → new ≡ old
 untaken_empty e old new t = go t.0 t.1 t.2 where
-  go : (n : NoMessage) → EndDoes e old new (Takes (Err n)) → Empty ≡ same_refusal n → new ≡ old
+  go : (n : NoMessage) → EndDoes e old new (EndpointTakes (Err n)) → Empty ≡ same_refusal n → new ≡ old
   go none.Empty d h = d.3 ∙ ap (λ (q : EndpointOf). with_blocks old (put e (end_block q) old.blocks)) (same_end d.0 d.1 d.4)
       ∙ ap (with_blocks old) (put_same e (end_block d.0) old.blocks d.2)
   go n d h = absurd (cc)

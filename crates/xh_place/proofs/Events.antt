@@ -20,7 +20,7 @@ own_acts es lots old new h = (own_lots old new lots h.0, h.1)
 
 pub acts_of : (own : List (Deed Body)) (parts : List (Event × Item)) (lots : List (ℕ × LotOf Body)) (x y : Held Body) → HasDone own lots x y → map (λ (d : Deed Body). (d.0, item_of d.1)) own ≡ parts
     → Acts parts lots x y
-acts_of own parts lots x y h e = (ap bare h.0, (own, h.1, e))
+acts_of own parts lots x y h e = (ap bare h.0, (h.1.0, h.1.1, ap (map (λ (d : Deed Body). (d.0, item_of d.1))) h.1.2 ∙ e))
 
 pub acts_none : (lots : List (ℕ × LotOf Body)) (x y : Held Body) → y ≡ with_lots x lots → Acts [] lots x y
 acts_none lots x y e = (ap bare e, did_none x.process x.front y.front (ap (λ (h : Held Body). h.front) e))

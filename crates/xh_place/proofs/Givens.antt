@@ -1,10 +1,12 @@
 -- What the tests of a give let through, its loops over its blocks, and the list that it settles with the seat.
+use Rattle.xh_channel.specs.declared.unsent.Unsent.{Unsent}
+use Rattle.arrayvec.specs.ArrayVec.{ArrayVec}
 use Rattle.xh_place.specs.Bodies.{content_of, kind_of}
 use Rattle.xh_place.proofs.Words.{dec_among, map-append, arith, eqb, eq-eqb, ◌≡◌, ℕ, Bool, true, false, ⊎_elim, List, [], ◌∷◌, refl, sym, ap, ◌∙◌, ◌==◌, ◌||◌, ◌&&◌, Option, Some, None, is_some}
 use Rattle.xh_place.proofs.Words.{nat_tests, list_all, list_any, first_refusal, Among, Distinct, value_at, given_tests, is_listed, Item, ◌≢◌, ◌+◌, ◌*◌, ◌≤◌, inl, inr, length, subst, cond, dite}
 use Rattle.xh_place.proofs.Words.{ℕ_discrete, LotOf, Status, is_over, keys, put, without, distinct_without, put_at, put_keys, put_other, without_at, without_other, Held, with_lots, HasNow, AreBack}
 use Rattle.xh_place.proofs.Words.{lens, less_all, Body, item_at, item_of, item_in, shown, total_of, with_blocks, IsBlock, IsPlace, settle, settled, length-append, append-nil, append_assoc}
-use Rattle.xh_place.proofs.Words.{◌++◌, Acts, Did, Event, Accept, AreGot, Got, IsSeenAfter, IsSeenBy, Shape, map, place_of, record_of}
+use Rattle.xh_place.proofs.Words.{Err, Ok, Result, Refused, OnOk, MatchResult, refusal, ◌++◌, Acts, Did, Event, Accept, AreGot, Got, IsSeenAfter, IsSeenBy, Shape, map, place_of, record_of}
 use Rattle.xh_place.proofs.Words.{StartsWith, Pass, among_either, last_at, last_other, accepted_on, passed_on, SawAt, CameBack}
 use Rattle.xh_core.specs.Several.{has_twice}
 use Rattle.std.proofs.Math.Bool.{or-false}
@@ -14,7 +16,7 @@ use Rattle.xh_place.proofs.Listing.{keys_settled, lens_none, lens_same, shown_ke
 use Rattle.xh_place.proofs.Seeing.{all_got_as, arrived_wide, did_starts, got_both, saw_wide, split_at, starts_same}
 use Rattle.xh_place.specs.Seen.{Arrived, Sight, bears, brings}
 use Rattle.xh_place.specs.declared.got.Got.TheVariants.{Here, Missing}
-use Rattle.xh_records.specs.Deeds.{Deed}
+use Rattle.xh_records.specs.Deeds.{Deed, deeds_by}
 use Rattle.xh_place.proofs.Events.{acts_none, acts_twice, own_acts, shown_append, shown_same}
 
 neither : (a b : Bool) → (a || b) ≡ false → (a ≡ false) × (b ≡ false)
@@ -363,11 +365,11 @@ pub seen_after : (d : ℕ) (given : List ℕ) (old mid new : Held Body) → mid.
     → Did old.process (passed_on old.process d (shown old.lots given)) old.front mid.front → (r : ℕ) → Among given r → (s : Sight) → IsSeenBy mid new r s
     → IsSeenAfter d old.process old.shape old.front new.front r s
 seen_after d given old mid new whose shape did r among (bears word) saw =
-    let p : ℕ = old.process in let t = passed_own p d r old.lots given did.0 did.2 among in let own : Deed Body = (Pass p r d, t.0) in
-    let s = split_at (place_of p) did.1.0 own (subst (λ (z : List (Deed Body)). Among z own) (sym did.1.2) t.1) in
+    let p : ℕ = old.process in let t = passed_own p d r old.lots given (deeds_by (place_of p) did.0) did.2 among in let own : Deed Body = (Pass p r d, t.0) in
+    let s = split_at (place_of p) did.0 own t.1 in
     let before : List (Deed Body) = old.front ++ s.0 in
     let e : mid.front ≡ (before ++ own ∷ []) ++ s.1 =
-    did.1.1 ∙ ap (λ (z : List (Deed Body)). old.front ++ z) s.2 ∙ sym (append_assoc old.front s.0 (own ∷ s.1)) ∙ sym (append_assoc before (own ∷ []) s.1) in (
+    did.1 ∙ ap (λ (z : List (Deed Body)). old.front ++ z) s.2 ∙ sym (append_assoc old.front s.0 (own ∷ s.1)) ∙ sym (append_assoc before (own ∷ []) s.1) in (
       before,
       t.0,
       (s.0, refl),
@@ -382,3 +384,10 @@ pub one_longer : (d r bytes : ℕ) (old new : Held Body) (had back : List ℕ) �
 one_longer d r bytes old new had back came k few = ⊎_elim
     (λ h. let e : length back ≡ length had = ap length h.0 in omega arith)
     (λ h. let e : length back ≡ length had + 1 = ap length h.1 ∙ length-append had (r ∷ []) in omega arith) came
+
+-- a give is answered as its put, with what came back
+pub answered : (numbers : List ℕ) (back : ArrayVec ℕ) (put : Result ℕ Unsent) (result : Result ℕ Refused) → numbers ≡ back.items → OnOk put (back.items ≡ [])
+    → MatchResult put (λ n. result ≡ Ok n) (λ unsent. result ≡ Err (refusal back unsent))
+    → MatchResult put (λ n. (result ≡ Ok n) × (numbers ≡ [])) (λ unsent. (named : ArrayVec ℕ) × (result ≡ Err (refusal named unsent)) × (named.items ≡ numbers))
+answered numbers back (Ok n) result same none is = (is, same ∙ none)
+answered numbers back (Err unsent) result same none is = (back, is, sym same)

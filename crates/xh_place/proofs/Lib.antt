@@ -1,3 +1,4 @@
+pub mod Terms
 pub mod Words
 pub mod Common
 pub mod Listing
@@ -13,3 +14,4 @@ pub mod Parted
 pub mod Lent
 pub mod Ends
 pub mod Drained
+pub mod Stayed

@@ -5,7 +5,7 @@ use Rattle.xh_place.proofs.Words.{EndsWith, toward_in, Clears, Drains, Item, Pla
 use Rattle.xh_place.proofs.Words.{Accept, LotOf, dite, here_first, item_of, not_here, place_of, record_of, ℕ_discrete}
 use Rattle.xh_records.specs.History.{process_of}
 use Rattle.xh_records.specs.Deeds.{Adds, deeds_by}
-use Rattle.xh_records.proofs.Deeds.{adds_more, adds_none}
+use Rattle.xh_records.proofs.Deeds.{deeds_append}
 use Rattle.xh_place.specs.Seen.{Arrived, Sight, bears, brings}
 use Rattle.xh_records.specs.Deeds.{Arrives, Deed}
 use Rattle.xh_arena.specs.Views.{VaultOf}
@@ -24,14 +24,18 @@ starts_more {X} a {b} {c} one two = (one.0 ++ two.0, two.1 ∙ ap (λ (l : List 
 -- ---- deeds
 
 pub did_none : (p : ℕ) (a b : List (Deed Body)) → b ≡ a → Did p [] a b
-did_none p a b e = ([], adds_none (place_of p) a b e, refl)
+did_none p a b e = ([], e ∙ sym (append-nil a), refl)
 
 pub did_more : (p : ℕ) (es fs : List (Event × Item)) (a b c : List (Deed Body)) → Did p es a b → Did p fs b c → Did p (es ++ fs) a c
 did_more p es fs a b c x y =
-    (x.0 ++ y.0, adds_more (place_of p) x.0 y.0 a b c x.1 y.1, map-append (λ (d : Deed Body). (d.0, item_of d.1)) x.0 y.0 ∙ (λ i. x.2 i ++ y.2 i))
+    let q : ℕ = place_of p in let shows : Deed Body → Event × Item = λ d. (d.0, item_of d.1) in (
+      x.0 ++ y.0,
+      y.1 ∙ ap (λ (l : List (Deed Body)). l ++ y.0) x.1 ∙ append_assoc a x.0 y.0,
+      ap (map shows) (deeds_append q x.0 y.0) ∙ map-append shows (deeds_by q x.0) (deeds_by q y.0) ∙ (λ i. x.2 i ++ y.2 i),
+    )
 
 pub did_starts : (p : ℕ) (es : List (Event × Item)) (a b : List (Deed Body)) → Did p es a b → StartsWith b a
-did_starts p es a b h = (h.1.0, h.1.1)
+did_starts p es a b h = (h.0, h.1)
 
 -- one of the place's own deeds stands in what was added
 pub split_at : (q : ℕ) (more : List (Deed Body)) (d : Deed Body) → Among (deeds_by q more) d → (before : List (Deed Body)) × (after : List (Deed Body)) × (more ≡ before ++ d ∷ after)

@@ -7,6 +7,8 @@ use Rattle.xh_place.proofs.Words.{append_assoc, append-nil, Some}
 use Rattle.xh_place.proofs.Words.{drop-append-le, drop_at, drop-drop, length-drop, length-take-le, take-append-le, take_at, Event, nat_tests, Among, Distinct, keys, put, value_at, without}
 use Rattle.xh_place.proofs.Words.{keys_append, absent, here_first, not_here, put_keys, put_without, toward, accepted_on, AreEnded, EndsWith, Clears, gave}
 use Rattle.xh_place.proofs.Counted.{none_back}
+use Rattle.xh_arena.specs.Views.{VaultOf}
+use Rattle.xh_place.specs.Vaults.{AsksEach, BringsBack}
 use Rattle.std.proofs.Math.Seq.{drop-append_seam, take-append_seam, take-add}
 use Rattle.xh_place.proofs.Words.{toward_in}
 use Rattle.xh_place.proofs.Listing.{total_both, total_last, total_put}
@@ -247,7 +249,7 @@ swept_clear saw from r bytes x more old mid new ys inside first at clear once is
 
 -- ---- what a worker gave back
 
-pub gave_more : (a b : ℕ) (old mid new : List TallyOf) → HasGivenBack a old mid → HasGivenBack b mid new → HasGivenBack (a + b) old new
+gave_more : (a b : ℕ) (old mid new : List TallyOf) → HasGivenBack a old mid → HasGivenBack b mid new → HasGivenBack (a + b) old new
 gave_more a b [] [] [] one two = omega (arith, one, two)
 gave_more a b [] [] (w ∷ new) one two = absurd two
 gave_more a b [] (u ∷ mid) new one two = absurd one
@@ -262,6 +264,22 @@ gave_more a b (t ∷ old) (u ∷ mid) (w ∷ new) one two =
       last ∙ ap (λ (n : ℕ). record t { back = n }) (let sum : t.back + one.0 + two.0 ≡ t.back + (one.0 + two.0) = omega arith in sum),
       gave_more one.1 two.1 old mid new one.4 two.4,
     )
+
+-- so does a worker, in two steps
+module _ {V : Type 0} (changes : V → V → ℕ → VaultOf → VaultOf → Type 0) (tallies : V → List TallyOf) where
+  asked_both : (xs ys : List ℕ) (old mid new : V) → AsksEach changes xs old mid → AsksEach changes ys mid new → AsksEach changes (xs ++ ys) old new
+  asked_both [] ys old mid new one two = subst (λ (v : V). AsksEach changes ys v new) one two
+  asked_both (a ∷ xs) ys old mid new one two = (one.0, one.1, asked_both xs ys one.0 mid new one.2 two)
+
+  pub back_more : (a b : ℕ) (old mid new : V) → BringsBack changes tallies a old mid → BringsBack changes tallies b mid new → BringsBack changes tallies (a + b) old new
+  back_more a b old mid new one two =
+      let xs : List ℕ = one.1.0 in let ys : List ℕ = two.1.0 in let few = one.1.2 in let more = two.1.2 in (
+        gave_more a b (tallies old) (tallies mid) (tallies new) one.0 two.0,
+        (xs ++ ys, asked_both xs ys old mid new one.1.1 two.1.1, omega (arith, length-append xs ys, few, more)),
+      )
+
+  pub still : (old new : V) → new ≡ old → BringsBack changes tallies 0 old new
+  still old new h = (none_back (ap tallies h), ([], h, omega arith))
 
 pub gave_some : (i n : ℕ) (ts : List TallyOf) → i < length ts → HasGivenBack n ts (gave i n ts)
 gave_some i n [] h = absurd (omega arith)

@@ -10,7 +10,7 @@ pub use Rattle.std.proofs.lemmas.List.{drop-append-le, drop-drop, drop_at, drop_
 pub use Rattle.std.proofs.lemmas.Result.{on_err_weaker, on_ok_weaker}
 pub use Rattle.std.specs.List.{list_all, list_any}
 pub use Rattle.xh_arena.specs.Views.{LotOf, TallyOf}
-pub use Rattle.xh_channel.specs.Calls.{EndpointShuts}
+pub use Rattle.xh_channel.specs.Calls.{EndpointPuts, EndpointShuts, EndpointTakes}
 pub use Rattle.xh_channel.specs.Endpoint.{EndpointOf}
 pub use Rattle.xh_channel.specs.declared.message.Message.{Message}
 pub use Rattle.xh_core.specs.Calls.{alloc_tests, arena_tests, end_tests, given_tests, reclaimed, split_tests}
@@ -31,14 +31,15 @@ pub use Rattle.xh_model.specs.declared.event.Holder.TheVariants.{Process}
 pub use Rattle.xh_model.specs.declared.limits.TheConstants.{END_BYTES, MAX_BUDGET}
 pub use Rattle.xh_place.specs.Bodies.{Content, away, bytes, content_of, endpoint, fits_in, front, kind_of, part, patched, rest, toward}
 pub use Rattle.xh_place.specs.Desk.{IsSameDesk, IsSeatAt}
-pub use Rattle.xh_place.specs.Ending.{AreEnded, HasGivenBack, IsClosed, IsSwept, ending, last}
-pub use Rattle.xh_place.specs.Endpoints.{AreGot, EndsWith, IsDrained, Puts, Takes, TakesEach, blocks_of, record_of}
+pub use Rattle.xh_place.specs.Ending.{AreEnded, HasGivenBack, IsClosed, IsSwept, ending}
+pub use Rattle.xh_place.specs.Endpoints.{AreGot, EndsWith, IsDrained, TakesEach, blocks_of, record_of}
 pub use Rattle.xh_place.specs.Ends.{EndDoes, IsTooLate, RefusedOr, away_in, end_block, ending_again, toward_in}
-pub use Rattle.xh_place.specs.Messages.{Answers, IsSent, IsTaken, IsUntaken, is_listed, settle, settled}
+pub use Rattle.xh_place.specs.Messages.{IsSent, IsTaken, IsUntaken, refusal, settled}
 pub use Rattle.xh_place.specs.Events.{accepted_on, claimed, let_go, passed_on, vacated}
 pub use Rattle.xh_place.specs.Places.{AreBlocks, Fits, IsBlock, IsPlace, IsPlaceOf, IsQuiet, IsWhole, Item, Lists, PlaceOf, found as found_at, header_of, item_at, item_in, item_of, shown}
-pub use Rattle.xh_place.specs.Places.{alone, nothing, picked, total_of, with_blocks, with_list, with_more}
-pub use Rattle.xh_place.specs.Seen.{Becomes, Did, FindsFull, Frees, Gains, IsElsewhere, IsSamePlace, IsSeen, IsSeenAfter, LetsGo, PlaceSeen, SawFull, SawWord, Stays}
+pub use Rattle.xh_place.specs.Places.{alone, picked, total_of}
+pub use Rattle.xh_place.proofs.Terms.{is_listed, last, nothing, settle, with_blocks, with_list, with_more}
+pub use Rattle.xh_place.specs.Seen.{Becomes, Did, FindsFull, Gains, IsElsewhere, IsSamePlace, IsSeen, IsSeenAfter, LetsGo, PlaceSeen, SawFull, SawWord, Stays}
 pub use Rattle.xh_core.specs.Calls.{start, stop}
 pub use Rattle.xh_place.specs.Tallies.{gave, ids_of, took}
 pub use Rattle.xh_place.specs.declared.body.Body.{Body}

@@ -15,13 +15,13 @@ use Rattle.xh_core.specs.Refusing.{Tested, first_refusal}
 use Rattle.xh_core.specs.Space.{rounded}
 use Rattle.xh_model.specs.declared.limits.TheConstants.{MAX_RECORDS}
 use Rattle.xh_model.specs.declared.event.Event.{Event}
-use Rattle.xh_model.specs.Keyed.{put, value_at}
+use Rattle.xh_model.specs.Keyed.{put, value_at, without}
 use Rattle.xh_place.specs.Bodies.{Content, bytes, endpoint, part, patched}
 use Rattle.xh_place.specs.Ending.{IsClosed, IsSwept, ending}
 use Rattle.xh_place.specs.Ends.{RefusedOr}
-use Rattle.xh_place.specs.Events.{claimed}
-use Rattle.xh_place.specs.Places.{Item, PlaceOf, found, with_blocks, with_list, with_more}
-use Rattle.xh_place.specs.Seen.{Becomes, Did, FindsFull, Frees, IsSamePlace, IsSeen, LetsGo, PlaceSeen, Stays}
+use Rattle.xh_place.specs.Events.{claimed, vacated}
+use Rattle.xh_place.specs.Places.{Item, PlaceOf, found}
+use Rattle.xh_place.specs.Seen.{Becomes, Did, FindsFull, IsSamePlace, IsSeen, LetsGo, PlaceSeen, Stays}
 use Rattle.xh_place.specs.Splitting.{IsSplit, IsUncut}
 use Rattle.xh_place.specs.Vaults.{IsRefusedAt}
 
@@ -51,7 +51,8 @@ padded n xs = xs ++ replicate (n - length xs) 0
 
 -- a new data block of at least n bytes of the arena, these and zeros, is the last of the list, and its record was claimed; or a record was claimed in vain, if any, and none where a test refused
 pub record Makes (status : Status) (space : SpaceOf) (n : ℕ) (xs : List ℕ) (arena : ℕ) (old new : PlaceSeen) (result : Result Block Refused) : Type 0 where
-  pub made : IfOk result (λ b. Becomes (with_more ((b.rec, record { len = b.len; content = bytes (padded b.len xs) }) ∷ []) old.place) (claimed old.place.process (b.rec ∷ [])) old new)
+  pub made : IfOk result (λ b. Becomes (record old.place { blocks = old.place.blocks ++ (b.rec, record { len = b.len; content = bytes (padded b.len xs) }) ∷ [] })
+      (claimed old.place.process (b.rec ∷ [])) old new)
   pub block : IfOk result (λ b. (b.len ≡ rounded n) × (b.rec / MAX_RECORDS ≡ arena))
   pub refused : OnErr result (LetsGo (λ claims. length claims ≤ 1) arena old new)
   pub why : MatchOption (first_refusal (start status ++ alloc_tests arena space.arenas n space.size))
@@ -83,7 +84,7 @@ pub record Writes (status : Status) (r at : ℕ) (xs : List ℕ) (old new : Plac
   pub place : IsSamePlace old new
   pub quiet : Did old.place.process [] old.front new.front
   pub written : Tested (start status ++ range_tests (found old.place r) at (length xs)) result
-      (λ _. (x : Item) × (value_at r old.place.blocks ≡ Some x) × (new.place ≡ with_blocks old.place (put r (record x { content = patched at xs x.content }) old.place.blocks)))
+      (λ _. (x : Item) × (value_at r old.place.blocks ≡ Some x) × (new.place ≡ record old.place { blocks = put r (record x { content = patched at xs x.content }) old.place.blocks }))
   pub refused : OnErr result (new.place ≡ old.place)
 
 -- ---- a block in place
@@ -113,7 +114,7 @@ pub record LendsMut {F A : Type 0} (g : Mut F (MutBor (List ℕ) × Unit {0}) (A
   pub place : IsSamePlace old new
   pub quiet : Did old.place.process [] old.front new.front
   pub lent : Tested (start status ++ range_tests (found old.place r) 0 0) result (λ a. (shown : List ℕ) × (left : List ℕ) × HasBytes r old.place shown
-      × CalledAtMut g f shown a f' left × (length left ≡ length shown) × (new.place ≡ with_blocks old.place (put r (made_of left) old.place.blocks)))
+      × CalledAtMut g f shown a f' left × (length left ≡ length shown) × (new.place ≡ record old.place { blocks = put r (made_of left) old.place.blocks }))
   pub refused : OnErr result (new.place ≡ old.place)
   pub uncalled : OnErr result (f' ≡ f)
 
@@ -121,7 +122,7 @@ pub record LendsMut {F A : Type 0} (g : Mut F (MutBor (List ℕ) × Unit {0}) (A
 
 -- the block is gone, its record was vacated, and the answer is what `tells` says of it
 pub record GivesUp {A : Type 0} (tells : A → Type 0) (status : Status) (r : ℕ) (old new : PlaceSeen) (result : Result A Refused) : Type 0 where
-  pub freed : Tested (start status ++ data_tests (found old.place r)) result (λ a. tells a × Frees r old new)
+  pub freed : Tested (start status ++ data_tests (found old.place r)) result (λ a. tells a × Becomes (record old.place { blocks = without r old.place.blocks }) (vacated old.place.process r) old new)
   pub refused : OnErr result (Stays old new)
 
 -- the answer is its length
@@ -130,16 +131,12 @@ FreesBlock status r old new result = GivesUp (λ n. n ≡ len_in (found old.plac
 
 -- ---- close, stop
 
--- nothing changed, and nothing came back
-abbrev pub IsUntouched : PlaceSeen → PlaceSeen → ℕ → Type 0
-IsUntouched old new back = Stays old new × (back ≡ 0)
-
 -- the endpoint is gone, and what was on its way to it; so many bytes came back
 abbrev pub Closes : Status → ℕ → ℕ → PlaceSeen → PlaceSeen → Result ℕ Refused → Type 0
-Closes status e back old new result = RefusedOr (start status ++ end_tests (found old.place e)) result (IsUntouched old new back) (IsClosed e old new back result)
+Closes status e back old new result = RefusedOr (start status ++ end_tests (found old.place e)) result (Stays old new × (back ≡ 0)) (IsClosed e old new back result)
 
 -- the whole list is swept, as far as the budget goes; so many bytes came back
 abbrev pub Stops : Status → ℕ → ℕ → PlaceSeen → PlaceSeen → Result ℕ Refused → Type 0
-Stops status budget back old new result = RefusedOr (stop status) result (IsUntouched old new back) ((log : List (Event × Item))
-    × IsSwept (IsSeen old new) 0 budget old.place new.place back log × Becomes (record (with_list old.place new.place) { state = ending (length new.place.blocks) }) log old new
+Stops status budget back old new result = RefusedOr (stop status) result (Stays old new × (back ≡ 0)) ((log : List (Event × Item))
+    × IsSwept (IsSeen old new) 0 budget old.place new.place back log × Becomes (record old.place { blocks = new.place.blocks; state = ending (length new.place.blocks) }) log old new
     × (result ≡ reclaimed back (length new.place.blocks)))

@@ -11,7 +11,7 @@ use Rattle.xh_model.specs.declared.limits.TheConstants.{MAX_BUDGET}
 use Rattle.xh_place.specs.Bodies.{toward}
 use Rattle.xh_place.specs.Endpoints.{EndsWith}
 use Rattle.xh_place.specs.Events.{accepted_on, vacated}
-use Rattle.xh_place.specs.Places.{Item, PlaceOf, alone, with_blocks, with_list, total_of}
+use Rattle.xh_place.specs.Places.{Item, PlaceOf, alone, total_of}
 use Rattle.xh_place.specs.Seen.{Becomes, IsSeen, PlaceSeen, Sight}
 
 -- `saw r s` says what was seen at the record r
@@ -48,12 +48,8 @@ ending left = cond (left == 0) Ended Ending
 
 -- ---- close
 
--- the list with the record at its end
-abbrev pub last : ℕ → List (ℕ × Item) → List (ℕ × Item)
-last r xs = without r xs ++ alone r (value_at r xs)
-
 -- the endpoint goes to the end of the list, and the list is swept from there
 abbrev pub IsClosed : ℕ → PlaceSeen → PlaceSeen → ℕ → Result ℕ Refused → Type 0
 IsClosed e old new bytes result = (log : List (Event × Item))
-    × IsSwept (IsSeen old new) (length (without e old.place.blocks)) MAX_BUDGET (with_blocks old.place (last e old.place.blocks)) new.place bytes log
-    × Becomes (with_list old.place new.place) log old new × (result ≡ reclaimed bytes (length new.place.blocks - length (without e old.place.blocks)))
+    × IsSwept (IsSeen old new) (length (without e old.place.blocks)) MAX_BUDGET (record old.place { blocks = without e old.place.blocks ++ alone e (value_at e old.place.blocks) }) new.place bytes log
+    × Becomes (record old.place { blocks = new.place.blocks }) log old new × (result ≡ reclaimed bytes (length new.place.blocks - length (without e old.place.blocks)))

@@ -1,11 +1,8 @@
 -- What an endpoint of a place does, by what its channel's contracts see of it before and after.
-use Rattle.std.specs.Prelude.{◌≡◌, ◌≢◌, ◌⊎◌, ℕ, suc, ◌+◌, ◌*◌, ◌≤◌, false, is_some, List, [], ◌∷◌, ◌++◌, length, map, Result, Ok, Err, OnErr}
-use Rattle.arrayvec.specs.ArrayVec.{ArrayVec}
+use Rattle.std.specs.Prelude.{◌≡◌, ◌≢◌, ◌⊎◌, ℕ, ◌+◌, ◌*◌, ◌≤◌, false, is_some, List, [], ◌∷◌, ◌++◌, length, map, Ok, Err}
 use Rattle.xh_channel.specs.declared.message.Message.{Message}
 use Rattle.xh_channel.specs.declared.refused.Refused.{Refused}
-use Rattle.xh_channel.specs.declared.unsent.Unsent.{Unsent}
-use Rattle.xh_channel.specs.Numbers.{message}
-use Rattle.xh_channel.specs.Calls.{EndpointPuts, EndpointShuts, EndpointTakes, OnlySaw, Unpushed}
+use Rattle.xh_channel.specs.Calls.{EndpointShuts, EndpointTakes}
 use Rattle.xh_channel.specs.Endpoint.{EndpointOf}
 use Rattle.xh_place.specs.Bodies.{Content, bytes, endpoint, toward}
 use Rattle.xh_place.specs.declared.got.Got.{Got}
@@ -13,25 +10,15 @@ use Rattle.xh_place.specs.declared.got.Got.TheVariants.{Here, Missing}
 use Rattle.xh_place.specs.Places.{Item, header_of}
 use Rattle.xh_place.specs.Seen.{Sight, bears, brings}
 
--- it puts the blocks with the tag: what the channel's put says
-pub record Puts (tag : ℕ) (blocks : ArrayVec ℕ) (result : Result ℕ Unsent) (old new : EndpointOf) : Type 0 where
-  pub answer : EndpointPuts old new tag blocks result
-  pub kept : OnErr result (Unpushed old new (message (suc (length old.sent)) tag blocks))
-
--- it takes: what the channel's take says
-pub record Takes (result : Result Message Refused) (old new : EndpointOf) : Type 0 where
-  pub answer : EndpointTakes old new result
-  pub kept : OnErr result (OnlySaw old new)
-
 -- it takes these messages, one after another
 abbrev pub TakesEach : List Message → EndpointOf → EndpointOf → Type 0
 TakesEach [] old new = new ≡ old
-TakesEach (m ∷ ms) old new = (mid : EndpointOf) × Takes (Ok m) old mid × TakesEach ms mid new
+TakesEach (m ∷ ms) old new = (mid : EndpointOf) × EndpointTakes (Ok m) old mid × TakesEach ms mid new
 
 -- it takes these, and then a take finds none; or there are 2^64 - 1 of them, which isn't so on a channel with a contract
 abbrev pub IsDrained : List Message → EndpointOf → EndpointOf → Type 0
 IsDrained ms old new = (last : EndpointOf) × TakesEach ms old last
-    × (((none : Refused) × Takes (Err none) last new) ⊎ ((18446744073709551615 ≤ length ms) × (new ≡ last) × (is_some last.contract ≡ false)))
+    × (((none : Refused) × EndpointTakes (Err none) last new) ⊎ ((18446744073709551615 ≤ length ms) × (new ≡ last) × (is_some last.contract ≡ false)))
 
 -- ---- the blocks of messages
 

@@ -14,13 +14,14 @@ use Rattle.xh_model.specs.declared.event.Event.{Event}
 use Rattle.xh_model.specs.Keyed.{put, value_at}
 use Rattle.xh_records.specs.Seats.{IsRecord}
 use Rattle.xh_place.specs.Bodies.{away, endpoint, toward}
-use Rattle.xh_arena.specs.Views.{TallyOf}
+use Rattle.xh_arena.specs.Views.{TallyOf, VaultOf}
+use Rattle.xh_place.specs.Vaults.{BringsBack}
 use Rattle.xh_place.specs.declared.opening.Unopened.{Unopened}
 use Rattle.xh_place.specs.Tallies.{took}
-use Rattle.xh_place.specs.Places.{IsWhole, Item, PlaceOf, with_blocks, with_list, with_more}
+use Rattle.xh_place.specs.Places.{IsWhole, Item, PlaceOf}
 use Rattle.xh_place.specs.Events.{accepted_on, claimed}
 use Rattle.xh_place.specs.Seen.{Becomes, Gains, IsElsewhere, IsSeen, LetsGo, PlaceSeen, SawWord, Stays, brings}
-use Rattle.xh_place.specs.Ending.{HasGivenBack, IsSwept}
+use Rattle.xh_place.specs.Ending.{IsSwept}
 
 -- the call answers the first refusal whose test is true, and then these stay as they were; where none is, it does what is said
 abbrev pub RefusedOr : {A : Type 0} → Tests → Result A Refused → Type 0 → Type 0 → Type 0
@@ -41,7 +42,7 @@ end_block p = record { len = END_BYTES; content = endpoint p }
 
 -- from p to q, which else are the same place, the endpoint of the record e became another, as `does` says
 abbrev pub EndDoes : ℕ → PlaceOf → PlaceOf → (EndpointOf → EndpointOf → Type 0) → Type 0
-EndDoes e p q does = (before after : EndpointOf) × (value_at e p.blocks ≡ Some (end_block before)) × (q ≡ with_blocks p (put e (end_block after) p.blocks)) × does before after
+EndDoes e p q does = (before after : EndpointOf) × (value_at e p.blocks ≡ Some (end_block before)) × (q ≡ record p { blocks = put e (end_block after) p.blocks }) × does before after
 
 -- ---- open
 
@@ -51,7 +52,7 @@ IsEndIn arena b = (b.len ≡ END_BYTES) × (b.rec / MAX_RECORDS ≡ arena)
 
 -- both came to the end of the list, once their records were claimed in this order
 abbrev pub HasBoth : EndpointOf → EndpointOf → Block × Block → PlaceSeen → PlaceSeen → Type 0
-HasBoth low high ends old new = Becomes (with_more ((ends.0.rec, end_block low) ∷ (ends.1.rec, end_block high) ∷ []) old.place)
+HasBoth low high ends old new = Becomes (record old.place { blocks = old.place.blocks ++ (ends.0.rec, end_block low) ∷ (ends.1.rec, end_block high) ∷ [] })
     (claimed old.place.process (ends.0.rec ∷ ends.1.rec ∷ [])) old new
 
 -- both are blocks of the list, and their records exist
@@ -87,17 +88,18 @@ ending_again status.Ending left = status.Ending
 -- An endpoint came that nobody is here for: so it was swept, and no fewer bytes than it has were given back.
 abbrev pub IsTooLate : ℕ → ℕ → PlaceSeen → PlaceSeen → ℕ → Type 0
 IsTooLate d r old new sum = (x : Item) × (log : List (Event × Item))
-    × IsSwept (IsSeen old new) (length old.place.blocks) MAX_BUDGET (with_more ((r, x) ∷ []) old.place) new.place sum log
-    × Becomes (record (with_list old.place new.place) { state = ending_again old.place.state (length new.place.blocks) })
+    × IsSwept (IsSeen old new) (length old.place.blocks) MAX_BUDGET (record old.place { blocks = old.place.blocks ++ (r, x) ∷ [] }) new.place sum log
+    × Becomes (record old.place { blocks = new.place.blocks; state = ending_again old.place.state (length new.place.blocks) })
     (accepted_on old.place.process d ((r, x) ∷ []) ++ log) old new
     × IsWhole x × (x.len ≤ sum) × IsSeen old new r (brings d x)
 
 -- It came on the direction to the end of the list of the process, which runs here; or the process doesn't, and then it came too late;
 -- or nothing has changed, since nobody has the place, or another word was seen than "in flight on the direction".
-pub record Accepts (process r direction : ℕ) (old new : PlaceSeen) (told tallies : List TallyOf) (result : Result Block Refused) : Type 0 where
+pub record Accepts {V : Type 0} (changes : V → V → ℕ → VaultOf → VaultOf → Type 0) (tallies : V → List TallyOf) (process r direction : ℕ) (old new : PlaceSeen) (from to : V)
+    (result : Result Block Refused) : Type 0 where
   pub here : IfOk result (λ b. (is_here old.place process ≡ true) × (b.rec ≡ r)
       × ((x : Item) × (x.len ≡ b.len) × Gains direction ((r, x) ∷ []) old new × IsWhole x × IsSeen old new r (brings direction x))
-      × (tallies ≡ told))
-  pub away : IfErr result (λ e. (e ≡ Ended) × ((Stays old new × (tallies ≡ told) × ((old.place.state ≡ status.Vacant) ⊎ IsElsewhere (SawWord old new) direction r))
+      × (to ≡ from))
+  pub away : IfErr result (λ e. (e ≡ Ended) × ((Stays old new × (to ≡ from) × ((old.place.state ≡ status.Vacant) ⊎ IsElsewhere (SawWord old new) direction r))
       ⊎ ((is_here old.place process ≡ false) × (old.place.state ≢ status.Vacant)
-      × ((bytes : ℕ) × IsTooLate direction r old new bytes × HasGivenBack bytes told tallies))))
+      × ((bytes : ℕ) × IsTooLate direction r old new bytes × BringsBack changes tallies bytes from to))))

@@ -1,5 +1,5 @@
 -- Give and take: what they do to the place, and why they are refused. `status` says how far the process that calls has come.
-use Rattle.std.specs.Prelude.{◌≡◌, ℕ, Bool, List, [], ◌∷◌, ◌++◌, Option, Some, None, is_some, map, Result, Ok, Err, MatchResult, OnErr}
+use Rattle.std.specs.Prelude.{option_map, unwrap_or, ◌≡◌, ℕ, List, [], ◌∷◌, ◌++◌, Option, is_some, map, Result, Ok, Err, MatchResult, OnErr}
 use Rattle.arrayvec.specs.ArrayVec.{ArrayVec}
 use Rattle.xh_channel.specs.declared.message.Message.{Message}
 use Rattle.xh_channel.specs.declared.refused.Refused.{Refused as NoMessage}
@@ -11,19 +11,16 @@ use Rattle.xh_core.specs.declared.refused.Refused.{Refused}
 use Rattle.xh_core.specs.declared.refused.Refused.TheVariants.{Protocol, PeerClosed, Full}
 use Rattle.xh_core.specs.declared.status.Status.{Status}
 use Rattle.xh_model.specs.Keyed.{keys, put, value_at, without}
-use Rattle.xh_place.specs.Endpoints.{AreGot, Puts, record_of}
-use Rattle.xh_place.specs.Endpoints.{Takes}
+use Rattle.xh_channel.specs.Calls.{EndpointPuts, EndpointTakes}
+use Rattle.xh_place.specs.Endpoints.{AreGot, record_of}
 use Rattle.xh_place.specs.Ends.{EndDoes, RefusedOr, away_in, toward_in}
 use Rattle.xh_place.specs.Events.{accepted_on, passed_on}
 use Rattle.xh_place.specs.declared.got.Taken.{Taken}
-use Rattle.xh_place.specs.Places.{Item, PlaceOf, found, picked, with_blocks, with_more}
+use Rattle.xh_place.specs.Places.{Item, PlaceOf, found, picked}
 use Rattle.xh_place.specs.Seen.{Becomes, Did, IsSeen, IsSeenAfter, PlaceSeen, Stays}
 use Rattle.xh_place.specs.declared.got.Got.{Got}
 
 -- ---- give
-
-abbrev pub is_listed : List (ℕ × Item) → ℕ → Bool
-is_listed xs r = is_some (value_at r xs)
 
 -- the refusal of a put, with the blocks that came back
 abbrev pub refusal : ArrayVec ℕ → Unsent → Refused
@@ -31,20 +28,10 @@ refusal back unsent.Protocol = Protocol back
 refusal back unsent.PeerClosed = PeerClosed back
 refusal back unsent.Full = Full back
 
--- the number of the put, and nothing came back; or its refusal, with what came back
-abbrev pub Answers : List ℕ → Result ℕ Unsent → Result ℕ Refused → Type 0
-Answers back answered result = MatchResult answered (λ no. (result ≡ Ok no) × (back ≡ []))
-    (λ u. (named : ArrayVec ℕ) × (result ≡ Err (refusal named u)) × (named.items ≡ back))
-
--- the block of a record is gone, or has what came back
-abbrev pub settle : {X : Type 0} → ℕ → Option X → List (ℕ × X) → List (ℕ × X)
-settle r None xs = without r xs
-settle r (Some y) xs = put r y xs
-
 -- the list, where each record of `given` has what stands at it in `back`, and is gone where nothing does
 abbrev pub settled : {X : Type 0} → List ℕ → (ℕ → Option X) → List (ℕ × X) → List (ℕ × X)
 settled [] back xs = xs
-settled (r ∷ rs) back xs = settled rs back (settle r (back r) xs)
+settled (r ∷ rs) back xs = settled rs back (unwrap_or (option_map (λ y. put r y xs) (back r)) (without r xs))
 
 -- The endpoint put the blocks with the tag, and the answer is that of the put. Each was passed on the direction, in the order given, as it was.
 -- Then those that came back were accepted from that direction, as they are now, and are in their old places; the others have left the list.
@@ -53,17 +40,17 @@ pub record IsSent (e tag : ℕ) (given : List ℕ) (old new : PlaceSeen) (result
   pub mid : PlaceOf
   pub answered : Result ℕ Unsent
   pub back : List (ℕ × Item)
-  pub made : EndDoes e old.place mid (Puts tag (record { items = given }) answered)
-  pub moved : Becomes (with_blocks mid (settled given (λ r. value_at r back) mid.blocks))
+  pub made : EndDoes e old.place mid (EndpointPuts tag (record { items = given }) answered)
+  pub moved : Becomes (record mid { blocks = settled given (λ r. value_at r back) mid.blocks })
       (passed_on old.place.process (away_in (value_at e old.place.blocks)) (picked given mid.blocks)
       ++ accepted_on old.place.process (away_in (value_at e old.place.blocks)) back) old new
   pub seen : OnErr answered ((gots : List Got) × (map record_of gots ≡ given)
       × AreGot (IsSeenAfter (away_in (value_at e old.place.blocks)) old.place.process old.place.shape old.front new.front) (away_in (value_at e old.place.blocks)) back gots)
-  pub answer : Answers (keys back) answered result
+  pub answer : MatchResult answered (λ no. (result ≡ Ok no) × (keys back ≡ [])) (λ u. (named : ArrayVec ℕ) × (result ≡ Err (refusal named u)) × (named.items ≡ keys back))
 
 -- the endpoint put the blocks with the tag; they were passed on the direction away from it, and left the list, or came back from it, and are in their old places
 abbrev pub Gives : Status → ℕ → ℕ → List ℕ → PlaceSeen → PlaceSeen → Result ℕ Refused → Type 0
-Gives status e tag given old new result = RefusedOr (start status ++ end_tests (found old.place e) ++ given_tests (is_listed old.place.blocks) e given) result
+Gives status e tag given old new result = RefusedOr (start status ++ end_tests (found old.place e) ++ given_tests (λ r. is_some (value_at r old.place.blocks)) e given) result
     (Stays old new) (IsSent e tag given old new result)
 
 -- ---- take
@@ -74,14 +61,14 @@ pub record IsTaken (e : ℕ) (old new : PlaceSeen) (taken : Taken) : Type 0 wher
   pub mid : PlaceOf
   pub m : Message
   pub gained : List (ℕ × Item)
-  pub made : EndDoes e old.place mid (Takes (Ok m))
+  pub made : EndDoes e old.place mid (EndpointTakes (Ok m))
   pub told : (taken.no ≡ m.no) × (taken.tag ≡ m.tag) × (map record_of taken.blocks.items ≡ m.blocks.items)
-  pub list : Becomes (with_more gained mid) (accepted_on old.place.process (toward_in (value_at e old.place.blocks)) gained) old new
+  pub list : Becomes (record mid { blocks = mid.blocks ++ gained }) (accepted_on old.place.process (toward_in (value_at e old.place.blocks)) gained) old new
   pub got : AreGot (IsSeen old new) (toward_in (value_at e old.place.blocks)) gained taken.blocks.items
 
 -- the endpoint took nothing, and the answer is that of the take
 abbrev pub IsUntaken : ℕ → PlaceOf → PlaceOf → Refused → Type 0
-IsUntaken e old new refused = (none : NoMessage) × EndDoes e old new (Takes (Err none)) × (refused ≡ same_refusal none)
+IsUntaken e old new refused = (none : NoMessage) × EndDoes e old new (EndpointTakes (Err none)) × (refused ≡ same_refusal none)
 
 -- the endpoint took a message, and its blocks are the last of the list; or it took none, and the answer is that of its take
 abbrev pub TakesAt : Status → ℕ → PlaceSeen → PlaceSeen → Result Taken Refused → Type 0

@@ -21,10 +21,6 @@ pub record Item : Type 0 where
   pub len : ℕ
   pub content : Content
 
--- nothing at a record: no bytes
-abbrev pub nothing : Item
-nothing = record { len = 0; content = bytes [] }
-
 -- a place: the table and its shape, the number of its process, the blocks by their records in the order gained, and how far the process has come
 pub record PlaceOf : Type 0 where
   pub table : TableId
@@ -32,16 +28,6 @@ pub record PlaceOf : Type 0 where
   pub process : ℕ
   pub blocks : List (ℕ × Item)
   pub state : Status
-
-abbrev pub with_blocks : PlaceOf → List (ℕ × Item) → PlaceOf
-with_blocks p xs = record p { blocks = xs }
-
--- with these blocks too, at the end of the list, and with those of another place
-abbrev pub with_more : List (ℕ × Item) → PlaceOf → PlaceOf
-with_more ys p = with_blocks p (p.blocks ++ ys)
-
-abbrev pub with_list : PlaceOf → PlaceOf → PlaceOf
-with_list p q = with_blocks p q.blocks
 
 -- a record with what stands at it, where something does; and each of these records
 abbrev pub alone : {X : Type 0} → ℕ → Option X → List (ℕ × X)
@@ -66,7 +52,7 @@ abbrev pub item_of : LotOf Body → Item
 item_of l = record { len = l.len; content = content_of l.body }
 
 abbrev pub item_in : Option (LotOf Body) → Item
-item_in None = nothing
+item_in None = record { len = 0; content = bytes [] }
 item_in (Some l) = item_of l
 
 -- the length and kind of a block

@@ -5,15 +5,15 @@ use Rattle.xh_model.specs.declared.event.Event.{Event}
 use Rattle.xh_model.specs.declared.event.Event.TheVariants.{Accept, Pass}
 use Rattle.xh_model.specs.declared.event.Holder.TheVariants.{Process}
 use Rattle.xh_model.specs.declared.limits.TheConstants.{MAX_RECORDS}
-use Rattle.xh_model.specs.Keyed.{Among, keys, without}
+use Rattle.xh_model.specs.Keyed.{Among, keys}
 use Rattle.xh_model.specs.Words.{place_of, word_of}
 use Rattle.xh_records.specs.declared.shape.Shape.{Shape}
-use Rattle.xh_records.specs.Deeds.{Adds, Deed, IsLeft}
+use Rattle.xh_records.specs.Deeds.{Deed, IsLeft, deeds_by}
 use Rattle.xh_records.specs.History.{StartsWith}
 use Rattle.xh_records.specs.Seats.{IsRecord, SawAt}
 use Rattle.xh_place.specs.declared.body.Body.{Body}
-use Rattle.xh_place.specs.Events.{accepted_on, let_go, vacated}
-use Rattle.xh_place.specs.Places.{Item, PlaceOf, item_of, with_blocks, with_more}
+use Rattle.xh_place.specs.Events.{accepted_on, let_go}
+use Rattle.xh_place.specs.Places.{Item, PlaceOf, item_of}
 
 -- a place, and its seat's front: the beginning of the one log of all deeds on records that it has seen, each an event beside the lot that was taken or given by it
 pub record PlaceSeen : Type 0 where
@@ -22,7 +22,7 @@ pub record PlaceSeen : Type 0 where
 
 -- what was added from the one front to the other has just these deeds of the place of the process p, in this order, each with the block of its record as it was then
 abbrev pub Did : ℕ → List (Event × Item) → List (Deed Body) → List (Deed Body) → Type 0
-Did p parts from to = (own : List (Deed Body)) × Adds (place_of p) own from to × (map (λ d. (d.0, item_of d.1)) own ≡ parts)
+Did p parts from to = (more : List (Deed Body)) × (to ≡ from ++ more) × (map (λ d. (d.0, item_of d.1)) (deeds_by (place_of p) more) ≡ parts)
 
 -- it is this place now, and did just these deeds
 abbrev pub Becomes : PlaceOf → List (Event × Item) → PlaceSeen → PlaceSeen → Type 0
@@ -32,13 +32,9 @@ Becomes p parts old new = (new.place ≡ p) × Did old.place.process parts old.f
 abbrev pub Stays : PlaceSeen → PlaceSeen → Type 0
 Stays old new = Becomes old.place [] old new
 
--- the block of a record is gone, and the record is free
-abbrev pub Frees : ℕ → PlaceSeen → PlaceSeen → Type 0
-Frees r old new = Becomes (with_blocks old.place (without r old.place.blocks)) (vacated old.place.process r) old new
-
 -- these blocks came on the direction, to the end of the list
 abbrev pub Gains : ℕ → List (ℕ × Item) → PlaceSeen → PlaceSeen → Type 0
-Gains d ys old new = Becomes (with_more ys old.place) (accepted_on old.place.process d ys) old new
+Gains d ys old new = Becomes (record old.place { blocks = old.place.blocks ++ ys }) (accepted_on old.place.process d ys) old new
 
 -- The process claimed some records of the arena, of which `also` holds, and let go of them again. Else the place is as it was.
 abbrev pub LetsGo : (List ℕ → Type 0) → ℕ → PlaceSeen → PlaceSeen → Type 0

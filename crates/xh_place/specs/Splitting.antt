@@ -7,13 +7,13 @@ use Rattle.xh_model.specs.declared.limits.TheConstants.{MAX_RECORDS}
 use Rattle.xh_model.specs.Keyed.{put, value_at}
 use Rattle.xh_place.specs.Bodies.{front, rest}
 use Rattle.xh_place.specs.Events.{claimed}
-use Rattle.xh_place.specs.Places.{Item, with_blocks}
+use Rattle.xh_place.specs.Places.{Item}
 use Rattle.xh_place.specs.Seen.{Becomes, PlaceSeen}
 
 -- the block r keeps its first k bytes and its place in the list; those past them are a new block of the same arena, at its end, whose record was claimed
 abbrev pub IsSplit : PlaceSeen → PlaceSeen → ℕ → ℕ → Block → Block → Type 0
 IsSplit old new r k head tail = (x : Item) × (value_at r old.place.blocks ≡ Some x)
-    × Becomes (with_blocks old.place (put r (record { len = k; content = front k x.content }) old.place.blocks ++ (tail.rec, record { len = tail.len; content = rest k x.content }) ∷ []))
+    × Becomes (record old.place { blocks = put r (record { len = k; content = front k x.content }) old.place.blocks ++ (tail.rec, record { len = tail.len; content = rest k x.content }) ∷ [] })
     (claimed old.place.process (tail.rec ∷ [])) old new
     × (head ≡ record { rec = r; len = k }) × (tail.rec / MAX_RECORDS ≡ r / MAX_RECORDS) × (k + tail.len ≡ x.len)
 

@@ -5,8 +5,7 @@ ghost use Rattle.xh_model.specs.Keyed.{value_at, put};
 ghost use Rattle.xh_core.specs.declared.header.Kind.TheVariants as kind;
 ghost use Rattle.xh_model.specs.declared.limits.TheConstants.{DIRECTIONS, MAX_BLOCKS};
 ghost use Rattle.xh_place.specs.Bodies.{IsEndAt, content_of, fits_in, kind_of, toward};
-ghost use Rattle.xh_channel.specs.Calls.{EndpointShuts};
-ghost use Rattle.xh_place.specs.Endpoints.{Puts, Takes};
+ghost use Rattle.xh_channel.specs.Calls.{EndpointPuts, EndpointShuts, EndpointTakes};
 ghost use Rattle.xh_place.specs.declared.body.Body.{Body};
 ghost use Rattle.xh_place.specs.inner.Lots.{IsEnd, LotDoes};
 ghost use Rattle.xh_records.specs.Seats.{IsSeatOf, IsRecord, with_lots};
@@ -68,7 +67,7 @@ pub(crate) fn put_at<R: Wait, V, G>(
     requires own { IsSeatOf desk.now.records.now seat.old × IsRecord desk.now.records.now.shape e }
     requires few { length given.now ≤ MAX_BLOCKS }
     requires held { (l : LotOf Body) × (value_at e seat.old.lots ≡ Some l) × IsLotOf seat.old.shape e l × IsEnd l }
-    ensures { (l : LotOf Body) → value_at e seat.old.lots ≡ Some l → (m : LotOf Body) × LotDoes (Puts tag (record { items = given.now }) result) l m
+    ensures { (l : LotOf Body) → value_at e seat.old.lots ≡ Some l → (m : LotOf Body) × LotDoes (EndpointPuts tag (record { items = given.now }) result) l m
         × (seat.new ≡ with_lots seat.old (put e m seat.old.lots)) }
 {
     let (rt, channels) = (desk.rt, desk.channels);
@@ -77,7 +76,7 @@ pub(crate) fn put_at<R: Wait, V, G>(
         e,
         &mut |lot: &mut Lot<Body>|
             requires { IsEnd lot.old × (length given.now ≤ MAX_BLOCKS) }
-            ensures { LotDoes (Puts tag (record { items = given.entry.now }) result) lot.old lot.new }
+            ensures { LotDoes (EndpointPuts tag (record { items = given.entry.now }) result) lot.old lot.new }
         {
             let Body::End(end) = lot.body_mut() else {
                 unreachable!()
@@ -98,7 +97,7 @@ pub(crate) fn take_at<R: Wait, V, G>(
     requires own { IsSeatOf desk.now.records.now seat.old × IsRecord desk.now.records.now.shape e }
     requires held { (l : LotOf Body) × (value_at e seat.old.lots ≡ Some l) × IsLotOf seat.old.shape e l × IsEnd l }
     ensures seat { (l : LotOf Body) → value_at e seat.old.lots ≡ Some l → (result.1 ≡ toward (content_of l.body))
-        × ((m : LotOf Body) × LotDoes (Takes result.0) l m × (seat.new ≡ with_lots seat.old (put e m seat.old.lots))) }
+        × ((m : LotOf Body) × LotDoes (EndpointTakes result.0) l m × (seat.new ≡ with_lots seat.old (put e m seat.old.lots))) }
     ensures small { result.1 < DIRECTIONS }
 {
     let (rt, channels) = (desk.rt, desk.channels);
@@ -108,7 +107,7 @@ pub(crate) fn take_at<R: Wait, V, G>(
         e,
         &mut |lot: &mut Lot<Body>| -> u8
             requires { IsEnd lot.old }
-            ensures lot { LotDoes (Takes taken.exit) lot.old lot.new }
+            ensures lot { LotDoes (EndpointTakes taken.exit) lot.old lot.new }
             ensures direction { (result ≡ toward (content_of lot.old.body)) × (result < DIRECTIONS) }
         {
             let Body::End(end) = lot.body_mut() else {

@@ -1,11 +1,12 @@
 // What a give does to the seat: its blocks leave it, and some come back.
-ghost use Rattle.std.specs.Prelude.{◌++◌, ◌≡◌, ◌≢◌, ℕ, List, map, ◌+◌, ◌*◌, ◌<◌, ◌≤◌, [], length, Some, None, OnOk, OnErr};
+ghost use Rattle.xh_channel.specs.Calls.{EndpointPuts};
+ghost use Rattle.std.specs.Prelude.{MatchResult, ◌++◌, ◌≡◌, ◌≢◌, ℕ, List, map, ◌+◌, ◌*◌, ◌<◌, ◌≤◌, [], length, Some, None, OnOk, OnErr};
 ghost use Rattle.xh_arena.specs.Views.{LotOf};
 ghost use Rattle.xh_model.specs.Keyed.{Among, Distinct, value_at};
 ghost use Rattle.xh_model.specs.declared.limits.TheConstants.{DIRECTIONS, MAX_BLOCKS};
 ghost use Rattle.xh_place.specs.Bodies.{IsEndAt, away, content_of};
-ghost use Rattle.xh_place.specs.Endpoints.{AreGot, Puts, record_of};
-ghost use Rattle.xh_place.specs.Messages.{Answers};
+ghost use Rattle.xh_place.specs.Endpoints.{AreGot, record_of};
+ghost use Rattle.xh_place.specs.Messages.{refusal};
 ghost use Rattle.xh_place.specs.Places.{IsBlock, item_in, shown};
 ghost use Rattle.xh_place.specs.Seen.{IsSeenAfter};
 ghost use Rattle.xh_place.specs.declared.got.Got.{Got};
@@ -122,7 +123,7 @@ fn post<R: Wait, V, G: Gate>(
     ensures direction { (result.1 ≡ away (item_in (value_at e seat.old.lots)).content) × (result.1 < DIRECTIONS) }
     ensures passed { Acts (passed_on seat.old.process result.1 (shown seat.old.lots given.now)) seat.new.lots seat.old seat.new }
     ensures end { (l : LotOf Body) → value_at e seat.old.lots ≡ Some l → (m : LotOf Body) × (value_at e seat.new.lots ≡ Some m)
-        × LotDoes (Puts tag (record { items = given.now }) result.0) l m × IsBlock seat.old.shape e m }
+        × LotDoes (EndpointPuts tag (record { items = given.now }) result.0) l m × IsBlock seat.old.shape e m }
     ensures gone { (r : ℕ) → Among given.now r → value_at r seat.new.lots ≡ None }
     ensures others { (r : ℕ) → (Among given.now r → ⊥) → e ≢ r → value_at r seat.new.lots ≡ value_at r seat.old.lots }
     ensures bytes { result.2 ≡ lens given.now (λ r. value_at r seat.old.lots) }
@@ -152,7 +153,7 @@ pub(crate) fn give_all<R: Wait, V, G: Gate>(
     ensures moved { Acts (passed_on seat.old.process (away (item_in (value_at e seat.old.lots)).content) (shown seat.old.lots given.now)
         ++ accepted_on seat.old.process (away (item_in (value_at e seat.old.lots)).content) (shown seat.new.lots result.back.items)) seat.new.lots seat.old seat.new }
     ensures end { (l : LotOf Body) → value_at e seat.old.lots ≡ Some l → (m : LotOf Body) × (value_at e seat.new.lots ≡ Some m)
-        × LotDoes (Puts tag (record { items = given.now }) result.put) l m × IsBlock seat.old.shape e m }
+        × LotDoes (EndpointPuts tag (record { items = given.now }) result.put) l m × IsBlock seat.old.shape e m }
     ensures others { (r : ℕ) → (Among given.now r → ⊥) → e ≢ r → value_at r seat.new.lots ≡ value_at r seat.old.lots }
     ensures back { AreBack given.now result.back.items seat.new }
     ensures lost { result.lost ≡ lens given.now (λ r. value_at r seat.old.lots) }
@@ -182,8 +183,7 @@ pub(crate) fn give_all<R: Wait, V, G: Gate>(
 
 // The answer of a give: the put's, with what came back.
 pub(crate) fn answer(put: Result<u64, Unsent>, back: ArrayVec<u16, 8>) -> Result<u64, Refused>
-    requires { OnOk put (back.items ≡ []) }
-    ensures { Answers back.items put result }
+    ensures { MatchResult put (λ no. result ≡ Ok no) (λ unsent. result ≡ Err (refusal back unsent)) }
 {
     match put {
         Ok(no) => Ok(no),

@@ -11,7 +11,7 @@ ghost use Rattle.xh_place.specs.Places.{IsBlock, item_of, header_of};
 ghost use Rattle.xh_place.specs.Seen.{Arrived};
 ghost use Rattle.xh_place.specs.Splitting.{IsUncut};
 ghost use Rattle.xh_place.specs.Tallies.{gave, took};
-ghost use Rattle.xh_place.specs.Vaults.{IsNoBlock, IsRefusedAt};
+ghost use Rattle.xh_place.specs.Vaults.{Asks, IsNoBlock, IsRefusedAt};
 ghost use Rattle.xh_place.specs.declared.body.Body.{Body};
 ghost use Rattle.xh_place.specs.inner.Lots.{Acts, IsCut, IsData, SeatFull, SeatLetsGo};
 ghost use Rattle.xh_records.specs.Seats.{IsSeatOf, IsRecord, SawAt, with_lots};
@@ -67,73 +67,107 @@ fn fill<R, V: Vaults, G>(
 ) -> Result<(), Refused>
     requires at { IsSeatAt V.names desk.old seat.old }
     requires held { (l : LotOf Body) × (value_at r seat.old.lots ≡ Some l) × (l.len ≡ 0) × IsRecord seat.old.shape r × IsLotOf seat.old.shape r l }
-    requires size { (0 < n) × (n % UNIT ≡ 0) × (n ≤ V.extent desk.old.vaults.now) }
+    requires size { (0 < n) × (n % UNIT ≡ 0) × (n ≤ V.extent desk.old.vaults) }
     requires room { (length buffer.old.items ≤ n) × (n ≤ vec_capacity buffer.old) }
     ensures same { IsSameDesk V.names V.extent desk.old desk.new }
     ensures seat { OnOk result ((l : LotOf Body) → value_at r seat.old.lots ≡ Some l → (m : LotOf Body) × (m ≡ record l { len = n; body = m.body })
         × (content_of m.body ≡ bytes (padded n buffer.old.items)) × (seat.new ≡ with_lots seat.old (put r m seat.old.lots))) }
     ensures buffer { MatchResult result (λ _. buffer.new.items ≡ []) (λ _. buffer.new.items ≡ buffer.old.items) }
-    ensures taken { OnOk result (desk.new.tallies.now ≡ took (r / MAX_RECORDS) n desk.old.tallies.now) }
-    ensures refused { OnErr result ((seat.new ≡ seat.old) × (desk.new.tallies.now ≡ desk.old.tallies.now)) }
-    ensures why { IfErr result (IsRefusedAt V.changes desk.old.vaults.now desk.new.vaults.now (r / MAX_RECORDS) n) }
+    ensures taken { OnOk result (V.tallies desk.new.vaults ≡ took (r / MAX_RECORDS) n (V.tallies desk.old.vaults)) }
+    ensures refused { OnErr result ((seat.new ≡ seat.old) × (V.tallies desk.new.vaults ≡ V.tallies desk.old.vaults)) }
+    ensures asked { OnOk result (Asks V.changes (r / MAX_RECORDS) desk.old.vaults desk.new.vaults) }
+    ensures why { IfErr result (IsRefusedAt V.changes desk.old.vaults desk.new.vaults (r / MAX_RECORDS) n) }
 {
     let arena = (r / MAX_RECORDS) as u8;
-    let tally = &mut desk.tallies[usize::from(arena)];
-    let vaults = &mut *desk.vaults;
+    let vaults = &mut desk.vaults;
     desk.records.with_lot(
         seat,
         r,
         &mut |lot: &mut Lot<Body>| -> Result<(), Refused>
-            requires ids { (slice_get (V.names vaults.now) arena ≡ Some lot.old.id) × (tally.now.id ≡ lot.old.id) }
+            requires ids { slice_get (V.names vaults.now) arena ≡ Some lot.old.id }
             requires empty { lot.old.len ≡ 0 }
             requires size { (0 < n) × (n % UNIT ≡ 0) × (n ≤ V.extent vaults.now) }
             requires room { (length buffer.now.items ≤ n) × (n ≤ vec_capacity buffer.now) }
-            ensures same { (V.names vaults.exit.now ≡ V.names vaults.entry.now) × (V.extent vaults.exit.now ≡ V.extent vaults.entry.now) × (tally.exit.now.id ≡ tally.entry.now.id) }
+            ensures same { (V.names vaults.exit.now ≡ V.names vaults.entry.now) × (V.extent vaults.exit.now ≡ V.extent vaults.entry.now) }
             ensures lot { OnOk result ((lot.new ≡ record lot.old { len = n; body = lot.new.body }) × (content_of lot.new.body ≡ bytes (padded n buffer.entry.now.items))) }
             ensures buffer { MatchResult result (λ _. buffer.exit.now.items ≡ []) (λ _. buffer.exit.now.items ≡ buffer.entry.now.items) }
-            ensures tally { OnOk result (tally.exit.now ≡ record tally.entry.now { taken = tally.entry.now.taken + n }) }
-            ensures refused { OnErr result ((lot.new ≡ lot.old) × (tally.exit.now ≡ tally.entry.now)) }
+            ensures tallies { MatchResult result (λ _. V.tallies vaults.exit.now ≡ took arena n (V.tallies vaults.entry.now)) (λ _. V.tallies vaults.exit.now ≡ V.tallies vaults.entry.now) }
+            ensures refused { OnErr result (lot.new ≡ lot.old) }
+            ensures asked { OnOk result (Asks V.changes arena vaults.entry.now vaults.exit.now) }
             ensures why { IfErr result (IsRefusedAt V.changes vaults.entry.now vaults.exit.now arena n) }
         {
-            vaults.carve(arena, lot, tally, n)?;
+            vaults.carve(arena, lot, n)?;
             *lot.body_mut() = Body::Data(fill_up(buffer, n));
             Ok(())
         },
     )
 }
 
-// The bytes of the record's lot go back, and its body is in `body`. It answers the bytes.
+// Where the body of a block goes that is given up.
+pub(crate) trait Outlet {
+    // It has got this body.
+    ghost has: { Self → Body → Type 0 };
+
+    // The body is out of its lot.
+    fn empty(&mut self, body: &mut Body)
+        ensures left { body.new ≡ Nothing }
+        ensures has { has self.new body.old };
+}
+
+// It is dropped where it lies.
+impl Outlet for () {
+    ghost has = { λ _ _. Unit {0} };
+
+    #[inline(always)]
+    fn empty(&mut self, body: &mut Body) {
+        *body = Body::Nothing;
+    }
+}
+
+impl Outlet for Body {
+    ghost use Rattle.std.specs.Prelude.{◌≡◌};
+
+    ghost has = { λ out body. out ≡ body };
+
+    #[inline(always)]
+    fn empty(&mut self, body: &mut Body) {
+        *self = mem::take(body);
+    }
+}
+
+// The bytes of the record's lot go back, and its body goes to the outlet. It answers the bytes.
 #[inline(always)]
-fn empty<R, V: Vaults, G>(
+fn empty<R, V: Vaults, G, E: Outlet>(
     desk: &mut Desk<'_, R, V, G>,
     seat: &mut Seat<Body>,
     r: u16,
-    body: &mut Body,
+    out: &mut E,
 ) -> u32
     requires at { IsSeatAt V.names desk.old seat.old }
     requires held { (l : LotOf Body) × (value_at r seat.old.lots ≡ Some l) × IsBlock seat.old.shape r l }
     ensures same { IsSameDesk V.names V.extent desk.old desk.new }
     ensures emptied { (l : LotOf Body) → value_at r seat.old.lots ≡ Some l → (seat.new ≡ with_lots seat.old (put r (record l { len = 0; body = Nothing }) seat.old.lots))
-        × (desk.new.tallies.now ≡ gave (r / MAX_RECORDS) l.len desk.old.tallies.now) × (result ≡ l.len) × (body.new ≡ l.body) }
+        × (V.tallies desk.new.vaults ≡ gave (r / MAX_RECORDS) l.len (V.tallies desk.old.vaults)) × (r / MAX_RECORDS < length (V.tallies desk.old.vaults)) × (result ≡ l.len) × E.has out.new l.body }
+    ensures asked { Asks V.changes (r / MAX_RECORDS) desk.old.vaults desk.new.vaults }
 {
     let arena = (r / MAX_RECORDS) as u8;
-    let tally = &mut desk.tallies[usize::from(arena)];
-    let vaults = &mut *desk.vaults;
+    let vaults = &mut desk.vaults;
     desk.records.with_lot(
         seat,
         r,
         &mut |lot: &mut Lot<Body>| -> u32
-            requires ids { (slice_get (V.names vaults.now) arena ≡ Some lot.old.id) × (tally.now.id ≡ lot.old.id) }
+            requires ids { slice_get (V.names vaults.now) arena ≡ Some lot.old.id }
             requires some { 0 < lot.old.len }
-            ensures same { (V.names vaults.exit.now ≡ V.names vaults.entry.now) × (V.extent vaults.exit.now ≡ V.extent vaults.entry.now) × (tally.exit.now.id ≡ tally.entry.now.id) }
+            ensures same { (V.names vaults.exit.now ≡ V.names vaults.entry.now) × (V.extent vaults.exit.now ≡ V.extent vaults.entry.now) }
             ensures lot { lot.new ≡ record lot.old { len = 0; body = Nothing } }
-            ensures tally { tally.exit.now ≡ record tally.entry.now { back = tally.entry.now.back + lot.old.len } }
+            ensures tallies { (V.tallies vaults.exit.now ≡ gave arena lot.old.len (V.tallies vaults.entry.now)) × (arena < length (V.tallies vaults.entry.now)) }
             ensures bytes { result ≡ lot.old.len }
-            ensures body { body.exit.now ≡ lot.old.body }
+            ensures body { E.has out.exit.now lot.old.body }
+            ensures asked { Asks V.changes arena vaults.entry.now vaults.exit.now }
         {
             let len = lot.len();
-            vaults.give_back(arena, lot, tally);
-            *body = mem::take(lot.body_mut());
+            vaults.give_back(arena, lot);
+            out.empty(lot.body_mut());
             len
         },
     )
@@ -158,6 +192,7 @@ pub(crate) fn place_of(seat: &Seat<Body>) -> u8 {
 
 // Claims a record of the arena, and gives it `n` bytes and the buffer, with zeros up to there. They are made only once the bytes are
 // carved: a refusal costs no more for a large block.
+#[inline(always)]
 pub(crate) fn make_block<R, V: Vaults, G: Gate>(
     desk: &mut Desk<'_, R, V, G>,
     seat: &mut Seat<Body>,
@@ -167,16 +202,17 @@ pub(crate) fn make_block<R, V: Vaults, G: Gate>(
 ) -> Result<u16, Reason>
     requires at { IsSeatAt V.names desk.old seat.old }
     requires arena { arena < length seat.old.shape.names }
-    requires size { (0 < n) × (n % UNIT ≡ 0) × (n ≤ V.extent desk.old.vaults.now) × (n ≤ MAX_BYTES) × (length buffer.old.items ≤ n) }
+    requires size { (0 < n) × (n % UNIT ≡ 0) × (n ≤ V.extent desk.old.vaults) × (n ≤ MAX_BYTES) × (length buffer.old.items ≤ n) }
     ensures same { IsSameDesk V.names V.extent desk.old desk.new }
     ensures arena { IfOk result (λ r. r / MAX_RECORDS ≡ arena) }
     ensures block { IfOk result (λ r. (l : LotOf Body) × (Among (keys seat.old.lots) r → ⊥)
         × Acts (claimed seat.old.process (r ∷ [])) (seat.old.lots ++ (r, l) ∷ []) seat.old seat.new × IsBlock seat.old.shape r l
         × (l.len ≡ n) × (content_of l.body ≡ bytes (padded n buffer.old.items))) }
     ensures buffer { MatchResult result (λ _. buffer.new.items ≡ []) (λ _. buffer.new.items ≡ buffer.old.items) }
-    ensures taken { OnOk result (desk.new.tallies.now ≡ took arena n desk.old.tallies.now) }
-    ensures refused { OnErr result (SeatLetsGo (λ claims. length claims ≤ 1) arena seat.old seat.new × (desk.new.tallies.now ≡ desk.old.tallies.now)) }
-    ensures why { IfErr result (IsNoBlock V.changes desk.old.vaults.now desk.new.vaults.now arena n (SeatFull 0 seat.old seat.new arena)) }
+    ensures taken { OnOk result (V.tallies desk.new.vaults ≡ took arena n (V.tallies desk.old.vaults)) }
+    ensures refused { OnErr result (SeatLetsGo (λ claims. length claims ≤ 1) arena seat.old seat.new × (V.tallies desk.new.vaults ≡ V.tallies desk.old.vaults)) }
+    ensures asked { OnOk result (Asks V.changes arena desk.old.vaults desk.new.vaults) }
+    ensures why { IfErr result (IsNoBlock V.changes desk.old.vaults desk.new.vaults arena n (SeatFull 0 seat.old seat.new arena)) }
 {
     let Ok(r) = desk.records.claim(seat, arena) else {
         return Err(Reason::NoRecord);
@@ -194,22 +230,23 @@ pub(crate) fn make_block<R, V: Vaults, G: Gate>(
     Err(reason(refused))
 }
 
-// Gives a block's bytes back, and makes its record free. It answers the bytes, and what the block carried is in `body`.
+// Gives a block's bytes back, and makes its record free. It answers the bytes, and what the block carried goes to the outlet.
 #[inline(always)]
-pub(crate) fn give_up<R, V: Vaults, G: Gate>(
+pub(crate) fn give_up<R, V: Vaults, G: Gate, E: Outlet>(
     desk: &mut Desk<'_, R, V, G>,
     seat: &mut Seat<Body>,
     r: u16,
-    body: &mut Body,
+    out: &mut E,
 ) -> u32
     requires at { IsSeatAt V.names desk.old seat.old }
     requires held { (l : LotOf Body) × (value_at r seat.old.lots ≡ Some l) × IsBlock seat.old.shape r l }
     ensures same { IsSameDesk V.names V.extent desk.old desk.new }
     ensures seat { Acts (vacated seat.old.process r) (without r seat.old.lots) seat.old seat.new }
-    ensures back { (l : LotOf Body) → value_at r seat.old.lots ≡ Some l → (desk.new.tallies.now ≡ gave (r / MAX_RECORDS) l.len desk.old.tallies.now) × (result ≡ l.len)
-        × (body.new ≡ l.body) }
+    ensures back { (l : LotOf Body) → value_at r seat.old.lots ≡ Some l → (V.tallies desk.new.vaults ≡ gave (r / MAX_RECORDS) l.len (V.tallies desk.old.vaults))
+        × (r / MAX_RECORDS < length (V.tallies desk.old.vaults)) × (result ≡ l.len) × E.has out.new l.body }
+    ensures asked { Asks V.changes (r / MAX_RECORDS) desk.old.vaults desk.new.vaults }
 {
-    let len = empty(desk, seat, r, body);
+    let len = empty(desk, seat, r, out);
     desk.gate.between(place_of(seat), Point::Returned);
     desk.records.vacate(seat, r);
     len
@@ -306,14 +343,15 @@ fn part<R, V: Vaults, G>(
 )
     requires own { IsSeatOf desk.old.records.now seat.old × IsRecord desk.old.records.now.shape pair.0 × IsRecord desk.old.records.now.shape pair.1 × (pair.0 ≢ pair.1) }
     requires held { (l m : LotOf Body) × (value_at pair.0 seat.old.lots ≡ Some l) × (value_at pair.1 seat.old.lots ≡ Some m) × IsLotOf seat.old.shape pair.0 l × IsLotOf seat.old.shape pair.1 m
-        × (slice_get (V.names desk.old.vaults.now) (pair.0 / MAX_RECORDS) ≡ Some l.id) × (m.id ≡ l.id) × (m.len ≡ 0) × IsGoodCut k l.len × (fits_in l.body l.len ≡ true)
+        × (slice_get (V.names desk.old.vaults) (pair.0 / MAX_RECORDS) ≡ Some l.id) × (m.id ≡ l.id) × (m.len ≡ 0) × IsGoodCut k l.len × (fits_in l.body l.len ≡ true)
         × (kind_of (content_of l.body) ≡ kind.Data) }
-    ensures same { IsSameDesk V.names V.extent desk.old desk.new × (desk.new.tallies.now ≡ desk.old.tallies.now) }
+    ensures same { IsSameDesk V.names V.extent desk.old desk.new × (V.tallies desk.new.vaults ≡ V.tallies desk.old.vaults) }
+    ensures asked { Asks V.changes (pair.0 / MAX_RECORDS) desk.old.vaults desk.new.vaults }
     ensures parted { (l m : LotOf Body) → value_at pair.0 seat.old.lots ≡ Some l → value_at pair.1 seat.old.lots ≡ Some m → (h : LotOf Body) × (h ≡ record l { len = k; body = h.body })
         × (content_of h.body ≡ front k (content_of l.body)) × (seat.new ≡ with_lots seat.old (put pair.1 (record m { len = l.len - k; body = body.old }) (put pair.0 h seat.old.lots))) }
 {
     let arena = (pair.0 / MAX_RECORDS) as u8;
-    let vaults = &mut *desk.vaults;
+    let vaults = &mut desk.vaults;
     desk.records.with_two(
         seat,
         pair.0,
@@ -323,9 +361,11 @@ fn part<R, V: Vaults, G>(
             requires empty { tail.old.len ≡ 0 }
             requires good { IsGoodCut k head.old.len × (fits_in head.old.body head.old.len ≡ true) × (kind_of (content_of head.old.body) ≡ kind.Data) }
             ensures same { (V.names vaults.exit.now ≡ V.names vaults.entry.now) × (V.extent vaults.exit.now ≡ V.extent vaults.entry.now) }
+            ensures tallies { V.tallies vaults.exit.now ≡ V.tallies vaults.entry.now }
             ensures head { head.new ≡ record head.old { len = k; body = head.new.body } }
             ensures content { content_of head.new.body ≡ front k (content_of head.old.body) }
             ensures tail { tail.new ≡ record tail.old { len = head.old.len - k; body = body.entry.now } }
+            ensures asked { Asks V.changes arena vaults.entry.now vaults.exit.now }
         {
             vaults.cut(arena, head, tail, k);
             *tail.body_mut() = mem::take(body);
@@ -348,12 +388,13 @@ pub(crate) fn cut_block<R, V: Vaults, G: Gate>(
     k: u32,
 ) -> Result<u16, Reason>
     requires own { IsSeatOf desk.old.records.now seat.old }
-    requires names { V.names desk.old.vaults.now ≡ seat.old.shape.names }
+    requires names { V.names desk.old.vaults ≡ seat.old.shape.names }
     requires held { (l : LotOf Body) × (value_at r seat.old.lots ≡ Some l) × IsBlock seat.old.shape r l × IsData l × IsGoodCut k l.len }
     ensures same { IsSameDesk V.names V.extent desk.old desk.new }
-    ensures tallies { desk.new.tallies.now ≡ desk.old.tallies.now }
+    ensures tallies { V.tallies desk.new.vaults ≡ V.tallies desk.old.vaults }
     ensures cut { IfOk result (λ t. (l : LotOf Body) → value_at r seat.old.lots ≡ Some l → IsCut seat.old seat.new r k l t) }
-    ensures refused { OnErr result (SeatLetsGo (λ claims. length claims ≤ 1) (r / MAX_RECORDS) seat.old seat.new × (desk.new.vaults.now ≡ desk.old.vaults.now)) }
+    ensures asked { OnOk result (Asks V.changes (r / MAX_RECORDS) desk.old.vaults desk.new.vaults) }
+    ensures refused { OnErr result (SeatLetsGo (λ claims. length claims ≤ 1) (r / MAX_RECORDS) seat.old seat.new × (desk.new.vaults ≡ desk.old.vaults)) }
     ensures why { IfErr result (IsUncut (SeatFull 0 seat.old seat.new (r / MAX_RECORDS))) }
 {
     let Ok(t) = desk.records.claim(seat, (r / MAX_RECORDS) as u8) else {

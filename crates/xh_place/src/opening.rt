@@ -1,5 +1,5 @@
 // What opening does to the seat: two records get 32 bytes each, and the two ends of a channel.
-ghost use Rattle.std.specs.Prelude.{◌≡◌, ◌≢◌, ℕ, ◌∷◌, ◌++◌, [], ◌+◌, ◌*◌, ◌/◌, ◌<◌, ◌≤◌, length, Some, IfOk, IfErr, OnOk, OnErr, MatchOption, slice_get};
+ghost use Rattle.std.specs.Prelude.{◌≡◌, ◌≢◌, ℕ, ◌∷◌, ◌++◌, [], ◌+◌, ◌*◌, ◌/◌, ◌<◌, ◌≤◌, length, Some, IfOk, IfErr, OnOk, OnErr, MatchOption, MatchResult, slice_get};
 ghost use Rattle.xh_arena.specs.Views.{LotOf};
 ghost use Rattle.xh_channel.specs.Endpoint.{EndpointOf};
 ghost use Rattle.xh_model.specs.Keyed.{Among, keys, put, value_at, without};
@@ -10,7 +10,7 @@ ghost use Rattle.xh_place.specs.Desk.{IsSameDesk, IsSeatAt};
 ghost use Rattle.xh_place.specs.Ends.{end_block};
 ghost use Rattle.xh_place.specs.Places.{item_of};
 ghost use Rattle.xh_place.specs.Tallies.{took};
-ghost use Rattle.xh_place.specs.Vaults.{IsNoPair, IsRefusedAt};
+ghost use Rattle.xh_place.specs.Vaults.{AsksEach, IsNoPair, IsRefusedAt};
 ghost use Rattle.xh_place.specs.declared.body.Body.{Body};
 ghost use Rattle.xh_place.specs.inner.Lots.{Acts, SeatFull, SeatLetsGo};
 ghost use Rattle.xh_records.specs.History.{StartsWith};
@@ -49,34 +49,35 @@ fn halve<R, V: Vaults, G>(
 ) -> Result<(), Refused>
     requires at { IsSeatAt V.names desk.old seat.old }
     requires held { (l m : LotOf Body) × AreEmpty seat.old pair.0 pair.1 l m }
-    requires size { 2 * END_BYTES ≤ V.extent desk.old.vaults.now }
+    requires size { 2 * END_BYTES ≤ V.extent desk.old.vaults }
     ensures same { IsSameDesk V.names V.extent desk.old desk.new }
     ensures halved { OnOk result ((l m : LotOf Body) → value_at pair.0 seat.old.lots ≡ Some l → value_at pair.1 seat.old.lots ≡ Some m
         → seat.new ≡ with_lots seat.old (put pair.1 (record m { len = END_BYTES; body = second.old }) (put pair.0 (record l { len = END_BYTES; body = first.old }) seat.old.lots))) }
-    ensures taken { OnOk result (desk.new.tallies.now ≡ took (pair.0 / MAX_RECORDS) (2 * END_BYTES) desk.old.tallies.now) }
-    ensures refused { OnErr result ((seat.new ≡ seat.old) × (desk.new.tallies.now ≡ desk.old.tallies.now) × (first.new ≡ first.old) × (second.new ≡ second.old)) }
-    ensures why { IfErr result (IsRefusedAt V.changes desk.old.vaults.now desk.new.vaults.now (pair.0 / MAX_RECORDS) (2 * END_BYTES)) }
+    ensures taken { OnOk result (V.tallies desk.new.vaults ≡ took (pair.0 / MAX_RECORDS) (2 * END_BYTES) (V.tallies desk.old.vaults)) }
+    ensures refused { OnErr result ((seat.new ≡ seat.old) × (V.tallies desk.new.vaults ≡ V.tallies desk.old.vaults) × (first.new ≡ first.old) × (second.new ≡ second.old)) }
+    ensures asked { OnOk result (AsksEach V.changes (pair.0 / MAX_RECORDS ∷ pair.0 / MAX_RECORDS ∷ []) desk.old.vaults desk.new.vaults) }
+    ensures why { IfErr result (IsRefusedAt V.changes desk.old.vaults desk.new.vaults (pair.0 / MAX_RECORDS) (2 * END_BYTES)) }
 {
     let arena = (pair.0 / MAX_RECORDS) as u8;
-    let tally = &mut desk.tallies[usize::from(arena)];
-    let vaults = &mut *desk.vaults;
+    let vaults = &mut desk.vaults;
     desk.records.with_two(
         seat,
         pair.0,
         pair.1,
         &mut |low: &mut Lot<Body>, high: &mut Lot<Body>| -> Result<(), Refused>
-            requires ids { (slice_get (V.names vaults.now) arena ≡ Some low.old.id) × (high.old.id ≡ low.old.id) × (tally.now.id ≡ low.old.id) }
+            requires ids { (slice_get (V.names vaults.now) arena ≡ Some low.old.id) × (high.old.id ≡ low.old.id) }
             requires empty { (low.old.len ≡ 0) × (high.old.len ≡ 0) }
             requires size { 2 * END_BYTES ≤ V.extent vaults.now }
-            ensures same { (V.names vaults.exit.now ≡ V.names vaults.entry.now) × (V.extent vaults.exit.now ≡ V.extent vaults.entry.now) × (tally.exit.now.id ≡ tally.entry.now.id) }
+            ensures same { (V.names vaults.exit.now ≡ V.names vaults.entry.now) × (V.extent vaults.exit.now ≡ V.extent vaults.entry.now) }
             ensures low { OnOk result (low.new ≡ record low.old { len = END_BYTES; body = first.entry.now }) }
             ensures high { OnOk result (high.new ≡ record high.old { len = END_BYTES; body = second.entry.now }) }
-            ensures tally { OnOk result (tally.exit.now ≡ record tally.entry.now { taken = tally.entry.now.taken + 2 * END_BYTES }) }
-            ensures refused { OnErr result ((low.new ≡ low.old) × (high.new ≡ high.old) × (tally.exit.now ≡ tally.entry.now)
+            ensures tallies { MatchResult result (λ _. V.tallies vaults.exit.now ≡ took arena (2 * END_BYTES) (V.tallies vaults.entry.now)) (λ _. V.tallies vaults.exit.now ≡ V.tallies vaults.entry.now) }
+            ensures refused { OnErr result ((low.new ≡ low.old) × (high.new ≡ high.old)
                 × (first.exit.now ≡ first.entry.now) × (second.exit.now ≡ second.entry.now)) }
+            ensures asked { OnOk result (AsksEach V.changes (arena ∷ arena ∷ []) vaults.entry.now vaults.exit.now) }
             ensures why { IfErr result (IsRefusedAt V.changes vaults.entry.now vaults.exit.now arena (2 * END_BYTES)) }
         {
-            vaults.carve(arena, low, tally, 2 * END_BYTES)?;
+            vaults.carve(arena, low, 2 * END_BYTES)?;
             vaults.cut(arena, low, high, END_BYTES);
             *low.body_mut() = mem::take(first);
             *high.body_mut() = mem::take(second);
@@ -144,9 +145,10 @@ fn fit_ends<R, V: Vaults, G>(
     ensures same { IsSameDesk V.names V.extent desk.old desk.new }
     ensures fitted { OnOk result ((l m : LotOf Body) → value_at pair.0 seat.old.lots ≡ Some l → value_at pair.1 seat.old.lots ≡ Some m
         → seat.new ≡ with_lots seat.old (put pair.1 (record m { len = END_BYTES; body = End high }) (put pair.0 (record l { len = END_BYTES; body = End low }) seat.old.lots))) }
-    ensures taken { OnOk result (desk.new.tallies.now ≡ took (pair.0 / MAX_RECORDS) (2 * END_BYTES) desk.old.tallies.now) }
-    ensures refused { IfErr result (λ u. (seat.new ≡ seat.old) × (desk.new.tallies.now ≡ desk.old.tallies.now) × (u.low ≡ low) × (u.high ≡ high)) }
-    ensures why { IfErr result (λ u. IsNoPair V.changes desk.old.vaults.now desk.new.vaults.now (pair.0 / MAX_RECORDS) (2 * END_BYTES) ⊥ (V.extent desk.old.vaults.now) u.why) }
+    ensures taken { OnOk result (V.tallies desk.new.vaults ≡ took (pair.0 / MAX_RECORDS) (2 * END_BYTES) (V.tallies desk.old.vaults)) }
+    ensures asked { OnOk result (AsksEach V.changes (pair.0 / MAX_RECORDS ∷ pair.0 / MAX_RECORDS ∷ []) desk.old.vaults desk.new.vaults) }
+    ensures refused { IfErr result (λ u. (seat.new ≡ seat.old) × (V.tallies desk.new.vaults ≡ V.tallies desk.old.vaults) × (u.low ≡ low) × (u.high ≡ high)) }
+    ensures why { IfErr result (λ u. IsNoPair V.changes desk.old.vaults desk.new.vaults (pair.0 / MAX_RECORDS) (2 * END_BYTES) ⊥ (V.extent desk.old.vaults) u.why) }
 {
     if desk.vaults.size() < 2 * END_BYTES {
         let why = Reason::NoSpace;
@@ -178,9 +180,10 @@ pub(crate) fn make_ends<R, V: Vaults, G: Gate>(
     requires arena { arena < length seat.old.shape.names }
     ensures same { IsSameDesk V.names V.extent desk.old desk.new }
     ensures made { IfOk result (λ r. (l m : LotOf Body) × AreMade arena seat.old seat.new r.0 r.1 l m × (item_of l ≡ end_block low) × (item_of m ≡ end_block high)) }
-    ensures taken { OnOk result (desk.new.tallies.now ≡ took arena (2 * END_BYTES) desk.old.tallies.now) }
-    ensures refused { IfErr result (λ u. SeatLetsGo (λ claims. length claims ≤ 2) arena seat.old seat.new × (desk.new.tallies.now ≡ desk.old.tallies.now) × (u.low ≡ low) × (u.high ≡ high)) }
-    ensures why { IfErr result (λ u. IsNoPair V.changes desk.old.vaults.now desk.new.vaults.now arena (2 * END_BYTES) (SeatFull 1 seat.old seat.new arena) (V.extent desk.old.vaults.now) u.why) }
+    ensures taken { OnOk result (V.tallies desk.new.vaults ≡ took arena (2 * END_BYTES) (V.tallies desk.old.vaults)) }
+    ensures asked { OnOk result (AsksEach V.changes (arena ∷ arena ∷ []) desk.old.vaults desk.new.vaults) }
+    ensures refused { IfErr result (λ u. SeatLetsGo (λ claims. length claims ≤ 2) arena seat.old seat.new × (V.tallies desk.new.vaults ≡ V.tallies desk.old.vaults) × (u.low ≡ low) × (u.high ≡ high)) }
+    ensures why { IfErr result (λ u. IsNoPair V.changes desk.old.vaults desk.new.vaults arena (2 * END_BYTES) (SeatFull 1 seat.old seat.new arena) (V.extent desk.old.vaults) u.why) }
     ensures seen { StartsWith seat.new.front seat.old.front }
 {
     let Some((r, t)) = claim_two(desk.records, seat, arena, desk.gate) else {

@@ -1,9 +1,8 @@
 //! A process's place.
-ghost use Rattle.std.specs.Prelude.{◌≡◌, ◌⊎◌, ◌+◌, ◌*◌, ◌<◌, ◌≤◌, [], length, Some, IfOk, IfErr, true};
+ghost use Rattle.std.specs.Prelude.{◌≡◌, ◌⊎◌, ◌+◌, ◌*◌, ◌<◌, ◌≤◌, [], length, is_some, Some, IfOk, IfErr, true};
 ghost use Rattle.xh_core.specs.Statuses.{is_over};
 ghost use Rattle.xh_model.specs.Keyed.{keys, value_at};
 ghost use Rattle.xh_model.specs.declared.limits.TheConstants.{GENERATIONS, MAX_ARENAS, MAX_RECORDS};
-ghost use Rattle.xh_place.specs.Messages.{is_listed};
 ghost use Rattle.xh_place.specs.Places.{AreBlocks, IsPlaceOf, Item, Lists, found, line, line_in, started, total_of};
 ghost use Rattle.xh_place.specs.Seen.{Stays};
 ghost use Rattle.xh_model.specs.Words.{generation_of};
@@ -120,7 +119,7 @@ impl Place {
     fn has(&mut self, records: &Records<Body>, r: u16) -> bool
         requires own { IsPlaceOf records.now self.old.place }
         ensures same { Stays self.old self.new }
-        ensures has { result ≡ is_listed self.old.place.blocks r }
+        ensures has { result ≡ is_some (value_at r self.old.place.blocks) }
     {
         holds(records, &mut self.seat, r)
     }

@@ -1,14 +1,15 @@
-//! The vaults, as the calls of a place reach them.
-ghost use Rattle.std.specs.Prelude.{◌≡◌, ◌⊎◌, ℕ, ◌+◌, ◌-◌, ◌%◌, ◌<◌, ◌≤◌, List, length, slice_get, Some, IfErr, IfOk, OnOk, OnErr};
+//! The vaults, as the calls of a place reach them, by the tallies of a worker.
+ghost use Rattle.std.specs.Prelude.{◌≡◌, ◌⊎◌, ℕ, ◌-◌, ◌%◌, ◌<◌, ◌≤◌, List, length, slice_get, Some, IfErr, IfOk, MatchResult, OnOk, OnErr};
 ghost use Rattle.atomic_table.specs.Seated.{TableId};
 ghost use Rattle.xh_arena.specs.Sharing.{IsVaultCarved, IsVaultCut, IsVaultGivenBack};
-ghost use Rattle.xh_arena.specs.Views.{VaultOf};
-ghost use Rattle.xh_place.specs.Vaults.{DoesAt, IsRefusedAt};
+ghost use Rattle.xh_arena.specs.Views.{TallyOf, VaultOf};
+ghost use Rattle.xh_place.specs.Tallies.{gave, took};
+ghost use Rattle.xh_place.specs.Vaults.{ByTally, DoesAt, IsRefusedAt};
 ghost use Rattle.xh_model.specs.declared.limits.TheConstants.{MAX_BYTES, UNIT};
 ghost use Rattle.xh_model.specs.Arena.{IsGoodCut};
 
 use crate::body::Body;
-use xh_arena::{Lot, Refused, Tally};
+use xh_arena::{Lot, Refused};
 
 /// All vaults, each by the number of its arena.
 pub trait Vaults {
@@ -17,6 +18,9 @@ pub trait Vaults {
 
     /// The bytes of each.
     ghost extent: { Self → ℕ };
+
+    /// The worker's tallies, one for each arena.
+    ghost tallies: { Self → List TallyOf };
 
     /// `changes old new a v w`: from the first to the second the vault of the arena `a` became `w`,
     /// where it was `v`, and nothing else changed.
@@ -30,21 +34,15 @@ pub trait Vaults {
         ensures units { (result % UNIT ≡ 0) × (result ≤ MAX_BYTES) };
 
     /// As `Vault::carve`, of an arena.
-    fn carve(
-        &mut self,
-        arena: u8,
-        lot: &mut Lot<Body>,
-        tally: &mut Tally,
-        n: u32,
-    ) -> Result<u32, Refused>
-        requires ids { (slice_get (names self.old) arena ≡ Some lot.old.id) × (tally.old.id ≡ lot.old.id) }
+    fn carve(&mut self, arena: u8, lot: &mut Lot<Body>, n: u32) -> Result<u32, Refused>
+        requires ids { slice_get (names self.old) arena ≡ Some lot.old.id }
         requires empty { lot.old.len ≡ 0 }
         requires size { (0 < n) × (n % UNIT ≡ 0) × (n ≤ extent self.old) }
         ensures same { (names self.new ≡ names self.old) × (extent self.new ≡ extent self.old) }
         ensures lot { OnOk result (lot.new ≡ record lot.old { len = n }) }
-        ensures tally { OnOk result (tally.new ≡ record tally.old { taken = tally.old.taken + n }) }
-        ensures refused { OnErr result ((lot.new ≡ lot.old) × (tally.new ≡ tally.old)) }
-        ensures carved { IfOk result (λ at. DoesAt changes self.old self.new arena (λ v w. IsVaultCarved n at v w lot.old lot.new tally.old tally.new)) }
+        ensures tallies { MatchResult result (λ at. tallies self.new ≡ took arena n (tallies self.old)) (λ e. tallies self.new ≡ tallies self.old) }
+        ensures refused { OnErr result (lot.new ≡ lot.old) }
+        ensures carved { IfOk result (λ at. DoesAt changes self.old self.new arena (λ v w. ByTally (tallies self.old) (tallies self.new) arena (IsVaultCarved n at v w lot.old lot.new))) }
         ensures reason { IfErr result (λ e. (e ≡ Refused.NoSpace) ⊎ (e ≡ Refused.Worn)) }
         ensures why { IfErr result (IsRefusedAt changes self.old self.new arena n) };
 
@@ -56,14 +54,15 @@ pub trait Vaults {
         ensures same { (names self.new ≡ names self.old) × (extent self.new ≡ extent self.old) }
         ensures head { head.new ≡ record head.old { len = k } }
         ensures tail { tail.new ≡ record tail.old { len = head.old.len - k } }
+        ensures tallies { tallies self.new ≡ tallies self.old }
         ensures cut { DoesAt changes self.old self.new arena (λ v w. IsVaultCut k v w head.old head.new tail.old tail.new) };
 
     /// As `Vault::give_back`, of an arena.
-    fn give_back(&mut self, arena: u8, lot: &mut Lot<Body>, tally: &mut Tally)
-        requires ids { (slice_get (names self.old) arena ≡ Some lot.old.id) × (tally.old.id ≡ lot.old.id) }
+    fn give_back(&mut self, arena: u8, lot: &mut Lot<Body>)
+        requires ids { slice_get (names self.old) arena ≡ Some lot.old.id }
         requires some { 0 < lot.old.len }
         ensures same { (names self.new ≡ names self.old) × (extent self.new ≡ extent self.old) }
         ensures lot { lot.new ≡ record lot.old { len = 0 } }
-        ensures tally { tally.new ≡ record tally.old { back = tally.old.back + lot.old.len } }
-        ensures given_back { DoesAt changes self.old self.new arena (λ v w. IsVaultGivenBack v w lot.old lot.new tally.old tally.new) };
+        ensures tallies { (tallies self.new ≡ gave arena lot.old.len (tallies self.old)) × (arena < length (tallies self.old)) }
+        ensures given_back { DoesAt changes self.old self.new arena (λ v w. ByTally (tallies self.old) (tallies self.new) arena (IsVaultGivenBack v w lot.old lot.new)) };
 }

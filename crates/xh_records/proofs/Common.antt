@@ -27,7 +27,7 @@ pub use Rattle.xh_model.specs.declared.limits.TheConstants.{GENERATIONS, MAX_REC
 pub use Rattle.xh_records.specs.After.{IsAfter, LeadsOnStores, Wants}
 pub use Rattle.xh_records.specs.Deeds.{Adds, Arrives, Deed, IsLast, IsLeft, deeds_by, events}
 pub use Rattle.xh_records.specs.Encoding.{holder_of}
-pub use Rattle.xh_records.specs.History.{IsInside, IsOneLog, LeadsTo, StartsWith, TellsWord, process_of}
+pub use Rattle.xh_records.specs.History.{IsOneLog, LeadsTo, StartsWith, TellsWord, process_of}
 pub use Rattle.xh_records.specs.Seats.{Ends, EndsAs, HasDone, HasGained, HasLooked, HasLost, HasSeen, Held, IsRecord, IsSeatOf, Knows, RecordsOf, SawAt, SawTaken, lot_in, with_lots}
 pub use Rattle.xh_records.specs.Showing.{HomeFits, IsEmpty, IsHistory, IsLotAt, IsLotOf, IsSmall, Owns, Shown, Shows, Sits, ViewFits, ViewTells}
 pub use Rattle.xh_records.specs.declared.shape.Shape.{Shape}

@@ -1,14 +1,15 @@
 -- The log of all events, as it grows, and the views' fronts.
 use Rattle.xh_records.proofs.Common.{nat_tests, ◌≡◌, ℕ, ◌<◌, ◌≢◌, List, [], ◌∷◌, ◌++◌, length, set, get_or, sym, refl, ap, ◌∙◌, subst, inl, inr, arith, append_assoc}
-use Rattle.xh_records.proofs.Common.{append-nil, mod-lt, some, get_elem?, at_set, Event, Ownership, IsDone, place_of, Among, among_either, Shape, View, IsInside, IsOneLog, LeadsTo}
+use Rattle.xh_records.proofs.Common.{append-nil, mod-lt, some, get_elem?, at_set, Event, Ownership, IsDone, place_of, Among, among_either, Shape, View, IsOneLog, LeadsTo}
 use Rattle.xh_records.proofs.Common.{StartsWith, None, replicate, process_of, Sits, ViewTells, IsHistory, IsOthers, IsAlone, adds, first_of, front_in, none_yet, tail_of, Accept, Deed}
-use Rattle.xh_records.proofs.Common.{IsLeft, deeds_by, events}
+use Rattle.xh_records.proofs.Common.{◌%◌, MAX_RECORDS, IsHolder, record_of, to_of, IsLeft, deeds_by, events}
 use Rattle.xh_records.proofs.Deeds.{arrives_more, deeds_append, deeds_same, events_more}
 use Rattle.xh_records.proofs.Elements.{either_way, only_one}
 use Rattle.xh_records.specs.inner.Steps.{process_in}
 
 -- one more event
-pub leads_more : (n : ℕ) (o m o' : Ownership) (log : List Event) (e : Event) → LeadsTo n o log m → IsDone n m e o' → IsInside n e → LeadsTo n o (log ++ e ∷ []) o'
+pub leads_more : (n : ℕ) (o m o' : Ownership) (log : List Event) (e : Event) → LeadsTo n o log m → IsDone n m e o'
+    → (record_of e % MAX_RECORDS < n) × IsHolder (to_of e) → LeadsTo n o (log ++ e ∷ []) o'
 leads_more n o m o' [] e leads done inside = (o', subst (λ (z : Ownership). IsDone n z e o') leads done, inside, refl)
 leads_more n o m o' (x ∷ xs) e leads done inside = (leads.0, leads.1, leads.2, leads_more n leads.0 m o' xs e leads.3 done inside)
 
@@ -73,7 +74,7 @@ tells_others log u d tells apart = record {
 
 -- one more event, by the seat id
 pub more_history : {B : Type 0} (s : Shape) (o o' : Ownership) (views : List (View B)) (log : List (Deed B)) (id : ℕ) (w : View B) (d : Deed B) → IsHistory s o views log
-    → IsDone s.records o d.0 o' → IsInside s.records d.0 → length o' ≡ length o → place_of (process_of d.0) < s.places
+    → IsDone s.records o d.0 o' → (record_of d.0 % MAX_RECORDS < s.records) × IsHolder (to_of d.0) → length o' ≡ length o → place_of (process_of d.0) < s.places
     → Sits w (process_of d.0) → w.fronts ≡ (place_of (process_of d.0), log ++ d ∷ []) ∷ []
     → ((p r n : ℕ) → d.0 ≡ Accept p r n → IsLeft log r n d.1)
     → ((j p : ℕ) (u : View B) → j ≢ id → get_elem? views j ≡ some u → Sits u p → place_of (process_of d.0) ≢ place_of p) → IsHistory s o' (set views id w) (log ++ d ∷ [])

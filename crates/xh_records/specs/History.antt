@@ -6,14 +6,11 @@ use Rattle.xh_model.specs.declared.event.Holder.{Holder}
 use Rattle.xh_model.specs.declared.limits.TheConstants.{MAX_RECORDS}
 use Rattle.xh_model.specs.Words.{Ownership, IsDone, IsHeldBy, IsHolder, record_of, to_of, word_of}
 
--- an arena of n records has the event's record, and who has it then is a holder
-abbrev pub IsInside : ℕ → Event → Type 0
-IsInside n e = (record_of e % MAX_RECORDS < n) × IsHolder (to_of e)
-
--- the events, in this order, lead from the ownership o to o', with n records in an arena
+-- The events, in this order, lead from the ownership o to o', with n records in an arena.
+-- An arena has the record of each, and who has it then is a holder.
 abbrev pub LeadsTo : ℕ → Ownership → List Event → Ownership → Type 0
 LeadsTo n o [] o' = o' ≡ o
-LeadsTo n o (e ∷ es) o' = (m : Ownership) × IsDone n o e m × IsInside n e × LeadsTo n m es o'
+LeadsTo n o (e ∷ es) o' = (m : Ownership) × IsDone n o e m × ((record_of e % MAX_RECORDS < n) × IsHolder (to_of e)) × LeadsTo n m es o'
 
 -- the process of an event
 abbrev pub process_of : Event → ℕ

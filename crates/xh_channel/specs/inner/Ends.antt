@@ -24,7 +24,8 @@ endpoint_of spot has_contract out into word put line = record {
   got = cond has_contract line.got into.role.got;
   shut = cond has_contract line.shut word.shut;
   peer_shut = cond has_contract line.peer_shut word.peer_shut;
-  told = cond has_contract line.told (record { put = into.role.told_put; taken = out.role.told_taken });
+  told_put = cond has_contract line.told_put into.role.told_put;
+  told_taken = cond has_contract line.told_taken out.role.told_taken;
 }
 
 -- nothing was pushed, popped or shut, and nothing was told

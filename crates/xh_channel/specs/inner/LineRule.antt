@@ -6,7 +6,6 @@ use mathlib.Core.Option as maybe
 use lib.ListN.{get_elem?}
 use Rattle.atomic_table.specs.Seated.{TableId}
 use Rattle.atomic_table.specs.Table.{State, Step, Me}
-use Rattle.xh_model.specs.Direction.{IsDirection}
 use Rattle.xh_channel.specs.declared.counts.Counts.{Counts}
 use Rattle.xh_channel.specs.declared.line_end.LineEnd.{LineEnd}
 use Rattle.xh_channel.specs.declared.line_rule.Account.{Account}
@@ -14,7 +13,7 @@ use Rattle.xh_channel.specs.declared.line_rule.Part.{Part}
 use Rattle.xh_channel.specs.declared.message.Message.{Message}
 use Rattle.xh_channel.specs.LineSeats.{LineView}
 use Rattle.xh_channel.specs.Lines.{Lined, end_of, no_counts, waiting}
-use Rattle.xh_channel.specs.Numbers.{number}
+use Rattle.xh_channel.specs.Directions.{WaitsAfter}
 
 -- of side 0, or of side 1
 abbrev pub by : {X : Type 0} → ℕ → X → X → X
@@ -41,7 +40,7 @@ pub record IsEndBy (line : Lined) (end : LineEnd) (own peer : Account) : Type 0 
   pub depth : line.depth ≡ own.depth
   pub state : end.state ≡ own.state
   pub counts : end.counts ≡ counts_in own
-  pub waits : IsDirection number peer.sent own.got (waiting end)
+  pub waits : WaitsAfter peer.sent own.got (waiting end)
 
 -- what lies in the slot is as the accounts of side 0 and of side 1 say
 abbrev pub Lies : Option Lined → Account → Account → Type 0
@@ -129,7 +128,7 @@ IsSettled v line = LiesFor v.side (Some line) (own_by v line) (peer_by v line) �
 
 -- what the one side took is a beginning of what the other put
 abbrev pub IsTaken : Account → Account → Type 0
-IsTaken from to = (items : List Message) × IsDirection number from.sent to.got items
+IsTaken from to = (items : List Message) × WaitsAfter from.sent to.got items
 
 -- the seat has taken the line, and knows both accounts
 abbrev pub IsLocked : Me (Option Lined) Part → Me (Option Lined) Part → Type 0
@@ -189,5 +188,6 @@ line_view table v = record {
   got = v.own.got;
   shut = v.own.shut;
   peer_shut = v.told.shut;
-  told = record { put = v.told.put; taken = v.told.taken };
+  told_put = v.told.put;
+  told_taken = v.told.taken;
 }

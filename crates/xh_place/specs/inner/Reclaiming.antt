@@ -9,21 +9,21 @@ use Rattle.xh_place.specs.Ending.{IsSwept}
 use Rattle.xh_place.specs.Endpoints.{AreGot, EndsWith, IsDrained, blocks_of, record_of}
 use Rattle.xh_place.specs.Ends.{EndDoes, toward_in}
 use Rattle.xh_place.specs.Events.{accepted_on}
-use Rattle.xh_place.specs.Places.{IsWhole, Item, PlaceOf, with_blocks, with_list, with_more}
+use Rattle.xh_place.specs.Places.{IsWhole, Item, PlaceOf}
 use Rattle.xh_place.specs.Seen.{Becomes, IsSeen, PlaceSeen, Sight, brings}
 
 -- the endpoint came on the direction to the end of the list, and was swept from there
 abbrev pub IsSweptLate : ℕ → ℕ → PlaceSeen → PlaceSeen → ℕ → Type 0
 IsSweptLate d r old new sum = (x : Item) × (log : List (Event × Item))
-    × IsSwept (IsSeen old new) (length old.place.blocks) MAX_BUDGET (with_more ((r, x) ∷ []) old.place) new.place sum log
-    × Becomes (with_list old.place new.place) (accepted_on old.place.process d ((r, x) ∷ []) ++ log) old new × IsWhole x × IsSeen old new r (brings d x)
+    × IsSwept (IsSeen old new) (length old.place.blocks) MAX_BUDGET (record old.place { blocks = old.place.blocks ++ (r, x) ∷ [] }) new.place sum log
+    × Becomes (record old.place { blocks = new.place.blocks }) (accepted_on old.place.process d ((r, x) ∷ []) ++ log) old new × IsWhole x × IsSeen old new r (brings d x)
 
 -- the endpoint was drained, and these came with its messages, to the end of the list
 abbrev pub Drains : (ℕ → Sight → Type 0) → ℕ → List (ℕ × Item) → PlaceOf → PlaceOf → Type 0
 Drains saw e ys old new = (mid : PlaceOf) × (ms : List Message) × (gots : List Got) × EndDoes e old mid (IsDrained ms) × (map record_of gots ≡ blocks_of ms)
-    × AreGot saw (toward_in (value_at e old.blocks)) ys gots × (new ≡ with_more ys mid)
+    × AreGot saw (toward_in (value_at e old.blocks)) ys gots × (new ≡ record mid { blocks = mid.blocks ++ ys })
 
 -- A block of the list is about to go: an endpoint was shut and drained, and these came with its messages, to the end of the list. Of a data block nothing changed.
 abbrev pub Clears : (ℕ → Sight → Type 0) → ℕ → List (ℕ × Item) → PlaceOf → PlaceOf → Type 0
 Clears saw r ys old new = (x : Item) × (y : Item) × (value_at r old.blocks ≡ Some x) × (y.len ≡ x.len) × EndsWith saw x.content ys
-    × (new ≡ with_more ys (with_blocks old (put r y old.blocks)))
+    × (new ≡ record old { blocks = put r y old.blocks ++ ys })

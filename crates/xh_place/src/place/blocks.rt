@@ -1,17 +1,20 @@
 //! Data blocks of a place.
+ghost use Rattle.xh_place.specs.Events.{vacated};
 ghost use Rattle.std.specs.Prelude.{◌≡◌, ◌≢◌, ℕ, ◌+◌, ◌/◌, ◌%◌, ◌<◌, ◌≤◌, ◌∷◌, [], ◌++◌, is_none, length, Some, IfErr, IfOk, MatchResult, OnErr, OnOk};
 ghost use Rattle.xh_core.specs.Calls.{data_tests, split_tests, start};
 ghost use Rattle.xh_core.specs.declared.refused.Refused.TheVariants.{NotOwned};
 ghost use Rattle.xh_core.specs.Refusing.{Tested};
 ghost use Rattle.xh_model.specs.Arena.{IsGoodCut};
-ghost use Rattle.xh_model.specs.Keyed.{Distinct, keys, value_at};
+ghost use Rattle.xh_model.specs.Keyed.{Distinct, keys, value_at, without};
 ghost use Rattle.xh_model.specs.declared.limits.TheConstants.{MAX_BYTES, MAX_RECORDS, UNIT};
+ghost use Rattle.xh_place.specs.declared.body.Body.{Body};
 ghost use Rattle.xh_place.specs.Bodies.{bytes, kind_of};
-ghost use Rattle.xh_place.specs.Desk.{HasVaults, IsAt, IsSameDesk, StaysAt};
+ghost use Rattle.xh_place.specs.Desk.{IsAt, IsSameDesk, StaysAt};
 ghost use Rattle.xh_place.specs.Ending.{HasGivenBack};
 ghost use Rattle.xh_place.specs.Places.{Item, IsPlaceOf, found, total_of};
-ghost use Rattle.xh_place.specs.Seen.{Frees, Stays};
+ghost use Rattle.xh_place.specs.Seen.{Becomes, Stays};
 ghost use Rattle.xh_place.specs.Tallies.{gave, took};
+ghost use Rattle.xh_place.specs.Vaults.{Asks};
 ghost use Rattle.xh_core.specs.Headers.{len_in};
 ghost use Rattle.xh_core.specs.Space.{rounded};
 ghost use Rattle.xh_place.specs.Calls.{Allocates, FreesBlock, GivesUp, HasBytes, Lends, LendsMut, Makes, Reads, Splits, Writes, space_at};
@@ -23,7 +26,7 @@ use crate::bytes::{bytes_of, lend_lot, read_lot, show_lot, write_lot};
 use crate::desk::Desk;
 use crate::gate::Gate;
 use crate::list::remove;
-use crate::lots::{cut_block, give_up, make_block};
+use crate::lots::{Outlet, cut_block, give_up, make_block};
 use crate::place::Place;
 use crate::vaults::Vaults;
 use std::alloc::Global;
@@ -54,9 +57,10 @@ impl Place {
     ) -> Result<Block, Refused>
         requires at { IsAt V.names desk.old self.old.place }
         ensures same { StaysAt V.names V.extent desk.old desk.new self.old self.new }
-        ensures made { Allocates self.old.place.state (space_at V.changes V.extent (length self.old.place.shape.names) desk.old.vaults.now desk.new.vaults.now) n arena self.old self.new result }
-        ensures tallies { MatchResult result (λ b. desk.new.tallies.now ≡ took arena b.len desk.old.tallies.now) (λ _. desk.new.tallies.now ≡ desk.old.tallies.now) }
-        ensures untouched { IfErr result (λ e. e ≢ Refused.NoSpace → e ≢ Refused.Worn → desk.new.vaults.now ≡ desk.old.vaults.now) }
+        ensures made { Allocates self.old.place.state (space_at V.changes V.extent (length self.old.place.shape.names) desk.old.vaults desk.new.vaults) n arena self.old self.new result }
+        ensures tallies { MatchResult result (λ b. V.tallies desk.new.vaults ≡ took arena b.len (V.tallies desk.old.vaults)) (λ _. V.tallies desk.new.vaults ≡ V.tallies desk.old.vaults) }
+        ensures asked { OnOk result (Asks V.changes arena desk.old.vaults desk.new.vaults) }
+        ensures untouched { IfErr result (λ e. e ≢ Refused.NoSpace → e ≢ Refused.Worn → desk.new.vaults ≡ desk.old.vaults) }
     {
         let mut zeros = Vec::new(alloc);
         self.make(desk, &mut zeros, n as usize, arena)
@@ -73,10 +77,11 @@ impl Place {
     ) -> Result<Block, Refused>
         requires at { IsAt V.names desk.old self.old.place }
         ensures same { StaysAt V.names V.extent desk.old desk.new self.old self.new }
-        ensures made { Makes self.old.place.state (space_at V.changes V.extent (length self.old.place.shape.names) desk.old.vaults.now desk.new.vaults.now)
+        ensures made { Makes self.old.place.state (space_at V.changes V.extent (length self.old.place.shape.names) desk.old.vaults desk.new.vaults)
             (length bytes.old.items) bytes.old.items arena self.old self.new result }
-        ensures tallies { MatchResult result (λ b. desk.new.tallies.now ≡ took arena b.len desk.old.tallies.now) (λ _. desk.new.tallies.now ≡ desk.old.tallies.now) }
-        ensures untouched { IfErr result (λ e. e ≢ Refused.NoSpace → e ≢ Refused.Worn → desk.new.vaults.now ≡ desk.old.vaults.now) }
+        ensures tallies { MatchResult result (λ b. V.tallies desk.new.vaults ≡ took arena b.len (V.tallies desk.old.vaults)) (λ _. V.tallies desk.new.vaults ≡ V.tallies desk.old.vaults) }
+        ensures asked { OnOk result (Asks V.changes arena desk.old.vaults desk.new.vaults) }
+        ensures untouched { IfErr result (λ e. e ≢ Refused.NoSpace → e ≢ Refused.Worn → desk.new.vaults ≡ desk.old.vaults) }
         ensures bytes { MatchResult result (λ _. bytes.new.items ≡ []) (λ _. bytes.new.items ≡ bytes.old.items) }
     {
         let n = bytes.len();
@@ -95,10 +100,11 @@ impl Place {
         requires at { IsAt V.names desk.old self.old.place }
         requires room { length buffer.old.items ≤ n }
         ensures same { StaysAt V.names V.extent desk.old desk.new self.old self.new }
-        ensures made { Makes self.old.place.state (space_at V.changes V.extent (length self.old.place.shape.names) desk.old.vaults.now desk.new.vaults.now)
+        ensures made { Makes self.old.place.state (space_at V.changes V.extent (length self.old.place.shape.names) desk.old.vaults desk.new.vaults)
             n buffer.old.items arena self.old self.new result }
-        ensures tallies { MatchResult result (λ b. desk.new.tallies.now ≡ took arena b.len desk.old.tallies.now) (λ _. desk.new.tallies.now ≡ desk.old.tallies.now) }
-        ensures untouched { IfErr result (λ e. e ≢ Refused.NoSpace → e ≢ Refused.Worn → desk.new.vaults.now ≡ desk.old.vaults.now) }
+        ensures tallies { MatchResult result (λ b. V.tallies desk.new.vaults ≡ took arena b.len (V.tallies desk.old.vaults)) (λ _. V.tallies desk.new.vaults ≡ V.tallies desk.old.vaults) }
+        ensures asked { OnOk result (Asks V.changes arena desk.old.vaults desk.new.vaults) }
+        ensures untouched { IfErr result (λ e. e ≢ Refused.NoSpace → e ≢ Refused.Worn → desk.new.vaults ≡ desk.old.vaults) }
         ensures buffer { MatchResult result (λ _. buffer.new.items ≡ []) (λ _. buffer.new.items ≡ buffer.old.items) }
     {
         self.state.check_start()?;
@@ -116,26 +122,27 @@ impl Place {
         Ok(Block { rec, len })
     }
 
-    // A block's bytes go back, and its record is free. It answers the bytes, and what the block carried is in `body`.
+    // A block's bytes go back, and its record is free. It answers the bytes, and what the block carried goes to the outlet.
     #[inline(always)]
-    pub(super) fn give_up<R, V: Vaults, G: Gate>(
+    pub(super) fn give_up<R, V: Vaults, G: Gate, E: Outlet>(
         &mut self,
         desk: &mut Desk<'_, R, V, G>,
         r: u16,
-        body: &mut Body,
+        out: &mut E,
     ) -> u32
         requires at { IsAt V.names desk.old self.old.place }
         requires listed { (x : Item) × (value_at r self.old.place.blocks ≡ Some x) }
         ensures same { IsSameDesk V.names V.extent desk.old desk.new }
-        ensures list { Frees r self.old self.new }
+        ensures list { Becomes (record self.old.place { blocks = without r self.old.place.blocks }) (vacated self.old.place.process r) self.old self.new }
         ensures once { Distinct (keys self.old.place.blocks) }
         ensures bytes { (result ≡ len_in (found self.old.place r)) × (result + total_of self.new.place.blocks ≡ total_of self.old.place.blocks) }
-        ensures back { (desk.new.tallies.now ≡ gave (r / MAX_RECORDS) result desk.old.tallies.now) × HasGivenBack result desk.old.tallies.now desk.new.tallies.now }
+        ensures back { (V.tallies desk.new.vaults ≡ gave (r / MAX_RECORDS) result (V.tallies desk.old.vaults)) × HasGivenBack result (V.tallies desk.old.vaults) (V.tallies desk.new.vaults) }
+        ensures asked { Asks V.changes (r / MAX_RECORDS) desk.old.vaults desk.new.vaults × (0 < result) }
         ensures arena { r / MAX_RECORDS < length self.old.place.shape.names }
-        ensures body { (x : Item) → value_at r self.old.place.blocks ≡ Some x → IsBodyOf body.new x }
+        ensures body { (x : Item) → value_at r self.old.place.blocks ≡ Some x → (b : Body) × IsBodyOf b x × E.has out.new b }
     {
         remove(&mut self.list, r);
-        let len = give_up(desk, &mut self.seat, r, body);
+        let len = give_up(desk, &mut self.seat, r, out);
         self.total -= u64::from(len);
         len
     }
@@ -178,12 +185,11 @@ impl Place {
         requires at { IsAt V.names desk.old self.old.place }
         ensures same { StaysAt V.names V.extent desk.old desk.new self.old self.new }
         ensures freed { FreesBlock self.old.place.state r self.old self.new result }
-        ensures tallies { MatchResult result (λ n. desk.new.tallies.now ≡ gave (r / MAX_RECORDS) n desk.old.tallies.now) (λ _. desk.new.tallies.now ≡ desk.old.tallies.now) }
+        ensures tallies { MatchResult result (λ n. V.tallies desk.new.vaults ≡ gave (r / MAX_RECORDS) n (V.tallies desk.old.vaults)) (λ _. V.tallies desk.new.vaults ≡ V.tallies desk.old.vaults) }
         ensures arena { OnOk result (r / MAX_RECORDS < length self.old.place.shape.names) }
-        ensures untouched { OnErr result (desk.new.vaults.now ≡ desk.old.vaults.now) }
+        ensures asked { MatchResult result (λ _. Asks V.changes (r / MAX_RECORDS) desk.old.vaults desk.new.vaults) (λ _. desk.new.vaults ≡ desk.old.vaults) }
     {
-        let mut body = Body::Nothing;
-        self.release(desk, r, &mut body)
+        self.release(desk, r, &mut ())
     }
 
     /// As `free`. It answers the block's buffer with all its bytes, so with the zeros up to a multiple of 16.
@@ -195,33 +201,33 @@ impl Place {
         requires at { IsAt V.names desk.old self.old.place }
         ensures same { StaysAt V.names V.extent desk.old desk.new self.old self.new }
         ensures freed { GivesUp (λ v. HasBytes r self.old.place v.items) self.old.place.state r self.old self.new result }
-        ensures tallies { MatchResult result (λ v. desk.new.tallies.now ≡ gave (r / MAX_RECORDS) (length v.items) desk.old.tallies.now) (λ _. desk.new.tallies.now ≡ desk.old.tallies.now) }
+        ensures tallies { MatchResult result (λ v. V.tallies desk.new.vaults ≡ gave (r / MAX_RECORDS) (length v.items) (V.tallies desk.old.vaults)) (λ _. V.tallies desk.new.vaults ≡ V.tallies desk.old.vaults) }
         ensures arena { OnOk result (r / MAX_RECORDS < length self.old.place.shape.names) }
-        ensures untouched { OnErr result (desk.new.vaults.now ≡ desk.old.vaults.now) }
+        ensures asked { MatchResult result (λ _. Asks V.changes (r / MAX_RECORDS) desk.old.vaults desk.new.vaults) (λ _. desk.new.vaults ≡ desk.old.vaults) }
     {
         let mut body = Body::Nothing;
         self.release(desk, r, &mut body)?;
         Ok(bytes_of(body))
     }
 
-    // A data block's bytes go back, and its record is free. What it carried is in `body`.
+    // A data block's bytes go back, and its record is free. What it carried goes to the outlet.
     #[inline(always)]
-    fn release<R, V: Vaults, G: Gate>(
+    fn release<R, V: Vaults, G: Gate, E: Outlet>(
         &mut self,
         desk: &mut Desk<'_, R, V, G>,
         r: u16,
-        body: &mut Body,
+        out: &mut E,
     ) -> Result<u32, Refused>
         requires at { IsAt V.names desk.old self.old.place }
         ensures same { StaysAt V.names V.extent desk.old desk.new self.old self.new }
         ensures freed { FreesBlock self.old.place.state r self.old self.new result }
-        ensures tallies { MatchResult result (λ n. desk.new.tallies.now ≡ gave (r / MAX_RECORDS) n desk.old.tallies.now) (λ _. desk.new.tallies.now ≡ desk.old.tallies.now) }
+        ensures tallies { MatchResult result (λ n. V.tallies desk.new.vaults ≡ gave (r / MAX_RECORDS) n (V.tallies desk.old.vaults)) (λ _. V.tallies desk.new.vaults ≡ V.tallies desk.old.vaults) }
         ensures arena { OnOk result (r / MAX_RECORDS < length self.old.place.shape.names) }
-        ensures untouched { OnErr result (desk.new.vaults.now ≡ desk.old.vaults.now) }
-        ensures body { IfOk result (λ n. (x : Item) × (value_at r self.old.place.blocks ≡ Some x) × IsBodyOf body.new x × (kind_of x.content ≡ kind.Data) × (n ≡ x.len)) }
+        ensures asked { MatchResult result (λ _. Asks V.changes (r / MAX_RECORDS) desk.old.vaults desk.new.vaults) (λ _. desk.new.vaults ≡ desk.old.vaults) }
+        ensures body { IfOk result (λ n. (x : Item) × (value_at r self.old.place.blocks ≡ Some x) × ((b : Body) × IsBodyOf b x × E.has out.new b) × (kind_of x.content ≡ kind.Data) × (n ≡ x.len)) }
     {
         self.test_data(desk.records, r)?;
-        Ok(self.give_up(desk, r, body))
+        Ok(self.give_up(desk, r, out))
     }
 
     /// Cuts a data block after its first `k` bytes, a multiple of 16: the head, which keeps its record and
@@ -235,11 +241,11 @@ impl Place {
         r: u16,
         k: u32,
     ) -> Result<(Block, Block), Refused>
-        requires at { HasVaults V.names desk.old self.old.place }
+        requires at { IsAt V.names desk.old self.old.place }
         ensures same { StaysAt V.names V.extent desk.old desk.new self.old self.new }
         ensures cut { Splits self.old.place.state r k self.old self.new result }
-        ensures tallies { desk.new.tallies.now ≡ desk.old.tallies.now }
-        ensures untouched { OnErr result (desk.new.vaults.now ≡ desk.old.vaults.now) }
+        ensures tallies { V.tallies desk.new.vaults ≡ V.tallies desk.old.vaults }
+        ensures asked { MatchResult result (λ _. Asks V.changes (r / MAX_RECORDS) desk.old.vaults desk.new.vaults) (λ _. desk.new.vaults ≡ desk.old.vaults) }
     {
         let len = self.test_cut(desk.records, r, k)?;
         let rec = cut_block(alloc, desk, &mut self.seat, r, k)?;

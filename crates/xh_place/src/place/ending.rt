@@ -8,15 +8,15 @@ ghost use Rattle.xh_model.specs.declared.event.Event.{Event};
 ghost use Rattle.xh_model.specs.declared.limits.TheConstants.{DIRECTIONS};
 ghost use Rattle.xh_place.specs.Calls.{Stops};
 ghost use Rattle.xh_place.specs.Desk.{IsAt, IsSameDesk, StaysAt};
-ghost use Rattle.xh_place.specs.Ending.{HasGivenBack, IsSwept, ending};
+ghost use Rattle.xh_place.specs.Vaults.{BringsBack};
+ghost use Rattle.xh_place.specs.Ending.{IsSwept, ending};
 ghost use Rattle.xh_place.specs.Ends.{IsTooLate, ending_again};
-ghost use Rattle.xh_place.specs.Places.{Item, with_list};
+ghost use Rattle.xh_place.specs.Places.{Item};
 ghost use Rattle.xh_place.specs.Seen.{Becomes, IsElsewhere, IsSamePlace, IsSeen, SawWord, Stays};
 ghost use Rattle.xh_records.specs.Seats.{IsRecord};
 ghost use Rattle.xh_place.specs.inner.Reclaiming.{IsSweptLate};
 ghost use Rattle.xh_core.specs.declared.status.Status.TheVariants as status;
 
-use crate::body::Body;
 use crate::desk::Desk;
 use crate::gate::Gate;
 use crate::got::Got;
@@ -95,13 +95,12 @@ impl Place {
         requires some { from < length self.old.place.blocks }
         ensures same { IsSameDesk V.names V.extent desk.old desk.new }
         ensures swept { (log : List (Event × Item)) × IsSwept (IsSeen self.old self.new) from 1 self.old.place self.new.place result log
-            × Becomes (with_list self.old.place self.new.place) log self.old self.new }
-        ensures back { HasGivenBack result desk.old.tallies.now desk.new.tallies.now }
+            × Becomes (record self.old.place { blocks = self.new.place.blocks }) log self.old self.new }
+        ensures back { BringsBack V.changes V.tallies result desk.old.vaults desk.new.vaults }
     {
         let r = self.at(from);
         self.drain_end(desk, r);
-        let mut body = Body::Nothing;
-        self.give_up(desk, r, &mut body)
+        self.give_up(desk, r, &mut ())
     }
 
     /// The blocks of the list from `from` on go, as far as the budget goes; what waits for an endpoint
@@ -116,9 +115,9 @@ impl Place {
         requires at { IsAt V.names desk.old self.old.place }
         ensures same { IsSameDesk V.names V.extent desk.old desk.new }
         ensures swept { (log : List (Event × Item)) × IsSwept (IsSeen self.old self.new) from budget self.old.place self.new.place result.0 log
-            × Becomes (with_list self.old.place self.new.place) log self.old self.new }
+            × Becomes (record self.old.place { blocks = self.new.place.blocks }) log self.old self.new }
         ensures left { result.1 ≡ length self.new.place.blocks - from }
-        ensures back { HasGivenBack result.0 desk.old.tallies.now desk.new.tallies.now }
+        ensures back { BringsBack V.changes V.tallies result.0 desk.old.vaults desk.new.vaults }
     {
         let mut bytes = 0;
         let mut used = 0;
@@ -138,8 +137,8 @@ impl Place {
     ) -> Result<u64, Refused>
         requires at { IsAt V.names desk.old self.old.place }
         ensures same { StaysAt V.names V.extent desk.old desk.new self.old self.new }
-        ensures stopped { (bytes : ℕ) × Stops self.old.place.state budget bytes self.old self.new result × HasGivenBack bytes desk.old.tallies.now desk.new.tallies.now }
-        ensures untouched { IsSome (first_refusal (stop self.old.place.state)) → desk.new.tallies.now ≡ desk.old.tallies.now }
+        ensures stopped { (bytes : ℕ) × Stops self.old.place.state budget bytes self.old self.new result × BringsBack V.changes V.tallies bytes desk.old.vaults desk.new.vaults }
+        ensures untouched { IsSome (first_refusal (stop self.old.place.state)) → desk.new.vaults ≡ desk.old.vaults }
     {
         self.state().check_stop()?;
         self.set_state(Status::Ending);
@@ -159,8 +158,8 @@ impl Place {
         requires taken { self.old.place.state ≢ status.Vacant }
         ensures same { IsSameDesk V.names V.extent desk.old desk.new }
         ensures place { IsSamePlace self.old self.new }
-        ensures swept { (Stays self.old self.new × (desk.new.tallies.now ≡ desk.old.tallies.now) × IsElsewhere (SawWord self.old self.new) direction r)
-            ⊎ ((bytes : ℕ) × IsTooLate direction r self.old self.new bytes × HasGivenBack bytes desk.old.tallies.now desk.new.tallies.now) }
+        ensures swept { (Stays self.old self.new × (desk.new.vaults ≡ desk.old.vaults) × IsElsewhere (SawWord self.old self.new) direction r)
+            ⊎ ((bytes : ℕ) × IsTooLate direction r self.old self.new bytes × BringsBack V.changes V.tallies bytes desk.old.vaults desk.new.vaults) }
     {
         let state = self.state();
         self.set_state(Status::Ending);
@@ -179,8 +178,8 @@ impl Place {
         requires alive { is_over self.old.place.state ≢ true }
         ensures same { IsSameDesk V.names V.extent desk.old desk.new }
         ensures place { IsSamePlace self.old self.new }
-        ensures swept { (Stays self.old self.new × (desk.new.tallies.now ≡ desk.old.tallies.now) × IsElsewhere (SawWord self.old self.new) direction r)
-            ⊎ ((bytes : ℕ) × IsSweptLate direction r self.old self.new bytes × HasGivenBack bytes desk.old.tallies.now desk.new.tallies.now) }
+        ensures swept { (Stays self.old self.new × (desk.new.vaults ≡ desk.old.vaults) × IsElsewhere (SawWord self.old self.new) direction r)
+            ⊎ ((bytes : ℕ) × IsSweptLate direction r self.old self.new bytes × BringsBack V.changes V.tallies bytes desk.old.vaults desk.new.vaults) }
     {
         let from = self.count();
         match self.accept(desk.records, r, direction) {

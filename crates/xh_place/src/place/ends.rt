@@ -1,5 +1,5 @@
 //! Endpoints of a place.
-ghost use Rattle.std.specs.Prelude.{◌≡◌, ◌≢◌, ℕ, ◌+◌, ◌*◌, ◌<◌, ◌++◌, List, is_some, length, IsSome, Some, MatchOption, true, false};
+ghost use Rattle.std.specs.Prelude.{◌≡◌, ◌≢◌, ℕ, ◌+◌, ◌*◌, ◌<◌, ◌++◌, ◌∷◌, [], List, is_some, length, IsSome, OnOk, Some, MatchOption, true, false};
 ghost use Rattle.xh_channel.specs.Calls.{EndpointShuts};
 ghost use Rattle.xh_channel.specs.Endpoint.{EndpointOf};
 ghost use Rattle.xh_core.specs.Calls.{arena_tests, end_tests, start};
@@ -10,12 +10,11 @@ ghost use Rattle.xh_model.specs.declared.limits.TheConstants.{DIRECTIONS, END_BY
 ghost use Rattle.xh_place.specs.Bodies.{IsEndAt, kind_of};
 ghost use Rattle.xh_place.specs.Calls.{Closes};
 ghost use Rattle.xh_place.specs.Desk.{IsAt, StaysAt};
-ghost use Rattle.xh_place.specs.Ending.{HasGivenBack, last};
 ghost use Rattle.xh_place.specs.Ends.{Accepts, EndDoes, IsUnopened, Opens, end_block, is_here, toward_in};
-ghost use Rattle.xh_place.specs.Places.{Item, IsPlaceOf, alone, found, with_blocks};
+ghost use Rattle.xh_place.specs.Places.{Item, IsPlaceOf, alone, found};
 ghost use Rattle.xh_place.specs.Seen.{Becomes, Did, FindsFull, IsSeen, Stays};
 ghost use Rattle.xh_place.specs.Events.{accepted_on, passed_on};
-ghost use Rattle.xh_place.specs.Vaults.{IsNoPair};
+ghost use Rattle.xh_place.specs.Vaults.{BringsBack, AsksEach, IsNoPair};
 ghost use Rattle.xh_records.specs.Seats.{IsRecord};
 ghost use Rattle.xh_channel.specs.Pairs.{IsPair};
 ghost use Rattle.xh_core.specs.Headers.{has_end};
@@ -92,10 +91,11 @@ impl Place {
         requires at { IsAt V.names desk.old self.old.place }
         requires fresh { IsPair low high }
         ensures same { StaysAt V.names V.extent desk.old desk.new self.old self.new }
-        ensures opened { Opens arena low high self.old self.new desk.old.tallies.now desk.new.tallies.now result }
-        ensures why { IsUnopened (start self.old.place.state ++ arena_tests arena (length self.old.place.shape.names)) ((desk.new.vaults.now ≡ desk.old.vaults.now)
+        ensures opened { Opens arena low high self.old self.new (V.tallies desk.old.vaults) (V.tallies desk.new.vaults) result }
+        ensures asked { OnOk result (AsksEach V.changes (arena ∷ arena ∷ []) desk.old.vaults desk.new.vaults) }
+        ensures why { IsUnopened (start self.old.place.state ++ arena_tests arena (length self.old.place.shape.names)) ((desk.new.vaults ≡ desk.old.vaults)
             × Stays self.old self.new)
-            (IsNoPair V.changes desk.old.vaults.now desk.new.vaults.now arena (2 * END_BYTES) (FindsFull 1 self.old self.new arena) (V.extent desk.old.vaults.now)) result }
+            (IsNoPair V.changes desk.old.vaults desk.new.vaults arena (2 * END_BYTES) (FindsFull 1 self.old self.new arena) (V.extent desk.old.vaults)) result }
     {
         if let Err(why) = self.state.check_start() {
             return Err(Unopened { why, low, high });
@@ -124,10 +124,11 @@ impl Place {
         requires at { IsAt V.names desk.old self.old.place }
         requires fresh { IsPair low high × (is_some low.contract ≡ true) }
         ensures same { StaysAt V.names V.extent desk.old desk.new self.old self.new }
-        ensures opened { Opens arena low high self.old self.new desk.old.tallies.now desk.new.tallies.now result }
-        ensures why { IsUnopened (start self.old.place.state ++ arena_tests arena (length self.old.place.shape.names)) ((desk.new.vaults.now ≡ desk.old.vaults.now)
+        ensures opened { Opens arena low high self.old self.new (V.tallies desk.old.vaults) (V.tallies desk.new.vaults) result }
+        ensures asked { OnOk result (AsksEach V.changes (arena ∷ arena ∷ []) desk.old.vaults desk.new.vaults) }
+        ensures why { IsUnopened (start self.old.place.state ++ arena_tests arena (length self.old.place.shape.names)) ((desk.new.vaults ≡ desk.old.vaults)
             × Stays self.old self.new)
-            (IsNoPair V.changes desk.old.vaults.now desk.new.vaults.now arena (2 * END_BYTES) (FindsFull 1 self.old self.new arena) (V.extent desk.old.vaults.now)) result }
+            (IsNoPair V.changes desk.old.vaults desk.new.vaults arena (2 * END_BYTES) (FindsFull 1 self.old self.new arena) (V.extent desk.old.vaults)) result }
     {
         self.open(desk, low, high, arena)
     }
@@ -137,7 +138,8 @@ impl Place {
         requires own { IsPlaceOf records.now self.old.place × (direction < DIRECTIONS) }
         requires running { self.old.place.state ≡ status.Running }
         requires end { has_end (found self.old.place r) ≡ true }
-        ensures { Becomes (with_blocks self.old.place (without r self.old.place.blocks)) (passed_on self.old.place.process direction (alone r (value_at r self.old.place.blocks))) self.old self.new }
+        ensures { Becomes (record self.old.place { blocks = without r self.old.place.blocks })
+            (passed_on self.old.place.process direction (alone r (value_at r self.old.place.blocks))) self.old self.new }
     {
         let len = pass_block(records, &mut self.seat, r, direction);
         remove(&mut self.list, r);
@@ -163,7 +165,7 @@ impl Place {
     ) -> Result<Block, Refused>
         requires at { IsAt V.names desk.old self.old.place × IsRecord desk.old.records.now.shape r × (direction < DIRECTIONS) }
         ensures same { StaysAt V.names V.extent desk.old desk.new self.old self.new }
-        ensures accepted { Accepts process r direction self.old self.new desk.old.tallies.now desk.new.tallies.now result }
+        ensures accepted { Accepts V.changes V.tallies process r direction self.old self.new desk.old.vaults desk.new.vaults result }
     {
         if self.state() == Status::Vacant {
             return Err(Refused::Ended);
@@ -187,8 +189,8 @@ impl Place {
     ) -> Result<u64, Refused>
         requires at { IsAt V.names desk.old self.old.place }
         ensures same { StaysAt V.names V.extent desk.old desk.new self.old self.new }
-        ensures closed { (bytes : ℕ) × Closes self.old.place.state e bytes self.old self.new result × HasGivenBack bytes desk.old.tallies.now desk.new.tallies.now }
-        ensures untouched { IsSome (first_refusal (start self.old.place.state ++ end_tests (found self.old.place e))) → desk.new.tallies.now ≡ desk.old.tallies.now }
+        ensures closed { (bytes : ℕ) × Closes self.old.place.state e bytes self.old self.new result × BringsBack V.changes V.tallies bytes desk.old.vaults desk.new.vaults }
+        ensures untouched { IsSome (first_refusal (start self.old.place.state ++ end_tests (found self.old.place e))) → desk.new.vaults ≡ desk.old.vaults }
     {
         self.test_end(desk.records, e)?;
         self.move_last(e);
@@ -200,7 +202,7 @@ impl Place {
     // A block of the list goes to its end.
     fn move_last(&mut self, r: u16)
         requires { (x : Item) × (value_at r self.old.place.blocks ≡ Some x) }
-        ensures { self.new ≡ record self.old { place = with_blocks self.old.place (last r self.old.place.blocks) } }
+        ensures { self.new ≡ record self.old { place = record self.old.place { blocks = without r self.old.place.blocks ++ alone r (value_at r self.old.place.blocks) } } }
     {
         remove(&mut self.list, r);
         self.list.push_reserved(r);

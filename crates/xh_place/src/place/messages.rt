@@ -1,14 +1,15 @@
 //! Messages that a place gives and takes.
-ghost use Rattle.std.specs.Prelude.{◌≡◌, ◌≢◌, ℕ, ◌+◌, ◌*◌, ◌<◌, ◌≤◌, List, [], ◌∷◌, length, Some, IfErr, MatchResult, map, true};
+ghost use Rattle.xh_channel.specs.Calls.{EndpointTakes};
+ghost use Rattle.std.specs.Prelude.{◌≡◌, ◌≢◌, ℕ, ◌+◌, ◌*◌, ◌<◌, ◌≤◌, List, [], ◌∷◌, length, Some, IfErr, MatchResult, is_some, map, true};
 ghost use Rattle.xh_core.specs.Calls.{given_tests};
 ghost use Rattle.xh_core.specs.Refusing.{Tested};
 ghost use Rattle.xh_core.specs.Statuses.{is_over};
 ghost use Rattle.xh_model.specs.Keyed.{Among, Distinct, value_at};
 ghost use Rattle.xh_model.specs.declared.limits.TheConstants.{DIRECTIONS, MAX_BLOCKS};
 ghost use Rattle.xh_place.specs.Bodies.{IsEndAt, kind_of};
-ghost use Rattle.xh_place.specs.Endpoints.{AreGot, Takes, record_of};
+ghost use Rattle.xh_place.specs.Endpoints.{AreGot, record_of};
 ghost use Rattle.xh_place.specs.Ends.{EndDoes, toward_in};
-ghost use Rattle.xh_place.specs.Messages.{Gives, is_listed, IsSent, IsTaken, IsUntaken, TakesAt};
+ghost use Rattle.xh_place.specs.Messages.{Gives, IsSent, IsTaken, IsUntaken, TakesAt};
 ghost use Rattle.xh_place.specs.Places.{Item, IsPlaceOf};
 ghost use Rattle.xh_place.specs.inner.Answers.{Comes};
 ghost use Rattle.xh_place.specs.Seen.{Gains, IsSamePlace, IsSeen, Stays};
@@ -46,7 +47,6 @@ impl Place {
         blocks: &[u16],
     ) -> Result<u64, Refused>
         requires own { IsPlaceOf desk.now.records.now self.old.place }
-        ensures place { IsSamePlace self.old self.new }
         ensures given { Gives self.old.place.state e tag blocks.now self.old self.new result }
     {
         let spot = self.test_end(desk.records, e)?;
@@ -58,7 +58,7 @@ impl Place {
     fn lists_all(&mut self, records: &Records<Body>, blocks: &[u16]) -> bool
         requires own { IsPlaceOf records.now self.old.place }
         ensures same { Stays self.old self.new }
-        ensures all { result ≡ list_all (is_listed self.old.place.blocks) blocks.now }
+        ensures all { result ≡ list_all (λ r. is_some (value_at r self.old.place.blocks)) blocks.now }
     {
         for r in blocks {
             if !self.has(records, *r) {
@@ -72,7 +72,7 @@ impl Place {
     fn test_given(&mut self, records: &Records<Body>, e: u16, blocks: &[u16]) -> Result<(), Refused>
         requires own { IsPlaceOf records.now self.old.place }
         ensures same { Stays self.old self.new }
-        ensures tested { Tested (given_tests (is_listed self.old.place.blocks) e blocks.now) result (λ _. length blocks.now ≤ MAX_BLOCKS) }
+        ensures tested { Tested (given_tests (λ r. is_some (value_at r self.old.place.blocks)) e blocks.now) result (λ _. length blocks.now ≤ MAX_BLOCKS) }
     {
         if blocks.len() > MAX_BLOCKS {
             return Err(Refused::TooMany);
@@ -124,7 +124,6 @@ impl Place {
         e: u16,
     ) -> Result<Taken, Refused>
         requires own { IsPlaceOf desk.now.records.now self.old.place }
-        ensures place { IsSamePlace self.old self.new }
         ensures taken { TakesAt self.old.place.state e self.old self.new result }
         ensures empty { IfErr result (λ u. u ≡ Refused.Empty → self.new.place ≡ self.old.place) }
     {
@@ -166,7 +165,7 @@ impl Place {
     ) -> (Result<Message, Untaken>, u8)
         requires own { IsPlaceOf desk.now.records.now self.old.place }
         requires end { (x : Item) × (value_at e self.old.place.blocks ≡ Some x) × (kind_of x.content ≡ kind.End) }
-        ensures took { EndDoes e self.old.place self.new.place (Takes result.0) }
+        ensures took { EndDoes e self.old.place self.new.place (EndpointTakes result.0) }
         ensures front { self.new.front ≡ self.old.front }
         ensures direction { (result.1 ≡ toward_in (value_at e self.old.place.blocks)) × (result.1 < DIRECTIONS) }
     {

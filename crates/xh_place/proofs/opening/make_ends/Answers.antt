@@ -2,6 +2,7 @@ use Rattle.xh_place.proofs.Common.{arith, ◌≡◌, ◌≤◌, ℕ, [], ◌∷�
 use Rattle.xh_place.proofs.Common.{claimed, vacated}
 use Rattle.xh_place.proofs.Common.{starts_more, starts_same}
 use Rattle.xh_place.proofs.Gained.{both_put, has_first, has_other, two_gone}
+use Rattle.xh_place.specs.Vaults.{AsksEach}
 use Rattle.xh_place.proofs.opening.make_ends.Goals as goal
 
 pub fit_ends-fitted-requires-clause-held : goal.fit_ends-fitted-requires-clause-held
@@ -40,6 +41,11 @@ returns-in_default-fitted-clause-made g c =
       refl,
       refl,
     )
+
+pub returns-in_default-fitted-clause-asked : goal.returns-in_default-fitted-clause-asked
+returns-in_default-fitted-clause-asked g c =
+    let vaults = c.args.desk.now.vaults in let left = c.fit_ends-fitted.new.desk.vaults in
+    subst (λ (a : ℕ). AsksEach g.V.Vaults.changes (a ∷ a ∷ []) vaults left) c.in-Some.ensures.claimed.2.two.first_arena c.in_default-fitted.ensures.asked
 
 pub vacate_two-requires-clause-held : goal.vacate_two-requires-clause-held
 vacate_two-requires-clause-held g c =

@@ -1,7 +1,7 @@
 use Rattle.std.proofs.lemmas.Result.{MatchResult-weaker}
-use Rattle.xh_calls.proofs.Common.{MAX_RECORDS, MatchResult, OnOk, ap, data_tests, found, gave, length, places, rules, start, status_at, stays_itself, subst, ◌/◌, ◌<◌, ◌∙◌, ◌≡◌}
+use Rattle.xh_calls.proofs.Common.{MAX_RECORDS, OnOk, [], ap, data_tests, found, length, places, refl, rules, start, status_at, stays_itself, subst, ◌/◌, ◌<◌, ◌∙◌, ◌∷◌, ◌≡◌}
 use Rattle.xh_records.specs.declared.shape.Shape.{Shape}
-use Rattle.xh_calls.proofs.Moved.{lent_back}
+use Rattle.xh_calls.proofs.Moved.{entered}
 use Rattle.xh_calls.proofs.Started.{refused_tested}
 use Rattle.xh_calls.proofs.heap.Heap.free.Goals as goal
 
@@ -15,12 +15,8 @@ returns-in_err-check_number-clause-freed g c =
 pub returns-clause-arena : goal.returns-clause-arena
 returns-clause-arena g c = subst (λ (s : Shape). OnOk c.free-answer.result (c.args.r / MAX_RECORDS < length s.names)) c.requires.0.1 c.free-answer.ensures.arena
 
-pub returns-clause-tallies : goal.returns-clause-tallies
-returns-clause-tallies g c =
-    lent_back (λ x y. MatchResult c.free-answer.result (λ n. y ≡ gave (c.args.r / MAX_RECORDS) n x) (λ _. y ≡ x)) c.as_mut_slice-tallies.ensures.value (search (rules, places))
-    c.free-answer.ensures.tallies
-
-pub returns-clause-untouched : goal.returns-clause-untouched
-returns-clause-untouched g c =
-    let begun = c.new-lent in let left = c.free-answer.new.desk.vaults.now in let ended : c.end.new.seen ≡ left.front = search (rules, places) in
-    MatchResult-weaker c.free-answer.result c.free-answer.ensures.untouched (λ n h. tt) (λ why h. ended ∙ ap (λ l. l.front) h ∙ begun.ensures)
+pub returns-clause-asked : goal.returns-clause-asked
+returns-clause-asked g c =
+    let begun = c.desk-desk.result.vaults in let left = c.free-answer.new.desk.vaults in let start = ap (λ l. l.till) c.desk-desk.ensures.1 ∙ c.new-lent.ensures in let end = c.end.ensures.0 in
+    MatchResult-weaker c.free-answer.result c.free-answer.ensures.asked (λ n h. entered g.N.Names.parts (c.args.r / MAX_RECORDS ∷ []) begun left (λ l. l.till) start end (left, h, refl))
+    (λ why h. ap (λ t. t.seen) (end ∙ ap (λ l. l.till) h ∙ start))

@@ -1,5 +1,6 @@
 use Rattle.std.proofs.lemmas.Result.{MatchResult-weaker}
-use Rattle.xh_calls.proofs.Common.{MAX_RECORDS, Splits, Status, ap, arith, found, length, places, rules, split_tests, start, status_at, stays_itself, subst, sym, ◌/◌, ◌∙◌, ◌≡◌, ◌≤◌}
+use Rattle.xh_calls.proofs.Common.{MAX_RECORDS, Splits, Status, [], ap, arith, found, length, places, refl, rules, split_tests, start, status_at, stays_itself, subst, sym, ◌/◌, ◌∙◌, ◌∷◌, ◌≡◌, ◌≤◌}
+use Rattle.xh_calls.proofs.Moved.{entered}
 use Rattle.xh_calls.proofs.Started.{stopped_first, unclaimed}
 use Rattle.xh_calls.proofs.heap.Heap.split.Goals as goal
 
@@ -16,7 +17,8 @@ pub returns-clause-cut : goal.returns-clause-cut
 returns-clause-cut g c =
     subst (λ (s : Status). Splits s c.args.r c.args.k c.args.place.now c.split-answer.new.self c.split-answer.result) (sym c.in_ok-check_number.ensures.latest) c.split-answer.ensures.cut
 
-pub returns-clause-untouched : goal.returns-clause-untouched
-returns-clause-untouched g c =
-    let begun = c.new-lent in let left = c.split-answer.new.desk.vaults.now in let ended : c.end.new.seen ≡ left.front = search (rules, places) in
-    MatchResult-weaker c.split-answer.result c.split-answer.ensures.untouched (λ ends h. tt) (λ why h. ended ∙ ap (λ l. l.front) h ∙ begun.ensures)
+pub returns-clause-asked : goal.returns-clause-asked
+returns-clause-asked g c =
+    let begun = c.desk-desk.result.vaults in let left = c.split-answer.new.desk.vaults in let start = ap (λ l. l.till) c.desk-desk.ensures.1 ∙ c.new-lent.ensures in let end = c.end.ensures.0 in
+    MatchResult-weaker c.split-answer.result c.split-answer.ensures.asked (λ ends h. entered g.N.Names.parts (c.args.r / MAX_RECORDS ∷ []) begun left (λ l. l.till) start end (left, h, refl))
+    (λ why h. ap (λ t. t.seen) (end ∙ ap (λ l. l.till) h ∙ start))

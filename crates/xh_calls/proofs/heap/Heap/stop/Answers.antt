@@ -1,14 +1,14 @@
-use Rattle.xh_calls.proofs.Common.{HasGivenBack, Status, Stops, none_back, places, refl, rules, stays_itself, subst, sym}
-use Rattle.xh_calls.proofs.Moved.{lent_back}
+use Rattle.xh_calls.proofs.Common.{ap, ◌∙◌, Status, Stops, places, refl, rules, stays_itself, subst, sym}
+use Rattle.xh_calls.proofs.Moved.{came, none_given}
 use Rattle.xh_calls.proofs.heap.Heap.stop.Goals as goal
 
 pub returns-in_err-check_number-clause-stopped : goal.returns-in_err-check_number-clause-stopped
-returns-in_err-check_number-clause-stopped g c = (0, rw c.in_err-check_number.ensures.other.1 (search rules, (stays_itself c.args.place.now, refl)), none_back refl)
+returns-in_err-check_number-clause-stopped g c = (0, rw c.in_err-check_number.ensures.other.1 (search rules, (stays_itself c.args.place.now, refl)), none_given c.args.till.now)
 
 pub returns-clause-stopped : goal.returns-clause-stopped
 returns-clause-stopped g c =
     let d = c.stop-answer.ensures.stopped in (
       d.0,
       subst (λ (s : Status). Stops s c.args.budget d.0 c.args.place.now c.stop-answer.new.self c.stop-answer.result) (sym c.in_ok-check_number.ensures.latest) d.1,
-      lent_back (HasGivenBack d.0) c.as_mut_slice-tallies.ensures.value (search (rules, places)) d.2,
+      came g.N.Names.parts c.desk-desk.result.vaults c.stop-answer.new.desk.vaults (λ l. l.till) (ap (λ l. l.till) c.desk-desk.ensures.1 ∙ c.new-lent.ensures) c.end.ensures.0 d.2,
     )

@@ -9,7 +9,7 @@ invariant_of-self g c =
     still_end i c.self.view_is has l c.take.ensures.same c.self.inside.put i.numbers
     ((i.by_line c.if-self.true).3 ∙ ap length (sym (take_sent (on_line e c.self.inside.line) (on_line e l) c.take.result (c.take.ensures.taken e (search rules)))))
 
-pub returns-then-self-clause-taken : goal.returns-then-self-clause-taken
-returns-then-self-clause-taken g c =
+pub returns-then-self : goal.returns-then-self
+returns-then-self g c =
     let has = ap (λ (f : EndpointOf). is_some f.contract) (sym c.self.view_is) ∙ is_ruled _ _ ∙ c.if-self.true in
-    as_seat c.self.invariant c.self.view_is has c.take.new.self c.take.ensures.same.1 (λ old new. EndpointTakes old new c.take.result) (λ e at. (c.take.ensures.taken e at).0) c.self.inside.put
+    record { taken = as_seat c.self.invariant c.self.view_is has c.take.new.self c.take.ensures.same.1 (EndpointTakes c.take.result) c.take.ensures.taken c.self.inside.put }

@@ -1,4 +1,4 @@
-use Rattle.xh_channel.proofs.Common.{IsSettled, LineView, OnErr, EndpointTakes, LineTakes, OnlySaw, SeatDoes, Some, ap, line_view, rules, subst, sym, ◌∙◌, ◌≡◌}
+use Rattle.xh_channel.proofs.Common.{IsSettled, LineView, OnErr, EndpointTakes, LineTakes, SeatDoes, Some, ap, line_view, rules, subst, sym, ◌∙◌, ◌≡◌}
 use Rattle.xh_channel.proofs.LineMoves.{done_here, take_done, slot_first, still_held, view_after}
 use Rattle.xh_channel.proofs.line_seat.LineSeat.take.Goals as goal
 
@@ -23,4 +23,4 @@ returns-clause-taken g c =
     let held = still_held v h.1 h.0 _ h.2 line in
     let gone = c.settle.ensures in
     let now = ap (λ table. line_view table c.settle.new.token.me.0) (gone.same.0 ∙ c.hold.ensures.same.0) ∙ view_after t v h.1 line _ _ held gone.settled in
-    subst (λ (x : LineView × LineView). SeatDoes x.0 x.1 (λ e e'. EndpointTakes e e' c.take-taken.result × OnErr c.take-taken.result (OnlySaw e e'))) (λ j. (c.self.view_is j, sym now j)) s.1
+    subst (λ (x : LineView × LineView). SeatDoes x.0 x.1 (EndpointTakes c.take-taken.result)) (λ j. (c.self.view_is j, sym now j)) s.1

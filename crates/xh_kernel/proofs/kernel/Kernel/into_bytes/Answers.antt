@@ -12,5 +12,5 @@ note-requires g c κs within =
 pub returns : goal.returns
 returns g c =
     let result = c.into_bytes-answer.result in let e = c.into_bytes-answer.ensures in let names = g.N.Names.parts.records.shape.names in
-    let moved = given _ _ result (λ v. length v.items) _ names c.account.view_is refl refl (search rules) e.arena e.tallies e.untouched (refl, refl) in
+    let moved = given _ _ result (λ v. length v.items) _ names c.account.view_is refl refl (search rules) e.arena e.tallies e.asked (refl, refl) in
     ((search rules, mapped result (λ v. v.items) _ _ moved), c.note.ensures.step _ (search rules))

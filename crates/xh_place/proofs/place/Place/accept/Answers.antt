@@ -39,8 +39,8 @@ returns-in-Err-clause-got c =
 
 pub returns-in-Ok-clause-place : goal.returns-in-Ok-clause-place
 returns-in-Ok-clause-place c =
-    let k = (returns-in-Ok-clause-got c).3 in (ap (λ p. p.table) k.0, ap (λ p. p.shape) k.0, ap (λ p. p.process) k.0, (k.1.1.0, k.1.1.1))
+    let k = (returns-in-Ok-clause-got c).3 in (ap (λ p. p.table) k.0, ap (λ p. p.shape) k.0, ap (λ p. p.process) k.0, (k.1.0, k.1.1))
 
 pub returns-in-Err-clause-place : goal.returns-in-Err-clause-place
 returns-in-Err-clause-place c =
-    let k = (returns-in-Err-clause-got c).2 in (ap (λ p. p.table) k.0, ap (λ p. p.shape) k.0, ap (λ p. p.process) k.0, (k.1.1.0, k.1.1.1))
+    let k = (returns-in-Err-clause-got c).2 in (ap (λ p. p.table) k.0, ap (λ p. p.shape) k.0, ap (λ p. p.process) k.0, (k.1.0, k.1.1))

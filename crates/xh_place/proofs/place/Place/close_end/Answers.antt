@@ -1,7 +1,8 @@
 use Rattle.xh_place.proofs.Common.{arith, ◌≡◌, ℕ, ◌+◌, ◌-◌, length, length-append, refl, subst, ap, ◌∙◌, ◌++◌, reclaimed, end_tests, MAX_BUDGET, value_at, without, IsSwept, alone, last}
-use Rattle.xh_place.proofs.Common.{[], Did, IsClosed, PlaceOf, did_more, did_starts, none_back, rules, with_blocks, with_list, found_at, IsSeen, start, seen_wide, same_since, starts_same, swept_as}
+use Rattle.xh_place.proofs.Common.{[], Did, IsClosed, PlaceOf, did_more, did_starts, rules, with_blocks, with_list, found_at, IsSeen, start, seen_wide, same_since, starts_same, swept_as}
 use Rattle.xh_place.proofs.Common.{unrefused}
 use Rattle.xh_place.proofs.Common.{becomes_same, same_then, stays_same}
+use Rattle.xh_place.proofs.Swept.{still}
 use Rattle.xh_place.proofs.place.Place.close_end.Goals as goal
 
 pub returns-clause-closed : goal.returns-clause-closed
@@ -33,10 +34,10 @@ returns-clause-closed g c =
     )
 
 pub returns-in_err-test_end-clause-closed : goal.returns-in_err-test_end-clause-closed
-returns-in_err-test_end-clause-closed g c = let e = c.in_err-test_end.ensures in (0, rw e.tested (search rules, (e.same, refl)), none_back refl)
+returns-in_err-test_end-clause-closed g c = let e = c.in_err-test_end.ensures in (0, rw e.tested (search rules, (e.same, refl)), still g.V.Vaults.changes g.V.Vaults.tallies c.args.desk.now.vaults c.args.desk.now.vaults refl)
 
 pub returns-in_err-test_end-clause-same : goal.returns-in_err-test_end-clause-same
-returns-in_err-test_end-clause-same g c = ((refl, refl, refl, refl, refl, refl), stays_same c.args.self.now c.test_end.new.self c.in_err-test_end.ensures.same)
+returns-in_err-test_end-clause-same g c = ((refl, refl, refl), stays_same c.args.self.now c.test_end.new.self c.in_err-test_end.ensures.same)
 
 pub returns-clause-same : goal.returns-clause-same
 returns-clause-same g c =

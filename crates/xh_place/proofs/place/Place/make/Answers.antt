@@ -53,7 +53,7 @@ returns-clause-made g c =
       );
       block = search rules;
       refused = search rules;
-      why = let tests : Tests = start old.state ++ alloc_tests c.args.arena (length old.shape.names) c.args.n (g.V.Vaults.extent c.args.desk.now.vaults.now) in
+      why = let tests : Tests = start old.state ++ alloc_tests c.args.arena (length old.shape.names) c.args.n (g.V.Vaults.extent c.args.desk.now.vaults) in
           let passed : first_refusal tests ≡ None = search rules in untested tests _ _ passed tt;
     }
 
@@ -64,7 +64,7 @@ invariant_of-self g c =
 
 pub returns-in_err-rec-clause-made : goal.returns-in_err-rec-clause-made
 returns-in_err-rec-clause-made g c =
-    let vaults = c.args.desk.now.vaults.now in let left = c.make_block.new.desk.vaults.now in let seat = c.self.inside.seat in let last = c.make_block.new.seat in let old = c.args.self.now in
+    let vaults = c.args.desk.now.vaults in let left = c.make_block.new.desk.vaults in let seat = c.self.inside.seat in let last = c.make_block.new.seat in let old = c.args.self.now in
     let rs = c.self.inside.list.items in let new = place_seen last rs c.self.inside.state in
     let arena : ℕ = c.args.arena in let e = c.in_err-rec.field-0.0 in
     let is : c.from_residual-in_err-rec.result ≡ Err e = search rules in
@@ -83,7 +83,7 @@ returns-in_err-rec-clause-made g c =
 pub returns-in_err-rec-clause-untouched : goal.returns-in_err-rec-clause-untouched
 returns-in_err-rec-clause-untouched g c =
     let is : c.from_residual-in_err-rec.result ≡ Err c.in_err-rec.field-0.0 = search rules in
-    rw is (untouched_of g.V.Vaults.changes c.args.desk.now.vaults.now c.make_block.new.desk.vaults.now _ _ _ c.in_err-rec.field-0.0 c.in_err-rec.ensures.why)
+    rw is (untouched_of g.V.Vaults.changes c.args.desk.now.vaults c.make_block.new.desk.vaults _ _ _ c.in_err-rec.field-0.0 c.in_err-rec.ensures.why)
 
 -- a test refused: nothing was done
 untried : (old : PlaceSeen) (arena : ℕ) → LetsGo (λ cs. length cs ≤ 1) arena old old
@@ -93,19 +93,19 @@ pub returns-in_err-check_start-clause-made : goal.returns-in_err-check_start-cla
 returns-in_err-check_start-clause-made g c =
     let old = c.args.self.now in let e = c.in_err-check_start.field-0.0 in
     let is : c.from_residual.result ≡ Err e = search rules in
-    let first : first_refusal (start old.place.state ++ alloc_tests c.args.arena (length old.place.shape.names) c.args.n (g.V.Vaults.extent c.args.desk.now.vaults.now)) ≡ Some e = search rules in
+    let first : first_refusal (start old.place.state ++ alloc_tests c.args.arena (length old.place.shape.names) c.args.n (g.V.Vaults.extent c.args.desk.now.vaults)) ≡ Some e = search rules in
     rw is (record { made = tt; block = tt; refused = untried old c.args.arena; why = rw first (refl, stays_itself old) })
 
 pub returns-then-arena-from-clause-made : goal.returns-then-arena-from-clause-made
 returns-then-arena-from-clause-made g c =
     let old = c.args.self.now in
-    let first : first_refusal (start old.place.state ++ alloc_tests c.args.arena (length old.place.shape.names) c.args.n (g.V.Vaults.extent c.args.desk.now.vaults.now))
+    let first : first_refusal (start old.place.state ++ alloc_tests c.args.arena (length old.place.shape.names) c.args.n (g.V.Vaults.extent c.args.desk.now.vaults))
     ≡ Some reason.NoArena = search rules in
     record { made = tt; block = tt; refused = untried old c.args.arena; why = rw first (refl, stays_itself old) }
 
 pub returns-then-n-eq0-clause-made : goal.returns-then-n-eq0-clause-made
 returns-then-n-eq0-clause-made g c =
     let old = c.args.self.now in
-    let first : first_refusal (start old.place.state ++ alloc_tests c.args.arena (length old.place.shape.names) c.args.n (g.V.Vaults.extent c.args.desk.now.vaults.now))
+    let first : first_refusal (start old.place.state ++ alloc_tests c.args.arena (length old.place.shape.names) c.args.n (g.V.Vaults.extent c.args.desk.now.vaults))
     ≡ Some reason.BadSize = search rules in
     record { made = tt; block = tt; refused = untried old c.args.arena; why = rw first (refl, stays_itself old) }

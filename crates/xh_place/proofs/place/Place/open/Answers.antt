@@ -55,7 +55,7 @@ returns-in_err-made-clause-opened g c =
 
 pub returns-in_err-made-clause-why : goal.returns-in_err-made-clause-why
 returns-in_err-made-clause-why g c =
-    let vaults = c.args.desk.now.vaults.now in let left = c.make_ends.new.desk.vaults.now in let seat = c.self.inside.seat in let last = c.make_ends.new.seat in let old = c.args.self.now in
+    let vaults = c.args.desk.now.vaults in let left = c.make_ends.new.desk.vaults in let seat = c.self.inside.seat in let last = c.make_ends.new.seat in let old = c.args.self.now in
     let rs = c.self.inside.list.items in let new = place_seen last rs c.self.inside.state in
     let arena : ℕ = c.args.arena in let u = c.in_err-made.field-0.0 in
     let is : c.from_residual.result ≡ Err u = search rules in

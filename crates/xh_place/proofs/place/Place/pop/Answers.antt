@@ -1,4 +1,4 @@
-use Rattle.xh_place.proofs.Common.{Takes, placed, ap, ◌∙◌, fronted, own_record, end_held, end_did}
+use Rattle.xh_place.proofs.Common.{EndpointTakes, placed, ap, ◌∙◌, fronted, own_record, end_held, end_did}
 use Rattle.xh_place.proofs.place.Place.pop.Goals as goal
 
 pub take_at-requires : goal.take_at-requires
@@ -8,11 +8,11 @@ take_at-requires g c = let v = placed c.self.view_is in record {
 }
 
 pub invariant_of-self : goal.invariant_of-self
-invariant_of-self g c = (end_did c.self.inside.list.items c.self.invariant (placed c.self.view_is) c.args.e c.requires.end c.take_at.new.seat (Takes c.take_at.result.0)
+invariant_of-self g c = (end_did c.self.inside.list.items c.self.invariant (placed c.self.view_is) c.args.e c.requires.end c.take_at.new.seat (EndpointTakes c.take_at.result.0)
     (λ l h. (c.take_at.ensures.seat l h).1)).0
 
 pub returns-clause-took : goal.returns-clause-took
-returns-clause-took g c = (end_did c.self.inside.list.items c.self.invariant (placed c.self.view_is) c.args.e c.requires.end c.take_at.new.seat (Takes c.take_at.result.0)
+returns-clause-took g c = (end_did c.self.inside.list.items c.self.invariant (placed c.self.view_is) c.args.e c.requires.end c.take_at.new.seat (EndpointTakes c.take_at.result.0)
     (λ l h. (c.take_at.ensures.seat l h).1)).1
 
 pub returns-clause-front : goal.returns-clause-front

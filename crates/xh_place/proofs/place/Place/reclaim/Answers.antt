@@ -1,4 +1,4 @@
-use Rattle.xh_place.proofs.Common.{arith, ℕ, ◌++◌, ap, ◌∙◌, refl, subst, put, value_at, front_at, put_at, Did, IsSeen, accepted_on, clears_as, did_more, did_starts, seen_wide, starts_same}
+use Rattle.xh_place.proofs.Common.{arith, ℕ, ◌/◌, [], ◌∷◌, ◌++◌, ap, ◌∙◌, refl, subst, put, value_at, front_at, put_at, Did, IsSeen, accepted_on, clears_as, did_more, did_starts, seen_wide, starts_same}
 use Rattle.xh_place.proofs.Common.{sym, vacated, with_blocks, with_list}
 use Rattle.xh_place.specs.Ends.{toward_in}
 use Rattle.xh_place.proofs.Swept.{swept_clear}
@@ -8,6 +8,11 @@ pub give_up-requires-clause-listed : goal.give_up-requires-clause-listed
 give_up-requires-clause-listed g c =
     let r : ℕ = c.at-r.result in let t = c.drain_end.ensures.cleared in let k = t.1 in let xs = c.args.self.now.place.blocks in
     (k.1, ap (λ p. value_at r p.blocks) k.5 ∙ front_at r k.1 (put r k.1 xs) t.0 (put_at r k.1 k.0 xs k.2))
+
+pub returns-clause-back : goal.returns-clause-back
+returns-clause-back g c =
+    let asked = c.give_up.ensures.asked in
+    (c.give_up.ensures.back.1, (c.at-r.result / 256 ∷ [], (c.give_up.new.desk.vaults, asked.0, refl), omega (arith, asked.1)))
 
 pub returns-clause-swept : goal.returns-clause-swept
 returns-clause-swept g c =

@@ -1,5 +1,5 @@
 use Rattle.xh_place.proofs.Common.{ap, sym, ◌∙◌, ◌≡◌, value_at, entry_some, Item, Some, header_of, kind_of, option_map}
-use Rattle.xh_place.proofs.Common.{ℕ, Becomes, Frees, becomes_same, found_at, refl, stays_same, stays_then, subst, vacated, with_blocks, without}
+use Rattle.xh_place.proofs.Common.{ℕ, Becomes, becomes_same, found_at, refl, stays_same, stays_then, subst, vacated, with_blocks, without}
 use Rattle.xh_core.specs.Headers.{len_in}
 use Rattle.xh_core.specs.declared.header.Header.{Header}
 use Rattle.xh_place.proofs.place.Place.release.Goals.{After-give_up}
@@ -12,7 +12,8 @@ give_up-requires-clause-listed g c =
 kind_is : (x : Item) (s : Header) → Some (header_of x) ≡ Some s → kind_of x.content ≡ s.kind
 kind_is x s e = let same : header_of x ≡ s = cc in ap (λ h. h.kind) same
 
-gone : (g : _) (c : After-give_up g) → Frees c.args.r c.args.self.now c.give_up.new.self
+gone : (g : _) (c : After-give_up g) → let p = c.args.self.now.place in
+    Becomes (with_blocks p (without c.args.r p.blocks)) (vacated p.process c.args.r) c.args.self.now c.give_up.new.self
 gone g c =
     let old = c.args.self.now in let mid = c.test_data.new.self in let new = c.give_up.new.self in let same = c.in_ok-test_data.ensures.same in let r : ℕ = c.args.r in
     stays_then (with_blocks old.place (without r old.place.blocks)) (vacated old.place.process r) old mid new same
@@ -31,7 +32,7 @@ returns-clause-freed g c =
     }
 
 pub returns-in_err-test_data-clause-same : goal.returns-in_err-test_data-clause-same
-returns-in_err-test_data-clause-same g c = ((refl, refl, refl, refl, refl, refl), stays_same c.args.self.now c.test_data.new.self c.in_err-test_data.ensures.same)
+returns-in_err-test_data-clause-same g c = ((refl, refl, refl), stays_same c.args.self.now c.test_data.new.self c.in_err-test_data.ensures.same)
 
 pub returns-clause-body : goal.returns-clause-body
 returns-clause-body g c =

@@ -76,7 +76,7 @@ returns-in_err-rec-clause-cut g c =
     })
 
 pub returns-in_err-len-clause-same : goal.returns-in_err-len-clause-same
-returns-in_err-len-clause-same g c = ((refl, refl, refl, refl, refl, refl), stays_same c.args.self.now c.test_cut.new.self c.in_err-len.ensures.same)
+returns-in_err-len-clause-same g c = ((refl, refl, refl), stays_same c.args.self.now c.test_cut.new.self c.in_err-len.ensures.same)
 
 pub returns-in_err-rec-clause-same : goal.returns-in_err-rec-clause-same
 returns-in_err-rec-clause-same g c =

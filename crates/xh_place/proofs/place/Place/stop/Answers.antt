@@ -1,6 +1,6 @@
-use Rattle.xh_place.proofs.Common.{rules, ◌≡◌, ℕ, ap, sym, ◌∙◌, subst, None, Some, stop, first_refusal, Becomes, Did, IsSeen, IsSwept, none_back, refl, seen_wide, starts_same, stays_itself, swept_as}
+use Rattle.xh_place.proofs.Common.{rules, ◌≡◌, ℕ, ap, sym, ◌∙◌, subst, None, Some, stop, first_refusal, Becomes, Did, IsSeen, IsSwept, refl, seen_wide, starts_same, stays_itself, swept_as}
 use Rattle.xh_place.proofs.Common.{unrefused, with_list}
-use Rattle.xh_place.proofs.Swept.{stopped}
+use Rattle.xh_place.proofs.Swept.{still, stopped}
 use Rattle.xh_core.specs.declared.status.Status.TheVariants.{Ending}
 use Rattle.xh_place.specs.Seen.{PlaceSeen}
 use Rattle.xh_place.proofs.Common.{becomes_same, same_then}
@@ -29,7 +29,7 @@ returns-clause-stopped g c =
 pub returns-in_err-check_stop-clause-stopped : goal.returns-in_err-check_stop-clause-stopped
 returns-in_err-check_stop-clause-stopped g c =
     let first : first_refusal (stop c.args.self.now.place.state) ≡ Some c.in_err-check_stop.field-0.0 = search rules in
-    (0, rw first (search rules, (stays_itself c.args.self.now, refl)), none_back refl)
+    (0, rw first (search rules, (stays_itself c.args.self.now, refl)), still g.V.Vaults.changes g.V.Vaults.tallies c.args.desk.now.vaults c.args.desk.now.vaults refl)
 
 pub returns-clause-same : goal.returns-clause-same
 returns-clause-same g c =

@@ -1,7 +1,8 @@
-use Rattle.xh_place.proofs.Common.{◌≡◌, arith, ℕ, ◌+◌, ◌<◌, ◌≤◌, ◌++◌, [], length, refl, sym, ap, ◌∙◌, subst, HasGivenBack, IsSwept, IsSeen, did_more, did_none, did_starts, none_back, seen_wide}
+use Rattle.xh_place.proofs.Common.{◌≡◌, arith, ℕ, ◌+◌, ◌<◌, ◌≤◌, ◌++◌, [], length, refl, sym, ap, ◌∙◌, subst, IsSwept, IsSeen, did_more, did_none, did_starts, seen_wide}
 use Rattle.xh_place.proofs.Common.{Did, same_again, starts_same, swept_as}
 use Rattle.std.proofs.lemmas.Grind.{common_steps}
-use Rattle.xh_place.proofs.Swept.{gave_more, started, swept_full, swept_more, swept_none, twice_own}
+use Rattle.xh_place.proofs.Swept.{back_more, started, still, swept_full, swept_more, swept_none, twice_own}
+use Rattle.xh_place.specs.Vaults.{BringsBack}
 use Rattle.xh_place.proofs.place.Place.sweep.Goals as goal
 
 pub loop-used-init : goal.loop-used-init
@@ -11,18 +12,18 @@ loop-used-init g c =
       omega arith,
       ([], swept_none (IsSeen old old) c.args.from old.place, (refl, did_none old.place.process old.front old.front refl)),
       (λ h. refl),
-      (refl, refl, refl, refl, refl, refl),
-      none_back refl,
+      (refl, refl, refl),
+      still g.V.Vaults.changes g.V.Vaults.tallies c.args.desk.now.vaults c.args.desk.now.vaults refl,
     )
 
 pub reclaim-requires-clause-at : goal.reclaim-requires-clause-at
 reclaim-requires-clause-at g c =
     let i = c.loop-used.invariant in let own = i.2.2.0 in let s = i.4 in let at = c.requires.at in (
       (
-        ap (λ p. p.table) own ∙ at.0.0 ∙ sym (ap (λ r. r.now.table) s.3),
-        ap (λ p. p.shape) own ∙ at.0.1 ∙ sym (ap (λ r. r.now.shape) s.3),
+        ap (λ p. p.table) own ∙ at.0.0 ∙ sym (ap (λ r. r.now.table) s.2),
+        ap (λ p. p.shape) own ∙ at.0.1 ∙ sym (ap (λ r. r.now.shape) s.2),
       ),
-      (s.0 ∙ at.1.0 ∙ sym (ap (λ p. p.shape.names) own), s.2 ∙ at.1.1 ∙ sym (ap (λ p. p.shape.names) own)),
+      s.0 ∙ at.1 ∙ sym (ap (λ p. p.shape.names) own),
     )
 
 pub loop-used-preserved : goal.loop-used-preserved
@@ -51,8 +52,8 @@ loop-used-preserved g c =
       ),
       (λ h. absurd (omega (arith, inside, h))),
       same_again g.V.Vaults.names g.V.Vaults.extent c.args.desk.now c.loop-used.desk c.reclaim.new.desk i.4 c.reclaim.ensures.same,
-      gave_more c.loop-used.bytes bytes c.args.desk.now.tallies.now c.loop-used.desk.tallies.now c.reclaim.new.desk.tallies.now i.5
-          (subst (λ n. HasGivenBack n c.loop-used.desk.tallies.now c.reclaim.new.desk.tallies.now) (sym c.from-bytes.ensures) c.reclaim.ensures.back),
+      back_more g.V.Vaults.changes g.V.Vaults.tallies c.loop-used.bytes bytes c.args.desk.now.vaults c.loop-used.desk.vaults c.reclaim.new.desk.vaults i.5
+          (subst (λ n. BringsBack g.V.Vaults.changes g.V.Vaults.tallies n c.loop-used.desk.vaults c.reclaim.new.desk.vaults) (sym c.from-bytes.ensures) c.reclaim.ensures.back),
     )
 
 pub returns-clause-swept : goal.returns-clause-swept

@@ -1,7 +1,6 @@
 use Rattle.xh_place.proofs.Common.{[], Did, Stays, end_kind, ap, ◌∙◌, value_at, ℕ, ◌++◌, MatchResult, end_tests, IsTaken, IsUntaken, found_at, start, unrefused}
 use Rattle.xh_place.proofs.Drained.{taken_from}
 use Rattle.xh_place.proofs.Ends.{empty_keeps}
-use Rattle.xh_place.proofs.Common.{same_then, stays_same}
 use Rattle.xh_place.proofs.place.Place.take.Goals as goal
 
 pub returns-clause-taken : goal.returns-clause-taken
@@ -14,12 +13,6 @@ returns-clause-taken g c =
 
 pub take_message-requires-clause-end : goal.take_message-requires-clause-end
 take_message-requires-clause-end g c = let t = c.in_ok-test_end.ensures in let x = t.tested.1.1 in (x.0, ap (λ p. value_at c.args.e p.blocks) t.same.0 ∙ x.1, end_kind _ _ _ x.2)
-
-pub returns-clause-place : goal.returns-clause-place
-returns-clause-place g c = same_then c.args.self.now c.test_end.new.self c.take_message.new.self (stays_same c.args.self.now c.test_end.new.self c.in_ok-test_end.ensures.same) c.take_message.ensures.place
-
-pub returns-in_err-test_end-clause-place : goal.returns-in_err-test_end-clause-place
-returns-in_err-test_end-clause-place g c = stays_same c.args.self.now c.test_end.new.self c.in_err-test_end.ensures.same
 
 pub returns-clause-empty : goal.returns-clause-empty
 returns-clause-empty g c =

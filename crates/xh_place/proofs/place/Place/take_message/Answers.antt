@@ -1,4 +1,4 @@
-use Rattle.xh_place.proofs.Common.{Err, refl, rules, ap, ◌≡◌, ℕ, subst, AreGot, Did, Takes, IsSeen, accepted_on, all_got_as, seen_wide, starts_same}
+use Rattle.xh_place.proofs.Common.{Err, refl, rules, ap, ◌≡◌, ℕ, subst, AreGot, Did, EndpointTakes, IsSeen, accepted_on, all_got_as, seen_wide, starts_same}
 use Rattle.xh_place.proofs.Common.{Body, List}
 use Rattle.xh_records.specs.Deeds.{Deed}
 use Rattle.xh_channel.specs.Refusals.{same_refusal}
@@ -16,7 +16,7 @@ returns-clause-taken g c =
       mid = mid.place;
       m = c.in_ok-message.message;
       gained = got.0;
-      made = (t.0, t.1, t.2, t.3, subst (λ r. Takes r t.0 t.1) c.in_ok-message.was t.4);
+      made = (t.0, t.1, t.2, t.3, subst (λ r. EndpointTakes r t.0 t.1) c.in_ok-message.was t.4);
       told = (refl, refl, c.take_all.ensures.records);
       list = (
         got.1.0,
@@ -30,7 +30,7 @@ pub returns-in_err-message-clause-taken : goal.returns-in_err-message-clause-tak
 returns-in_err-message-clause-taken g c =
     let t = c.pop-taken.ensures.took in let none = c.in_err-message.field-0.0 in
     let is : c.from_residual.result ≡ Err (same_refusal none) = search rules in
-    rw is ((none, (t.0, t.1, t.2, t.3, subst (λ r. Takes r t.0 t.1) c.in_err-message.was t.4), refl), c.pop-taken.ensures.front)
+    rw is ((none, (t.0, t.1, t.2, t.3, subst (λ r. EndpointTakes r t.0 t.1) c.in_err-message.was t.4), refl), c.pop-taken.ensures.front)
 
 pub returns-clause-place : goal.returns-clause-place
 returns-clause-place g c =

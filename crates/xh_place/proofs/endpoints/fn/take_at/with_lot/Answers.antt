@@ -3,6 +3,6 @@ use Rattle.xh_place.proofs.endpoints.fn.take_at.with_lot.Goals as goal
 
 pub returns : goal.returns
 returns g c = record {
-  lot = record { before = c.in-End.end; after = c.take.new.end; was = search rules; becomes = refl; did = record { answer = c.take.ensures.taken; kept = c.take.ensures.kept } };
+  lot = record { before = c.in-End.end; after = c.take.new.end; was = search rules; becomes = refl; did = c.take.ensures.taken };
   direction = search rules;
 }
