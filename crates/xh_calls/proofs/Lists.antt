@@ -34,8 +34,3 @@ module _ {A : Type 0} (P : ℕ → A → Type 0) (n : ℕ) (xs ys : List A) (x :
   pub rest_of : (left m : ℕ) → left + 1 ≡ count → m ≡ n + 1 → (k : ℕ) (d : A) → k < left → P (m + k) (get_or ys k d)
   rest_of left m fewer more k d below = subst (λ j. P j (get_or ys k d)) (let e : n + suc k ≡ m + k = omega arith in e)
       (subst (λ (l : List A). P (n + suc k) (get_or l (suc k) d)) is (each (suc k) d (omega arith)))
-
-pub some_at : {A : Type 0} (xs : List A) (k : ℕ) → k < length xs → (x : A) × (slice_get xs k ≡ Some x)
-some_at [] k h = absurd (omega arith)
-some_at (x ∷ xs) zero h = (x, refl)
-some_at (x ∷ xs) (suc k) h = some_at xs k (omega arith)

@@ -94,8 +94,7 @@ impl<N: Names> Arenas<N> {
         if arena >= self.count() {
             return None;
         }
-        let mut kept = self.kept(rt, arena);
-        Some(kept.line(&self.histories, seen))
+        Some(self.kept(rt, arena).line(&self.histories, seen))
     }
 
     /// The vaults, by arena, out of their locks, each of which knows its arena's number. An error where memory was refused.

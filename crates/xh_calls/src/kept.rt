@@ -3,7 +3,6 @@ ghost use Rattle.std.specs.Prelude.{◌≡◌, ◌⊎◌, ◌+◌, ◌-◌, ◌%
 ghost use Rattle.xh_arena.specs.Sharing.{IsVaultCarved, IsVaultCut, IsVaultGivenBack};
 ghost use Rattle.xh_calls.specs.Parts.{IsVaultOf};
 ghost use Rattle.xh_calls.specs.Vaults.{DoesTo, IsRefusedBy, Tells};
-ghost use Rattle.xh_core.specs.ArenaLines.{arena_line};
 ghost use Rattle.xh_history.specs.Histories.{fresh_pen};
 ghost use Rattle.xh_model.specs.Arena.{IsGoodCut};
 ghost use Rattle.xh_model.specs.declared.limits.TheConstants.{UNIT};
@@ -31,20 +30,6 @@ impl<N: Names> Model for Kept<N> {
     ghost view = { λ k. record { vault = k.vault; pen = k.pen } };
 
     ghost invariant = { λ k. IsKept N.parts (record { vault = k.vault; pen = k.pen }) };
-}
-
-// What the ledger says of a vault as it is.
-fn line_of(vault: &Vault) -> ArenaLine
-    ensures { result ≡ arena_line vault.now.arena }
-{
-    let (out, taken) = (vault.handed_out(), vault.wear());
-    ArenaLine {
-        size: vault.size(),
-        out,
-        holes: vault.holes().len() as u32,
-        taken,
-        back: taken - u64::from(out),
-    }
 }
 
 impl<N: Names> Kept<N> {
@@ -152,6 +137,13 @@ impl<N: Names> Kept<N> {
         ensures entered { Tells N.parts self.old.pen.number front.old front.new result }
     {
         histories.add(&mut self.pen, front, None, &self.vault);
-        line_of(&self.vault)
+        let (out, taken) = (self.vault.handed_out(), self.vault.wear());
+        ArenaLine {
+            size: self.vault.size(),
+            out,
+            holes: self.vault.holes().len() as u32,
+            taken,
+            back: taken - u64::from(out),
+        }
     }
 }

@@ -1,4 +1,3 @@
-mod InTurn
 mod Named
 mod Several
 mod Wired

@@ -1,6 +1,6 @@
 //! What a run leaves.
 
-use std::fmt;
+use std::fmt::{self, Formatter, Write};
 use xh_books::Books;
 use xh_core::{ArenaLine, PlaceLine, State};
 
@@ -23,33 +23,26 @@ fn state_name(state: State) -> &'static str {
     }
 }
 
-// An arena's line.
-pub(crate) fn write_arena<W: fmt::Write>(
-    f: &mut fmt::Formatter<W>,
-    number: usize,
-    line: &ArenaLine,
-) -> fmt::Result {
-    let (size, out, holes) = (line.size, line.out, line.holes);
-    let (taken, back) = (line.taken, line.back);
-    writeln!(f, "arena {number} {size} {out} {holes} {taken} {back}")
+// A line for each arena.
+pub(crate) fn write_arenas<W: Write>(f: &mut Formatter<W>, all: &[ArenaLine]) -> fmt::Result {
+    for (number, a) in all.iter().enumerate() {
+        let (size, out, holes) = (a.size, a.out, a.holes);
+        let (taken, back) = (a.taken, a.back);
+        writeln!(f, "arena {number} {size} {out} {holes} {taken} {back}")?;
+    }
+    Ok(())
 }
 
 // A place's line, but for its end.
-pub(crate) fn write_place<W: fmt::Write>(
-    f: &mut fmt::Formatter<W>,
-    line: &PlaceLine,
-) -> fmt::Result {
-    let state = state_name(line.state);
-    let (process, blocks, bytes) = (line.process, line.blocks, line.bytes);
-    write!(f, "process {process} {state} {blocks} {bytes}")
+pub(crate) fn write_place<W: Write>(f: &mut Formatter<W>, p: &PlaceLine) -> fmt::Result {
+    let state = state_name(p.state);
+    write!(f, "process {} {state} {} {}", p.process, p.blocks, p.bytes)
 }
 
 impl<P, A> fmt::Display for Closed<P, A> {
-    fn fmt<W: fmt::Write>(&self, f: &mut fmt::Formatter<W>) -> fmt::Result {
+    fn fmt<W: Write>(&self, f: &mut Formatter<W>) -> fmt::Result {
         let ledger = &self.books.ledger;
-        for (number, line) in ledger.arenas.iter().enumerate() {
-            write_arena(f, number, line)?;
-        }
+        write_arenas(f, ledger.arenas.as_slice())?;
         for line in ledger.places.iter() {
             write_place(f, line)?;
             writeln!(f)?;

@@ -3,7 +3,7 @@ ghost use Rattle.std.specs.Prelude.{◌≡◌, MatchResult, Ok};
 ghost use Rattle.xh_kernel.specs.Accounts.{AccountOf};
 ghost use Rattle.xh_kernel.specs.Waits.{SpawnsAt};
 
-use crate::overview::{Overview, OwnLook, arenas};
+use crate::overview::{Overview, see_all};
 use crate::process::Process;
 use crate::told::{
     end_back, ends_at, given, is_back, recs_at, show_answered, show_block, show_ends, show_message,
@@ -19,18 +19,16 @@ use xh_model::limits::MAX_BUDGET;
 /// The longest that a call waits which waits for a time, in seconds.
 const LONGEST: u64 = 1 << 62;
 
-/// The accounts that no handle has, each with a look.
-pub(crate) type Spares<'k, N> = Mutex<Vec<(&'k mut Account<N>, &'k mut OwnLook<N>)>>;
+/// The accounts that no handle has.
+pub(crate) type Spares<'k, N> = Mutex<Vec<&'k mut Account<N>>>;
 
-/// A process of a kernel, and an account and a look that are its alone. There is room for these among the spares, from which they
-/// came.
+/// A process of a kernel, and an account that is its alone. There is room for it among the spares, from which it came.
 pub(crate) struct Handle<'a, 'k, N: Names, R: Wait> {
     rt: &'a R,
     alloc: Global,
     kernel: &'a Kernel<N>,
     spares: &'a Spares<'k, N>,
     account: &'k mut Account<N>,
-    look: &'k mut OwnLook<N>,
     number: u16,
 }
 
@@ -42,16 +40,15 @@ impl<'a, 'k, N: Names, R: Wait> Drop for Handle<'a, 'k, N, R> {
             kernel,
             spares,
             account,
-            look,
             number,
         } = self;
         let _bytes = kernel.exit(rt, number, MAX_BUDGET, account, &OpenGate);
-        let _ = spares.lock(rt).push((account, look));
+        let _ = spares.lock(rt).push(account);
     }
 }
 
 impl<'a, 'k, N: Names, R: Wait> Handle<'a, 'k, N, R> {
-    /// A new process, with a spare account and its look. NoPlace where there is none, or no place.
+    /// A new process, with a spare account. NoPlace where there is none, or no place.
     pub(crate) fn start(
         rt: &'a R,
         alloc: Global,
@@ -60,7 +57,7 @@ impl<'a, 'k, N: Names, R: Wait> Handle<'a, 'k, N, R> {
     ) -> Result<Handle<'a, 'k, N, R>, Refused>
         ensures { MatchResult result (λ p. (before : AccountOf) × SpawnsAt N.parts N.leads before p.account.now (Ok p.number)) (λ why. why ≡ Refused.NoPlace) }
     {
-        let Some((account, look)) = spares.lock(rt).pop() else {
+        let Some(account) = spares.lock(rt).pop() else {
             return Err(Refused::NoPlace);
         };
         match kernel.spawn(rt, account, &OpenGate) {
@@ -70,11 +67,10 @@ impl<'a, 'k, N: Names, R: Wait> Handle<'a, 'k, N, R> {
                 kernel,
                 spares,
                 account,
-                look,
                 number,
             }),
             Err(refused) => {
-                let _ = spares.lock(rt).push((account, look));
+                let _ = spares.lock(rt).push(account);
                 Err(refused)
             }
         }
@@ -94,7 +90,7 @@ impl<'a, 'k, N: Names, R: Wait + Clock> Process for Handle<'a, 'k, N, R> {
 
     ghost leads = { N.leads };
 
-    ghost handle = { λ p. record { number = p.number; account = p.account.now; fronts = p.look.now.look.fronts } };
+    ghost handle = { λ p. record { number = p.number; account = p.account.now } };
 
     type Runtime = &'a R;
 
@@ -374,9 +370,6 @@ impl<'a, 'k, N: Names, R: Wait + Clock> Process for Handle<'a, 'k, N, R> {
     }
 
     fn overview(&mut self) -> Overview {
-        Overview {
-            arenas: arenas(self.rt, self.kernel, self.account),
-            places: self.look.places(self.kernel),
-        }
+        see_all(self.rt, self.kernel, self.account)
     }
 }

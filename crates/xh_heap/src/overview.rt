@@ -1,15 +1,12 @@
 //! What there is to see from a handle.
-ghost use Rattle.std.specs.Prelude.{◌≡◌, length};
-ghost use Rattle.xh_heap.specs.Overviews.{AreGlanced, AreTold};
-ghost use Rattle.xh_model.specs.declared.limits.TheConstants.{PLACES};
+ghost use Rattle.xh_heap.specs.Overviews.{SeesAll};
 
-use crate::closed::{write_arena, write_place};
+use crate::closed::{write_arenas, write_place};
 use arrayvec::ArrayVec;
 use std::fmt;
-use std::marker::PhantomData;
 use std::sync::Wait;
 use xh_core::{ARENA_LINES, ArenaLine, Glance, PLACE_LINES, Status};
-use xh_kernel::{Account, Awaited, Kernel, Look, Names};
+use xh_kernel::{Account, Awaited, Kernel, Names};
 use xh_model::limits::{MAX_ARENAS, PLACES};
 
 /// A place: its latest process, how far that has come, its blocks and their bytes, and what it waits for, if it does.
@@ -43,70 +40,49 @@ pub struct Overview {
     pub places: ArrayVec<Seen, PLACE_LINES>,
 }
 
-/// A look of the kernel's own.
-#[derive(Drop)]
-pub(crate) struct OwnLook<N: Names> {
-    pub(crate) look: Look,
-    pub(crate) of: PhantomData<N>,
-    ghost own: { look.table ≡ N.parts.histories },
-}
-
-impl<N: Names> OwnLook<N> {
-    // All places, in order.
-    pub(crate) fn places(&mut self, kernel: &Kernel<N>) -> ArrayVec<Seen, PLACE_LINES>
-        ensures all { length result.items ≡ PLACES }
-        ensures seen { AreGlanced self.old.look.fronts result.items self.new.look.fronts }
-    {
-        let mut places = ArrayVec::new();
-        for place in 0..PLACES {
-            let Ok(glance) = kernel.glance(place, &mut self.look) else {
-                unreachable!()
-            };
-            let awaits = kernel.awaited(glance.process);
-            places.push(Seen { glance, awaits });
-        }
-        places
-    }
-}
-
-// All arenas, in order.
-pub(crate) fn arenas<N: Names, R: Wait>(
+// All arenas and all places, in order.
+pub(crate) fn see_all<N: Names, R: Wait>(
     rt: &R,
     kernel: &Kernel<N>,
     account: &mut Account<N>,
-) -> ArrayVec<ArenaLine, ARENA_LINES>
-    ensures all { length result.items ≡ length N.parts.records.shape.names }
-    ensures told { AreTold N.parts account.old result.items account.new }
+) -> Overview
+    ensures { SeesAll N.parts account.old account.new result }
 {
     let mut arenas = ArrayVec::new();
     for arena in 0..MAX_ARENAS {
-        let Some(line) = kernel.arena_line(rt, arena, account) else {
-            return arenas;
-        };
-        arenas.push(line);
+        if let Some(line) = kernel.arena_line(rt, arena, account) {
+            arenas.push(line);
+        }
     }
-    arenas
+    let mut places = ArrayVec::new();
+    for place in 0..PLACES {
+        let glance = kernel.glance_by(place, account);
+        let awaits = kernel.awaited(glance.process);
+        places.push(Seen { glance, awaits });
+    }
+    Overview { arenas, places }
 }
 
-// A place's line, where somebody has had the place.
-fn write_seen<W: fmt::Write>(f: &mut fmt::Formatter<W>, seen: &Seen) -> fmt::Result {
-    if let Status::Vacant = seen.glance.state {
-        return Ok(());
-    }
-    write_place(f, &seen.glance.line())?;
-    match seen.awaits {
-        Some(awaited) => writeln!(f, " awaits {awaited}"),
+// What a process awaits, at the end of its line.
+fn end_line<W: fmt::Write>(f: &mut fmt::Formatter<W>, awaits: Option<Awaited>) -> fmt::Result {
+    match awaits {
         None => writeln!(f),
+        Some(Awaited::Message { channel, side }) => writeln!(f, " awaits message {channel} {side}"),
+        Some(Awaited::Room { channel, side }) => writeln!(f, " awaits room {channel} {side}"),
+        Some(Awaited::AnyMessage) => writeln!(f, " awaits messages"),
+        Some(Awaited::Memory { arena }) => writeln!(f, " awaits memory {arena}"),
     }
 }
 
 impl fmt::Display for Overview {
     fn fmt<W: fmt::Write>(&self, f: &mut fmt::Formatter<W>) -> fmt::Result {
-        for (number, line) in self.arenas.iter().enumerate() {
-            write_arena(f, number, line)?;
-        }
+        write_arenas(f, self.arenas.as_slice())?;
         for seen in self.places.iter() {
-            write_seen(f, seen)?;
+            if seen.glance.state == Status::Vacant {
+                continue;
+            }
+            write_place(f, &seen.glance.line())?;
+            end_line(f, seen.awaits)?;
         }
         Ok(())
     }

@@ -260,5 +260,5 @@ pub trait Process: Drop {
     /// All places and all arenas, each as it was at a moment of the call, and what each process waits for. It is never refused,
     /// also where the process has ended, and takes the lock of no process.
     fn overview(&mut self) -> Overview
-        ensures { SeesAll parts (handle self.old) (handle self.new) result };
+        ensures { Acts (λ _ old new. SeesAll parts old new result) (handle self.old) (handle self.new) };
 }

@@ -1,5 +1,5 @@
 //! A job's run: a kernel is made, the job works on it, and its books are closed.
-ghost use Rattle.std.specs.Prelude.{◌≡◌, ◌<◌, ◌≤◌, All, Err, IfOk, List, vec_len};
+ghost use Rattle.std.specs.Prelude.{◌≡◌, ◌<◌, ◌≤◌, Err, IfOk, List, vec_len};
 ghost use Rattle.xh_kernel.specs.Histories.{IsLaw};
 ghost use Rattle.xh_books.specs.Closing.{AreClosed};
 ghost use Rattle.xh_books.specs.Ledgers.{IsBalanced};
@@ -15,16 +15,15 @@ use crate::closed::Closed;
 use crate::handle::{Handle, Spares};
 use crate::host::Host;
 use crate::job::Team;
-use crate::overview::OwnLook;
 use crate::threads::Crew;
-use std::alloc::{AllocError, Global};
-use std::marker::{Brand, PhantomData};
+use std::alloc::Global;
+use std::marker::Brand;
 use std::sync::{Mutex, Wait};
 use std::thread::Threads;
 use std::time::Clock;
 use xh_books::close_kernel;
 use xh_core::{Config, Refused};
-use xh_kernel::{Account, Kernel, Look, Names, Parts};
+use xh_kernel::{Account, Kernel, Names, Parts};
 use xh_model::limits::{MAX_RECORDS, MAX_WEAR, MAX_WORKERS, PLACES};
 
 /// One arena of so many bytes, a multiple of 16 up to 2^27, for 256 blocks; 4 messages wait in a direction, and the arena
@@ -64,42 +63,17 @@ fn work_on<'s, 'k, N: Names + Send + Sync, R: Threads + Wait + Clock + Sync, J: 
     alloc: Global,
     kernel: &'s Kernel<N>,
     accounts: &'k mut [Account<N>],
-    looks: &'k mut [OwnLook<N>],
     count: u8,
     job: &'s J,
 ) -> Result<(J::Plan, Vec<J::Answer>), Refused>
     ensures { IfOk result (λ worked. vec_len worked.1 ≡ count) }
 {
-    let spares = accounts.iter_mut().zip(looks.iter_mut());
-    let spares = Mutex::new(spares.collect(alloc)?);
+    let spares = Mutex::new(accounts.iter_mut().collect(alloc)?);
     let mut all = hire(rt, alloc, kernel, &spares, count)?;
     let plan = job.plan(&mut Team { all: &mut all })?;
     let crew = Crew::new(rt, job, plan);
     let answers = crew.work_all(alloc, all)?;
     Ok((crew.plan, answers))
-}
-
-// The looks, by types that say whose they are.
-fn own_looks<N: Names>(alloc: Global, looks: Vec<Look>) -> Result<Vec<OwnLook<N>>, AllocError>
-    requires { All (λ l. l.table ≡ N.parts.histories) looks.items }
-{
-    let mut own = Vec::with_capacity(alloc, looks.len())?;
-    for look in looks {
-        let of = PhantomData;
-        own.push(OwnLook { look, of })?;
-    }
-    Ok(own)
-}
-
-// The looks again.
-fn bare_looks<N: Names>(alloc: Global, own: Vec<OwnLook<N>>) -> Result<Vec<Look>, AllocError>
-    ensures { IfOk result (λ looks. All (λ l. l.table ≡ N.parts.histories) looks.items) }
-{
-    let mut looks = Vec::with_capacity(alloc, own.len())?;
-    for look in own {
-        looks.push(look.look)?;
-    }
-    Ok(looks)
 }
 
 // As `run`, over the kernel of these parts.
@@ -118,9 +92,7 @@ fn run_named<N: Names + Send + Sync, R: Threads + Wait + Clock + Sync, J: Host +
     ensures closed { IfOk result (λ c. (accounts : List AccountOf) × (looks : List (LookOf Entry)) × AreClosed N.parts accounts looks c.books.ledger c.books.flight.items) }
 {
     let (kernel, mut accounts, looks) = Kernel::<N>::new(alloc, parts)?;
-    let mut looks = own_looks(alloc, looks)?;
-    let worked = work_on(rt, alloc, &kernel, &mut accounts, &mut looks, count, job);
-    let looks = bare_looks(alloc, looks)?;
+    let worked = work_on(rt, alloc, &kernel, &mut accounts, count, job);
     let (worked, books) = close_kernel(alloc, kernel, Ok::<_, Refused>((worked, accounts, looks)))?;
     let (plan, answers) = worked?;
     Ok(Closed {

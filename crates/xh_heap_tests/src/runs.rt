@@ -1,6 +1,5 @@
 //! Whole runs: their limits, refused plans, handles that are dropped, and refused growths.
 use crate::calls::{ASK, code, tag_at, tag_of};
-use std::alloc::Global;
 use std::process::Abort;
 use std::time::Duration;
 use xh_heap::{
@@ -87,95 +86,51 @@ fn each_does_its_work_once(rt: HostRuntime) {
     assert!(rt; text.as_str().starts_with(ARENA));
 }
 
-/// The first two wait for each other; the third waits for a word of the first, in vain, and ends it.
+/// The first waits for a message of the second, which waits for room toward it, and a third at several ends. The fourth, which
+/// waits for a word of the first in vain, sees so at a deadline, and ends the first, and so the waits of its peers.
 #[derive(Drop)]
 struct Watched<R> {
     rt: R,
 }
 
 impl<R: Print + Drop> Watched<R> {
-    fn watch<P: Process>(&self, own: &mut P, quiet: &End, first: u16) -> Result<u64, Refused> {
-        if let Err(Refused::Empty) = own.take_for(quiet, Duration::from_millis(20)) {
-            let _ = println!(self.rt; "{}", own.overview());
-            return own.kill(first);
+    fn watch<P: Process>(&self, own: &mut P, quiet: &End) -> Result<Overview, Refused> {
+        for _ in own.rt().forever() {
+            let _nobody_gives = own.take_for(quiet, Duration::from_millis(20));
+            let seen = own.overview();
+            if seen.places.iter().filter(|s| s.awaits.is_some()).count() == 3 {
+                let _ = println!(self.rt; "{seen}");
+                own.kill(0)?;
+                return Ok(seen);
+            }
         }
-        Ok(0)
+        unreachable!()
     }
 }
 
 impl<R: Print + Drop> Job for Watched<R> {
-    type Plan = ((End, End), End, u16);
+    type Plan = [(End, End); 4];
 
-    type Answer = u64;
+    type Answer = Result<Overview, Refused>;
 
     fn plan<P: Process>(&self, team: &mut Team<P>) -> Result<Self::Plan, Refused> {
-        let (quiet, _) = team.wire(2, 0)?;
-        Ok((team.wire(0, 1)?, quiet, team.at(0)?.number()))
+        let (first, second) = (team.wire(0, 1)?, team.wire(1, 0)?);
+        Ok([first, second, team.wire(2, 0)?, team.wire(3, 0)?])
     }
 
-    fn work<P: Process>(&self, plan: &Self::Plan, index: usize, own: &mut P) -> u64 {
-        let ((one, other), quiet, first) = plan;
+    fn work<P: Process>(&self, ends: &Self::Plan, index: usize, own: &mut P) -> Self::Answer {
+        let (end, _) = &ends[index % 4];
         match index {
-            0 => tag_of(own.take_wait(one)),
-            1 => tag_of(own.take_wait(other)),
-            _ => code(self.watch(own, quiet, *first)),
-        }
-    }
-}
-
-/// What is seen once the first three wait.
-fn see_stalled<P: Process>(own: &mut P, quiet: &End) -> Overview {
-    for _ in own.rt().forever() {
-        let _nobody_gives = own.take_for(quiet, Duration::from_millis(20));
-        let seen = own.overview();
-        if seen.places.iter().filter(|s| s.awaits.is_some()).count() == 3 {
-            return seen;
-        }
-    }
-    unreachable!()
-}
-
-/// The first waits for a message of the second, which waits for room toward it; a third waits at several ends, of which it has
-/// one. The fourth, after a time, sees who waits where, and ends them.
-#[derive(Drop)]
-struct Stalled(Global);
-
-impl Job for Stalled {
-    type Plan = [End; 4];
-
-    type Answer = Result<String, Refused>;
-
-    fn plan<P: Process>(&self, team: &mut Team<P>) -> Result<[End; 4], Refused> {
-        let (first, _) = team.wire(0, 1)?;
-        let (second, _) = team.wire(1, 0)?;
-        let (third, _) = team.wire(2, 0)?;
-        let (fourth, _) = team.wire(3, 0)?;
-        Ok([first, second, third, fourth])
-    }
-
-    fn work<P: Process>(&self, ends: &[End; 4], index: usize, own: &mut P) -> Self::Answer {
-        let end = &ends[index % 4];
-        match index {
-            0 => {
-                own.take_wait(end)?;
-            }
+            0 => drop(own.take_wait(end)?),
             1 => {
                 for _ in 0..5 {
                     own.give_wait(end, 0, Items::new())?;
                 }
             }
-            2 => {
-                own.take_any_wait(&[end])?;
-            }
-            _ => {
-                let seen = see_stalled(own, end);
-                for number in 0..3 {
-                    let _bytes = own.kill(number);
-                }
-                return Ok(format!(in self.0; "{seen}")?);
-            }
+            2 => drop(own.take_any_wait(&[end])?),
+            _ => return self.watch(own, end),
         }
-        Ok(String::new(self.0))
+        Err(Refused::Empty)
     }
 }
 
@@ -185,19 +140,18 @@ fn who_waits_is_seen(rt: HostRuntime) {
     const SEEN: &str =
         "arena 0 1024 256 1 256 0\nprocess 0 running 4 128 awaits message 0 0\nprocess 1 running 2 64 awaits room 1 0\n\
     process 2 running 1 32 awaits messages\nprocess 3 running 1 32\n";
-    let job = Stalled(rt.alloc());
+    let job = Watched { rt: &rt };
     let mut closed = run(&rt, rt.alloc(), one_arena(1024), 4, &job).expect(&rt, "room");
     let seen = closed.answers.pop().expect(&rt, "the fourth");
-    assert_eq!(rt; seen.expect(&rt, "what it saw").as_str(), SEEN);
+    let text = format!(in rt.alloc(); "{}", seen.expect(&rt, "an overview")).expect(&rt, "room");
+    assert_eq!(rt; text.as_str(), SEEN);
 }
 
 /// A run of which a thread is refused begins no work, and says so. The gate refuses each in turn.
 #[test]
 fn threads_of_a_run(rt: HostRuntime) {
-    match run(&rt, rt.alloc(), one_arena(1024), 3, &Watched { rt: &rt }) {
-        Ok(closed) => {
-            assert_eq!(rt; closed.answers.as_slice(), [1012, 1015, 64].as_slice());
-        }
+    match run(&rt, rt.alloc(), one_arena(1024), 4, &Watched { rt: &rt }) {
+        Ok(closed) => assert!(rt; matches!(closed.answers.first(), Some(Err(Refused::Ended)))),
         Err(refused) => {
             assert_eq!(rt; refused.name(), "OutOfMemory");
             let _ = println!(rt; "{refused}");

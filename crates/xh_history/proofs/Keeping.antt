@@ -173,7 +173,7 @@ module _ {E : Type 0} (shows : ℕ → ℕ → E → Type 0) where
         tt,
         extends s told id word me p (get_or s.words word 0) v.history new [] here aligned inside (omega (arith, inside, long)) (there ∙ sym (append-nil (told.0 p))) shown
             (at_each (λ q x. Writes v q → v.history ≡ x) told.0 p new whole (λ q _. mine.whole q)) (λ j u ne g. (λ _. refl, λ k sv. refl)),
-        (later, refl, shown, whole),
+        (later, refl, shown, whole, λ k sv. subst (HasSeen k (at v.fronts p)) (sym there) (mine.seen k sv p)),
       )
 
   -- what a seat has of another's view

@@ -148,6 +148,20 @@ impl<E, S: Shows<E>> Histories<E, S> {
             .load::<Looks<S>>(&mut look.seat, word_at(place))
     }
 
+    /// As `look`, by a worker: all that is new to it are calls of others.
+    pub fn look_by(&self, front: &mut Front<E>, place: u8) -> u64
+        requires { (front.old.table ≡ self.now) × (place < PLACES) }
+        ensures same { front.new ≡ record front.old { fronts = front.new.fronts } }
+        ensures seen { Sees S.shows front.old.fronts place result front.new.fronts }
+        ensures own { HasSeen front.old.number (at front.old.fronts place) (at front.new.fronts place) }
+    {
+        let shared = &self.table.shared;
+        let mut seat = mem::replace(&mut front.badge, Badge::blank()).into_seat();
+        let word = shared.load::<Looks<S>>(&mut seat, word_at(place));
+        front.badge = seat.into_badge();
+        word
+    }
+
     /// Shows that what the look has seen of the pen's place is a beginning of the place's one history.
     #[tactic(auto, using(crate::proofs::Keeping::onlooks, crate::proofs::Keeping::joins))]
     pub fn compare_look(&self, pen: &mut Pen<E>, look: &mut Look<E>)

@@ -7,10 +7,10 @@ use crate::account::Account;
 use crate::kernel::Kernel;
 use crossbeam_utils::CachePadded;
 use std::alloc::{AllocError, Global};
+use std::array;
 use std::sync::Wait;
 use std::sync::atomic::AtomicU64;
 use std::sync::atomic::Ordering::SeqCst;
-use std::{array, fmt};
 use xh_calls::Names;
 use xh_core::ArenaLine;
 use xh_model::limits::PLACES;
@@ -26,17 +26,6 @@ pub enum Awaited {
     AnyMessage,
     /// Bytes of an arena.
     Memory { arena: u8 },
-}
-
-impl fmt::Display for Awaited {
-    fn fmt<W: fmt::Write>(&self, f: &mut fmt::Formatter<W>) -> fmt::Result {
-        match self {
-            Awaited::Message { channel, side } => write!(f, "message {channel} {side}"),
-            Awaited::Room { channel, side } => write!(f, "room {channel} {side}"),
-            Awaited::AnyMessage => write!(f, "messages"),
-            Awaited::Memory { arena } => write!(f, "memory {arena}"),
-        }
-    }
 }
 
 impl Awaited {

@@ -12,7 +12,7 @@ ghost use Rattle.xh_kernel.specs.Calls.{Calls};
 ghost use Rattle.xh_kernel.specs.Histories.{IsLaw};
 ghost use Rattle.xh_kernel.specs.inner.Making.{AreFirstSeats, ArePens, AreUnseen, IsFirstSeat};
 ghost use Rattle.xh_kernel.specs.Kept.{AreKept};
-ghost use Rattle.xh_kernel.specs.Looks.{HasGlanced};
+ghost use Rattle.xh_kernel.specs.Looks.{HasGlanced, TellsPlace};
 ghost use Rattle.xh_kernel.specs.Places.{places_of};
 ghost use Rattle.xh_kernel.specs.Waits.{SpawnsAt};
 ghost use Rattle.xh_model.specs.declared.limits.TheConstants.{MAX_ARENAS, PLACES};
@@ -255,6 +255,15 @@ impl<N: Names> Kernel<N> {
             return Err(Refused::NoProcess);
         }
         Ok(unpack(place, self.shared.histories.look(look, place)))
+    }
+
+    /// As `glance`, by what the worker of the account has seen.
+    pub fn glance_by(&self, place: u8, account: &mut Account<N>) -> Glance
+        requires { place < PLACES }
+        ensures { TellsPlace place result account.old account.new }
+    {
+        let histories = &self.shared.histories;
+        unpack(place, histories.look_by(&mut account.front, place))
     }
 
     /// Lets the kernel go where a run fails, with all that its locks keep. Its books stay unclosed.

@@ -92,10 +92,11 @@ module _ {E : Type 0} where
   abbrev pub Added : List E → {S : Type 0} → Step S → Me S (View E) → ℕ → Me S (View E) → Type 0
   Added es s v n w = (w ≡ (with_calls es v.0, v.1)) × HasSeen v.0.worker (at v.0.fronts v.0.place) v.0.history
 
-  -- a load: the history was seen to its end, of which the word shows the last call; a seat that writes it knows that end
+  -- a load: the history was seen to its end, of which the word shows the last call; a seat that writes it knows that end, and had seen all calls of a worker whom it serves
   abbrev pub Looked : (ℕ → ℕ → E → Type 0) → {S : Type 0} → Step S → Me S (View E) → ℕ → Me S (View E) → Type 0
   Looked shows s v n w = (later : History E) × (w ≡ (record v.0 { fronts = slice_set v.0.fronts (place_of s.word) (at v.0.fronts (place_of s.word) ++ later) }, v.1))
       × Shown shows (place_of s.word) (at v.0.fronts (place_of s.word) ++ later) n × (Writes v.0 (place_of s.word) → v.0.history ≡ at v.0.fronts (place_of s.word) ++ later)
+      × ((k : ℕ) → Serves v.0 k → HasSeen k (at v.0.fronts (place_of s.word)) (at v.0.fronts (place_of s.word) ++ later))
 
   -- the seat that writes the history of this one place, and serves no worker
   pub record IsPen (number : ℕ) (v : View E) : Type 0 where

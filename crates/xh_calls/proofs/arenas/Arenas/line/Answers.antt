@@ -1,6 +1,7 @@
 use Rattle.xh_calls.proofs.Common.{rules}
-use Rattle.xh_calls.proofs.Lists.{some_at}
+use Rattle.xh_calls.proofs.Lists.{there}
+use Rattle.xh_history.specs.Histories.{no_table}
 use Rattle.xh_calls.proofs.arenas.Arenas.line.Goals as goal
 
-pub kept-kept-requires : goal.kept-kept-requires
-kept-kept-requires g c = some_at g.N.Names.parts.records.shape.names c.args.arena (search rules)
+pub kept-requires : goal.kept-requires
+kept-requires g c = (_, there g.N.Names.parts.records.shape.names c.args.arena no_table (search rules))
