@@ -18,6 +18,8 @@ pub struct Account<N: Names> {
     number: u8,
     pub(crate) till: Till,
     pub(crate) front: Front<Entry>,
+    // Unused: accounts lie beside each other, and no cache line has parts of two.
+    room: [u64; 16],
     of: PhantomData<N>,
 }
 
@@ -49,6 +51,7 @@ impl<N: Names> Account<N> {
                 seen,
             },
             front,
+            room: [0; 16],
             of: PhantomData,
         }
     }
