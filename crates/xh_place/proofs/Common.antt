@@ -7,7 +7,7 @@ pub use Rattle.xh_place.proofs.Words.{on_err_weaker, on_ok_weaker, Some, StartsW
 pub use Rattle.xh_place.proofs.Words.{ap₂, arena_tests, arith, away, away_in, bare, bytes, drop, drop_more, end_block, end_tests, ending_again, first_refusal, found_at, front}
 pub use Rattle.xh_place.proofs.Words.{front_at, gave, get_or, given_tests, header_of, ids_of, inl, inr, is_listed, is_over, is_running, is_some, item_at, item_in, item_of, keys, keys_push, kind_of}
 pub use Rattle.xh_place.proofs.Words.{last, length, length-append, length-keys, length-replicate, lens, less, less_all, list_all, list_any, map, map-append, next, part, passed_on, past, picked, put}
-pub use Rattle.xh_place.proofs.Words.{put_at}
+pub use Rattle.xh_place.proofs.Words.{put_at, MatchBool, MatchOption, Bool, false}
 pub use Rattle.xh_place.proofs.Words.{put_other, put_same, put_without, reclaimed, record_of, refl, replicate, rest, rules, set, set-get_or, settled, shown, slice_get, split_tests, start, stop}
 pub use Rattle.xh_place.proofs.Words.{subst, suc, sym, take, take_more, took, total_of, true, value_at, vec_capacity, with_blocks, with_list, with_lots, with_more}
 pub use Rattle.xh_place.proofs.Words.{without, without_other, word_of, ℕ, ⊎_elim, ◌%◌, ◌*◌, ◌++◌, ◌+◌, ◌-◌, ◌/◌, ◌<◌, ◌==◌, ◌∙◌, ◌∷◌, ◌≡◌, ◌≢◌, ◌≤◌, ◌⊎◌}
@@ -18,7 +18,7 @@ pub use Rattle.xh_place.specs.Seen.{Arrived}
 pub use Rattle.xh_place.proofs.Steps.{IsNow, place_seen, block_small, count_room, enough, held_is, held_record, holds_nothing, list_distinct, list_few, list_room, listed, lost, over_running, stays}
 pub use Rattle.xh_place.proofs.Steps.{total_bound}
 pub use Rattle.xh_place.proofs.Steps.{won, moved_last, without_long}
-pub use Rattle.xh_place.proofs.Ends.{end_did, end_held, end_kind}
+pub use Rattle.xh_place.proofs.Ends.{end_did, end_held, end_kind, end_tried, end_way, is_end, popped, when_end}
 pub use Rattle.xh_place.proofs.Gained.{full_after, full_now, has, none_claimed, one_gone}
 pub use Rattle.xh_place.proofs.Swept.{unrefused, untested}
 pub use Rattle.xh_place.proofs.Words.{Got, append-nil, Acts, Becomes, Did, Gains, HasDone, HasGained, HasLost, IsSeenAfter, IsSeenBy, claimed, nothing, place_of, vacated}

@@ -5,15 +5,22 @@ use Rattle.xh_place.proofs.Words.{MatchResult, map, map-append, Message, Endpoin
 use Rattle.xh_place.proofs.Words.{AreGot, Body, EndsWith, Event, IsDrained, EndpointShuts, Got, Shape, StartsWith, EndpointTakes, TakesEach, blocks_of, record_of, EndDoes, end_block, toward_in}
 use Rattle.xh_place.proofs.Words.{away_in, Clears}
 use Rattle.xh_place.proofs.Words.{Becomes, Did, Drains, IsUntaken, IsSeenAfter, IsSent, IsTaken, Item, PlaceOf, with_blocks, with_more, IsSeen, PlaceSeen, Stays, accepted_on, passed_on, picked}
-use Rattle.xh_place.proofs.Words.{true, false, ◌+◌, arith}
+use Rattle.xh_place.proofs.Words.{true, false, ◌+◌, arith, Bool, IfErr, MatchBool, MatchOption, Status, Running, end_tests, first_refusal, found_at, header_of, option_map, start}
 use Rattle.std.proofs.Common.{is_some, length-append}
 use Rattle.std.proofs.lemmas.Bool.{false_from_ne_true}
 use Rattle.xh_model.specs.declared.limits.TheConstants.{MAX_MESSAGES}
 use Rattle.xh_records.specs.Deeds.{Deed}
 use Rattle.xh_place.proofs.Listing.{put_front}
-use Rattle.xh_place.proofs.Ends.{way_shut, way_taken}
-use Rattle.xh_place.proofs.Seeing.{all_got_as, arrived_wide, did_more, did_starts, got_both, seen_wide, starts_more, starts_same}
-use Rattle.xh_place.proofs.Events.{more_none, more_twice, stays_then}
+use Rattle.xh_place.proofs.Ends.{empty_keeps, is_end, way_shut, way_taken}
+use Rattle.xh_place.proofs.Givens.{some_of}
+use Rattle.xh_place.proofs.Swept.{unrefused}
+use Rattle.std.specs.Prelude.{not}
+use Rattle.xh_core.specs.Headers.{has_end, is_data}
+use Rattle.xh_core.specs.declared.header.Kind.{Kind}
+use Rattle.xh_core.specs.declared.refused.Refused.TheVariants.{Empty, NotEndpoint}
+use Rattle.xh_place.specs.Messages.{TakesAt}
+use Rattle.xh_place.proofs.Seeing.{all_got_as, arrived_wide, did_more, did_none, did_starts, got_both, seen_wide, starts_more, starts_same}
+use Rattle.xh_place.proofs.Events.{more_none, more_twice, stays_again, stays_then}
 use Rattle.xh_core.specs.declared.header.Kind.TheVariants as kind
 
 -- ---- one endpoint
@@ -186,6 +193,42 @@ taken_from e old mid new (Err refused) same is = (
   subst (λ (p : PlaceOf). IsUntaken e p new.place refused) same.0 is.0,
   subst (λ (f : List (Deed Body)). Did old.place.process [] old.front f) (sym is.1) same.1,
 )
+
+-- a take at a block of the list by a process that runs
+module _ (e : ℕ) (old mid new : PlaceSeen) (result : Result Taken Refused) (same : Stays old mid) where
+  -- what it did, where the block is an endpoint or isn't
+  abbrev Tried : Bool → Type 0
+  Tried end = MatchBool end (MatchResult result (IsTaken e mid new) (λ refused. IsUntaken e mid.place new.place refused × (new.front ≡ mid.front)))
+      ((result ≡ Err NotEndpoint) × (new.place ≡ mid.place) × (new.front ≡ mid.front))
+
+  pub tried_empty : (end : Bool) → Tried end → IfErr result (λ u. u ≡ Empty → new.place ≡ old.place)
+  tried_empty true h = empty_keeps e old new result (taken_from e old mid new result same h)
+  tried_empty false h = subst (λ (r : Result Taken Refused). IfErr r (λ u. u ≡ Empty → new.place ≡ old.place)) (sym h.0) (λ s. absurd (cc))
+
+  pub tried : (s : Status) → first_refusal (start s) ≡ None → is_some (value_at e old.place.blocks) ≡ true → Tried (has_end (found_at mid.place e)) → TakesAt s e old new result
+  tried Running fine listed h = go (kind_of x.0.content) refl where
+    x : (x : Item) × (value_at e old.place.blocks ≡ Some x)
+    x = some_of (value_at e old.place.blocks) listed
+
+    at : found_at old.place e ≡ Some (header_of x.0)
+    at = ap (option_map header_of) x.1
+
+    mid_end : has_end (found_at mid.place e) ≡ not (is_data (kind_of x.0.content))
+    mid_end = ap (λ (p : PlaceOf). has_end (found_at p e)) same.0 ∙ ap has_end at
+
+    tests : (k : Kind) → kind_of x.0.content ≡ k → first_refusal (start Running ++ end_tests (found_at old.place e)) ≡ first_refusal (end_tests (Some (record { len = x.0.len; kind = k })))
+    tests k is = ap (λ o. first_refusal (end_tests o)) at ∙ ap (λ k. first_refusal (end_tests (Some (record { len = x.0.len; kind = k })))) is
+
+    go : (k : Kind) → kind_of x.0.content ≡ k → TakesAt Running e old new result
+    go kind.End is = unrefused (start Running ++ end_tests (found_at old.place e)) result (Stays old new)
+        (MatchResult result (IsTaken e old new) (λ refused. IsUntaken e old.place new.place refused × Did old.place.process [] old.front new.front)) (tests kind.End is)
+        (taken_from e old mid new result same (is_end _ (mid_end ∙ ap (λ k. not (is_data k)) is) h))
+    go kind.Data is =
+        let no = subst Tried (mid_end ∙ ap (λ k. not (is_data k)) is) h in
+        subst (λ (o : Option Refused). MatchOption o (MatchResult result (IsTaken e old new) (λ refused. IsUntaken e old.place new.place refused × Did old.place.process [] old.front new.front))
+        (λ (r : Refused). (result ≡ Err r) × Stays old new)) (sym (tests kind.Data is))
+        (no.0, stays_again old mid new same (no.1, did_none mid.place.process mid.front new.front no.2))
+  tried s fine listed h = absurd (cc)
 
 pub sent_from : (e tag : ℕ) (given : List ℕ) (old mid new : PlaceSeen) (result : Result ℕ Refused) → Stays old mid → IsSent e tag given mid new result → IsSent e tag given old new result
 sent_from e tag given old mid new result same is =

@@ -7,7 +7,11 @@ use Rattle.xh_channel.specs.declared.refused.Refused.{Refused as NoMessage}
 use Rattle.xh_channel.specs.Refusals.{same_refusal}
 use Rattle.xh_core.specs.declared.refused.Refused.TheVariants.{Empty}
 use Rattle.xh_place.specs.Bodies.{IsEndAt}
-use Rattle.xh_place.proofs.Found.{found}
+use Rattle.xh_core.specs.Headers.{has_end, is_data}
+use Rattle.std.specs.Prelude.{not}
+use Rattle.xh_model.specs.declared.limits.TheConstants.{DIRECTIONS}
+use Rattle.xh_place.proofs.Words.{Bool, MatchBool, MatchOption, None, Option, false, found_at, header_of, option_map, toward_in, ◌<◌}
+use Rattle.xh_place.proofs.Found.{Found, found}
 use Rattle.xh_place.proofs.Steps.{turned, view_of}
 use Rattle.xh_core.specs.declared.header.Kind.TheVariants as kind
 use Rattle.xh_channel.specs.declared.refused.Refused.TheVariants as none
@@ -54,7 +58,50 @@ module _ {seat : Held Body} (rs : List ℕ) {room total : ℕ} {state : Status} 
       let here : value_at e p.blocks ≡ Some (end_block moved.before) = end.1 ∙ ap (λ (x : Item). Some x) (sym f.same ∙ item_was rel f.block moved) in
       (both.0, (moved.before, moved.after, here, both.1 p view ∙ ap (λ (z : Item). with_blocks p (put e z p.blocks)) (item_now rel f.block moved), moved.did))
 
--- ---- what follows of the channel's clauses
+-- a block of the list, on whose lot a call works if it is an endpoint's
+module _ {seat : Held Body} (rs : List ℕ) {room total : ℕ} {state : Status} (is : IsPlace seat (shown seat.lots rs) room total state) {p : PlaceOf} (view : view_of seat (shown seat.lots rs) state ≡ p)
+    (e : ℕ) (listed : (x : Item) × (value_at e p.blocks ≡ Some x)) where
+  pub end_tried : (last : Held Body) (way : Option ℕ) (rel : EndpointOf → EndpointOf → Type 0) → ((l : LotOf Body) → value_at e seat.lots ≡ Some l → (m : LotOf Body)
+      × MatchOption way (m ≡ l) (λ _. LotDoes rel l m) × (last ≡ with_lots seat (put e m seat.lots)))
+      → IsPlace last (shown last.lots rs) room total state × MatchOption way (view_of last (shown last.lots rs) state ≡ p) (λ _. EndDoes e p (view_of last (shown last.lots rs) state) rel)
+  end_tried last None rel did =
+      let f = found is view e listed.1 in let t = did f.lot f.held in
+      let same : last ≡ seat = t.2 ∙ ap (λ (l : LotOf Body). with_lots seat (put e l seat.lots)) t.1 ∙ ap (with_lots seat) (put_same e f.lot seat.lots f.held) in
+      (subst (λ (h : Held Body). IsPlace h (shown h.lots rs) room total state) (sym same) is, ap (λ (h : Held Body). view_of h (shown h.lots rs) state) same ∙ view)
+  end_tried last (Some d) rel did =
+      let f = found is view e listed.1 in let moved = (did f.lot f.held).1 in
+      end_did rs is view e (listed.0, listed.1, ap (λ (x : Item). kind_of x.content) (sym f.same ∙ item_was rel f.block moved)) last rel did
+
+  pub end_way : (way : Option ℕ) → ((l : LotOf Body) → value_at e seat.lots ≡ Some l
+      → MatchOption way (kind_of (content_of l.body) ≡ kind.Data) (λ d. (kind_of (content_of l.body) ≡ kind.End) × (d ≡ toward (content_of l.body)) × (d < DIRECTIONS)))
+      → MatchOption way (has_end (found_at p e) ≡ false) (λ d. (has_end (found_at p e) ≡ true) × (d ≡ toward_in (value_at e p.blocks)) × (d < DIRECTIONS))
+  end_way way told = go way (told f.lot f.held) where
+    f : Found seat (shown seat.lots rs) e listed.0
+    f = found is view e listed.1
+
+    kind_at : has_end (found_at p e) ≡ not (is_data (kind_of (content_of f.lot.body)))
+    kind_at = ap (λ (o : Option Item). has_end (option_map header_of o)) listed.1 ∙ ap (λ (x : Item). not (is_data (kind_of x.content))) (sym f.same)
+
+    go : (way : Option ℕ) → MatchOption way (kind_of (content_of f.lot.body) ≡ kind.Data)
+        (λ d. (kind_of (content_of f.lot.body) ≡ kind.End) × (d ≡ toward (content_of f.lot.body)) × (d < DIRECTIONS))
+        → MatchOption way (has_end (found_at p e) ≡ false) (λ d. (has_end (found_at p e) ≡ true) × (d ≡ toward_in (value_at e p.blocks)) × (d < DIRECTIONS))
+    go None h = kind_at ∙ ap (λ k. not (is_data k)) h
+    go (Some d) h = (kind_at ∙ ap (λ k. not (is_data k)) h.0, h.1 ∙ ap (λ (x : Item). toward x.content) f.same ∙ sym (ap toward_in listed.1), h.2)
+
+-- what is told where a take found an endpoint
+pub popped : (e : ℕ) (old new : PlaceOf) (does : EndpointOf → EndpointOf → Type 0) (way : Option ℕ) (d : ℕ) → way ≡ Some d → MatchOption way (new ≡ old) (λ _. EndDoes e old new does)
+    → MatchOption way (has_end (found_at old e) ≡ false) (λ k. (has_end (found_at old e) ≡ true) × (k ≡ toward_in (value_at e old.blocks)) × (k < DIRECTIONS))
+    → EndDoes e old new does × (has_end (found_at old e) ≡ true) × (d ≡ toward_in (value_at e old.blocks)) × (d < DIRECTIONS)
+popped e old new does way d is took told =
+    let w = subst (λ (o : Option ℕ). MatchOption o (has_end (found_at old e) ≡ false) (λ k. (has_end (found_at old e) ≡ true) × (k ≡ toward_in (value_at e old.blocks)) × (k < DIRECTIONS))) is told in
+    (subst (λ (o : Option ℕ). MatchOption o (new ≡ old) (λ _. EndDoes e old new does)) is took, w.0, w.1, w.2)
+
+-- where its kind is known, what is said of an endpoint alone
+pub is_end : {b : Bool} {X : Type 0} (Y : Type 0) → b ≡ true → MatchBool b X Y → X
+is_end {b} {X} Y e h = subst (λ (z : Bool). MatchBool z X Y) e h
+
+pub when_end : {b : Bool} {X : Type 0} (Y : Type 0) → b ≡ true → X → MatchBool b X Y
+when_end {b} {X} Y e h = subst (λ (z : Bool). MatchBool z X Y) (sym e) h
 
 -- ---- an endpoint stays at its direction
 

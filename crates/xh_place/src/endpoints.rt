@@ -86,36 +86,41 @@ pub(crate) fn put_at<R: Wait, V, G>(
     )
 }
 
-// Takes the message at the front for the endpoint. With the answer goes the direction. The answer is large:
-// it is put where the caller lends room, and in a function of its own, since each move of it costs.
+// Takes the message at the front for the record's block, if it is an endpoint: with the answer goes the direction. The answer is
+// large: it is put where the caller lends room, and in a function of its own, since each move of it costs.
 #[inline(never)]
 pub(crate) fn take_at<R: Wait, V, G>(
     desk: &Desk<'_, R, V, G>,
     seat: &mut Seat<Body>,
     e: u16,
-) -> (Result<Message, Untaken>, u8)
+) -> (Result<Message, Untaken>, Option<u8>)
     requires own { IsSeatOf desk.now.records.now seat.old × IsRecord desk.now.records.now.shape e }
-    requires held { (l : LotOf Body) × (value_at e seat.old.lots ≡ Some l) × IsLotOf seat.old.shape e l × IsEnd l }
-    ensures seat { (l : LotOf Body) → value_at e seat.old.lots ≡ Some l → (result.1 ≡ toward (content_of l.body))
-        × ((m : LotOf Body) × LotDoes (EndpointTakes result.0) l m × (seat.new ≡ with_lots seat.old (put e m seat.old.lots))) }
-    ensures small { result.1 < DIRECTIONS }
+    requires held { (l : LotOf Body) × (value_at e seat.old.lots ≡ Some l) × IsLotOf seat.old.shape e l × IsFull fits_in l }
+    ensures direction { (l : LotOf Body) → value_at e seat.old.lots ≡ Some l
+        → MatchOption result.1 (kind_of (content_of l.body) ≡ kind.Data)
+        (λ d. (kind_of (content_of l.body) ≡ kind.End) × (d ≡ toward (content_of l.body)) × (d < DIRECTIONS)) }
+    ensures seat { (l : LotOf Body) → value_at e seat.old.lots ≡ Some l
+        → (m : LotOf Body) × MatchOption result.1 (m ≡ l) (λ _. LotDoes (EndpointTakes result.0) l m) × (seat.new ≡ with_lots seat.old (put e m seat.old.lots)) }
 {
     let (rt, channels) = (desk.rt, desk.channels);
     let mut taken = Err(Untaken::Empty);
     let direction = desk.records.with_lot(
         seat,
         e,
-        &mut |lot: &mut Lot<Body>| -> u8
-            requires { IsEnd lot.old }
-            ensures lot { LotDoes (EndpointTakes taken.exit) lot.old lot.new }
-            ensures direction { (result ≡ toward (content_of lot.old.body)) × (result < DIRECTIONS) }
+        &mut |lot: &mut Lot<Body>| -> Option<u8>
+            requires { IsFull fits_in lot.old }
+            ensures lot { MatchOption result (lot.new ≡ lot.old) (λ _. LotDoes (EndpointTakes taken.exit) lot.old lot.new) }
+            ensures direction { MatchOption result (kind_of (content_of lot.old.body) ≡ kind.Data)
+                (λ d. (kind_of (content_of lot.old.body) ≡ kind.End) × (d ≡ toward (content_of lot.old.body)) × (d < DIRECTIONS)) }
         {
-            let Body::End(end) = lot.body_mut() else {
-                unreachable!()
-            };
-            let spot = end.spot();
-            taken = channels.take(rt, end);
-            spot.toward()
+            match lot.body_mut() {
+                Body::End(end) => {
+                    let spot = end.spot();
+                    taken = channels.take(rt, end);
+                    Some(spot.toward())
+                }
+                Body::Nothing | Body::Data(_) => None,
+            }
         },
     );
     (taken, direction)

@@ -11,6 +11,7 @@ mod got;
 mod list;
 mod lots;
 mod opening;
+mod outlet;
 mod place;
 mod vaults;
 

@@ -25,6 +25,7 @@ use crate::body::Body;
 use crate::bytes::rest_of;
 use crate::desk::Desk;
 use crate::gate::{Gate, Point};
+use crate::outlet::Outlet;
 use crate::vaults::Vaults;
 use std::alloc::Global;
 use std::mem;
@@ -101,38 +102,6 @@ fn fill<R, V: Vaults, G>(
             Ok(())
         },
     )
-}
-
-// Where the body of a block goes that is given up.
-pub(crate) trait Outlet {
-    // It has got this body.
-    ghost has: { Self → Body → Type 0 };
-
-    // The body is out of its lot.
-    fn empty(&mut self, body: &mut Body)
-        ensures left { body.new ≡ Nothing }
-        ensures has { has self.new body.old };
-}
-
-// It is dropped where it lies.
-impl Outlet for () {
-    ghost has = { λ _ _. Unit {0} };
-
-    #[inline(always)]
-    fn empty(&mut self, body: &mut Body) {
-        *body = Body::Nothing;
-    }
-}
-
-impl Outlet for Body {
-    ghost use Rattle.std.specs.Prelude.{◌≡◌};
-
-    ghost has = { λ out body. out ≡ body };
-
-    #[inline(always)]
-    fn empty(&mut self, body: &mut Body) {
-        *self = mem::take(body);
-    }
 }
 
 // The bytes of the record's lot go back, and its body goes to the outlet. It answers the bytes.

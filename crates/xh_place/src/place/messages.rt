@@ -1,23 +1,24 @@
 //! Messages that a place gives and takes.
 ghost use Rattle.xh_channel.specs.Calls.{EndpointTakes};
-ghost use Rattle.std.specs.Prelude.{◌≡◌, ◌≢◌, ℕ, ◌+◌, ◌*◌, ◌<◌, ◌≤◌, List, [], ◌∷◌, length, Some, IfErr, MatchResult, is_some, map, true};
+ghost use Rattle.std.specs.Prelude.{◌≡◌, ◌≢◌, ℕ, ◌+◌, ◌*◌, ◌<◌, ◌≤◌, List, [], ◌∷◌, length, Err, Some, IfErr, MatchBool, MatchOption, MatchResult, is_some, map, true, false};
 ghost use Rattle.xh_core.specs.Calls.{given_tests};
+ghost use Rattle.xh_core.specs.Headers.{has_end};
+ghost use Rattle.xh_core.specs.declared.refused.Refused.TheVariants.{NotEndpoint};
 ghost use Rattle.xh_core.specs.Refusing.{Tested};
 ghost use Rattle.xh_core.specs.Statuses.{is_over};
 ghost use Rattle.xh_model.specs.Keyed.{Among, Distinct, value_at};
 ghost use Rattle.xh_model.specs.declared.limits.TheConstants.{DIRECTIONS, MAX_BLOCKS};
-ghost use Rattle.xh_place.specs.Bodies.{IsEndAt, kind_of};
+ghost use Rattle.xh_place.specs.Bodies.{IsEndAt};
 ghost use Rattle.xh_place.specs.Endpoints.{AreGot, record_of};
 ghost use Rattle.xh_place.specs.Ends.{EndDoes, toward_in};
 ghost use Rattle.xh_place.specs.Messages.{Gives, IsSent, IsTaken, IsUntaken, TakesAt};
-ghost use Rattle.xh_place.specs.Places.{Item, IsPlaceOf};
+ghost use Rattle.xh_place.specs.Places.{Item, IsPlaceOf, found};
 ghost use Rattle.xh_place.specs.inner.Answers.{Comes};
 ghost use Rattle.xh_place.specs.Seen.{Gains, IsSamePlace, IsSeen, Stays};
 ghost use Rattle.xh_place.specs.declared.body.Body.{Body};
 ghost use Rattle.xh_records.specs.Seats.{IsRecord};
 ghost use Rattle.std.specs.List.{list_all};
 ghost use Rattle.xh_core.specs.declared.status.Status.TheVariants as status;
-ghost use Rattle.xh_core.specs.declared.header.Kind.TheVariants as kind;
 
 use crate::body::Body;
 use crate::desk::Desk;
@@ -127,11 +128,14 @@ impl Place {
         ensures taken { TakesAt self.old.place.state e self.old self.new result }
         ensures empty { IfErr result (λ u. u ≡ Refused.Empty → self.new.place ≡ self.old.place) }
     {
-        self.test_end(desk.records, e)?;
+        self.state().check_start()?;
+        if !self.has(desk.records, e) {
+            return Err(Refused::NotOwned);
+        }
         self.take_message(desk, e)
     }
 
-    // Takes the message at the front for an endpoint of the list, and its blocks. It is inlined, so that the
+    // Takes the message at the front for a block of the list, and its blocks. NotEndpoint where it isn't an endpoint. It is inlined, so that the
     // large answer is moved less often.
     #[inline(always)]
     pub(super) fn take_message<R: Wait, V, G: Gate>(
@@ -141,11 +145,16 @@ impl Place {
     ) -> Result<Taken, Refused>
         requires own { IsPlaceOf desk.now.records.now self.old.place }
         requires alive { is_over self.old.place.state ≢ true }
-        requires end { (x : Item) × (value_at e self.old.place.blocks ≡ Some x) × (kind_of x.content ≡ kind.End) }
+        requires listed { (x : Item) × (value_at e self.old.place.blocks ≡ Some x) }
         ensures place { IsSamePlace self.old self.new }
-        ensures taken { MatchResult result (IsTaken e self.old self.new) (λ refused. IsUntaken e self.old.place self.new.place refused × (self.new.front ≡ self.old.front)) }
+        ensures taken { MatchBool (has_end (found self.old.place e))
+            (MatchResult result (IsTaken e self.old self.new) (λ refused. IsUntaken e self.old.place self.new.place refused × (self.new.front ≡ self.old.front)))
+            ((result ≡ Err NotEndpoint) × (self.new.place ≡ self.old.place) × (self.new.front ≡ self.old.front)) }
     {
-        let (taken, direction) = self.pop(desk, e);
+        let (taken, way) = self.pop(desk, e);
+        let Some(direction) = way else {
+            return Err(Refused::NotEndpoint);
+        };
         let message = taken?;
         desk.gate.between(place_of(&self.seat), Point::Popped);
         let mut taken = Taken {
@@ -157,17 +166,18 @@ impl Place {
         Ok(taken)
     }
 
-    // Takes the message at the front for an endpoint of the list. With the answer goes the direction.
+    // Takes the message at the front for a block of the list, if it is an endpoint: with the answer goes the direction.
     fn pop<R: Wait, V, G>(
         &mut self,
         desk: &Desk<'_, R, V, G>,
         e: u16,
-    ) -> (Result<Message, Untaken>, u8)
+    ) -> (Result<Message, Untaken>, Option<u8>)
         requires own { IsPlaceOf desk.now.records.now self.old.place }
-        requires end { (x : Item) × (value_at e self.old.place.blocks ≡ Some x) × (kind_of x.content ≡ kind.End) }
-        ensures took { EndDoes e self.old.place self.new.place (EndpointTakes result.0) }
+        requires listed { (x : Item) × (value_at e self.old.place.blocks ≡ Some x) }
+        ensures took { MatchOption result.1 (self.new.place ≡ self.old.place) (λ _. EndDoes e self.old.place self.new.place (EndpointTakes result.0)) }
         ensures front { self.new.front ≡ self.old.front }
-        ensures direction { (result.1 ≡ toward_in (value_at e self.old.place.blocks)) × (result.1 < DIRECTIONS) }
+        ensures direction { MatchOption result.1 (has_end (found self.old.place e) ≡ false)
+            (λ d. (has_end (found self.old.place e) ≡ true) × (d ≡ toward_in (value_at e self.old.place.blocks)) × (d < DIRECTIONS)) }
     {
         take_at(desk, &mut self.seat, e)
     }

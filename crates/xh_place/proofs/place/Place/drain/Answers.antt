@@ -1,13 +1,15 @@
 use Rattle.xh_place.proofs.Common.{◌∙◌, arith, ◌≡◌, ◌+◌, ℕ, [], ◌∷◌, ◌++◌, length, length-append, map-append, refl, sym, subst, ap, put_same, end_block, value_at, IsSeen, seen_wide, starts_same}
 use Rattle.xh_place.proofs.Common.{Accept, Did, Item, accepted_on, all_got_as, did_more, did_none, did_starts}
+use Rattle.xh_place.proofs.Common.{header_of, is_end, option_map}
+use Rattle.xh_core.specs.Headers.{has_end}
 use Rattle.xh_place.specs.Ends.{toward_in}
 use Rattle.xh_place.proofs.Drained.{drained, drained_all, draining_at, draining_more, draining_none, draining_as, draining_way}
 use Rattle.xh_place.proofs.place.Place.drain.Goals as goal
 
-pub take_message-requires-clause-end : goal.take_message-requires-clause-end
-take_message-requires-clause-end g c =
+pub take_message-requires-clause-listed : goal.take_message-requires-clause-listed
+take_message-requires-clause-listed g c =
     let i = c.loop-count.invariant in
-    (end_block i.2.2.1, draining_at (IsSeen c.args.self.now c.loop-count.self) c.args.e i.0 i.1 c.args.self.now.place c.loop-count.self.place i.2, refl)
+    (end_block i.2.2.1, draining_at (IsSeen c.args.self.now c.loop-count.self) c.args.e i.0 i.1 c.args.self.now.place c.loop-count.self.place i.2)
 
 pub loop-count-init : goal.loop-count-init
 loop-count-init g c =
@@ -20,7 +22,7 @@ loop-count-preserved g c =
     let p : ℕ = old.place.process in let d : ℕ = toward_in (value_at c.args.e old.place.blocks) in
     let before = did_starts p (accepted_on p d i.1) old.front mid.front i.4 in
     let was = draining_as (IsSeen old mid) (IsSeen old new) (seen_wide old mid old new refl refl (starts_same refl) after) c.args.e i.0 i.1 old.place mid.place i.2 in
-    let t = c.in-Ok.ensures.taken in
+    let end = ap (λ o. has_end (option_map header_of o)) (draining_at (IsSeen old mid) c.args.e i.0 i.1 old.place mid.place i.2) in let t = is_end _ end c.in-Ok.ensures.taken in
     let whose : mid.place.process ≡ p = ap (λ q. q.process) i.2.5 ∙ ap (λ q. q.process) i.2.2.3 in
     let wide = seen_wide mid new old new (ap (λ q. q.shape) i.2.5 ∙ ap (λ q. q.shape) i.2.2.3) whose before (starts_same refl) in
     let way : toward_in (value_at c.args.e mid.place.blocks) ≡ d = draining_way (IsSeen old new) c.args.e i.0 i.1 old.place mid.place was in
@@ -40,11 +42,12 @@ pub returns-in-Err : goal.returns-in-Err
 returns-in-Err g c =
     let i = c.loop-count.invariant in let old = c.args.self.now in let mid = c.loop-count.self in let new = c.take_message.new.self in
     let p : ℕ = old.place.process in let d : ℕ = toward_in (value_at c.args.e old.place.blocks) in
-    let was = draining_as (IsSeen old mid) (IsSeen old new) (seen_wide old mid old new refl refl (starts_same refl) c.take_message.ensures.place.3) c.args.e i.0 i.1 old.place mid.place i.2 in record {
+    let was = draining_as (IsSeen old mid) (IsSeen old new) (seen_wide old mid old new refl refl (starts_same refl) c.take_message.ensures.place.3) c.args.e i.0 i.1 old.place mid.place i.2 in
+    let t = is_end _ (ap (λ o. has_end (option_map header_of o)) (draining_at (IsSeen old mid) c.args.e i.0 i.1 old.place mid.place i.2)) c.in-Err.ensures.taken in record {
       drained = (
         i.1,
-        drained (IsSeen old new) c.args.e i.0 i.1 old.place mid.place was new.place _ c.in-Err.ensures.taken.0,
-        subst (λ f. Did p (accepted_on p d i.1) old.front f) (sym c.in-Err.ensures.taken.1) i.4,
+        drained (IsSeen old new) c.args.e i.0 i.1 old.place mid.place was new.place _ t.0,
+        subst (λ f. Did p (accepted_on p d i.1) old.front f) (sym t.1) i.4,
       );
     }
 
