@@ -144,7 +144,7 @@ pub trait Process: Drop {
 
     /// Both ends of a new channel: side 0 and side 1, each a block of 32 bytes of arena 0.
     ///
-    /// NoChannel where 64 channels were opened; NoRecord; NoSpace; Worn.
+    /// NoChannel where ends of 64 channels are there; OutOfMemory where a growth was refused; NoRecord; NoSpace; Worn.
     fn open(&mut self) -> Result<(End, End), Refused>
         ensures { Acts (λ p. Answers (λ told old new. OpensBoth parts leads p 0 None old new told) (ends_of p p) result) (handle self.old) (handle self.new) };
 
