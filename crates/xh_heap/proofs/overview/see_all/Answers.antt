@@ -19,7 +19,7 @@ loop-arena-preserved g c =
       | in-Some w ↦
           let told = w.in-Some.ensures.told in let kept = ap (λ v. length v.items) w.arenas-is in
           let here : length l.arenas.items ≡ l.arena = ⊎_elim (λ e. e) (λ e. omega (arith, e, told.0, l.invariant.1)) l.invariant.3 in (
-            rw (w.arenas-is, w.push.ensures.items) (one_more (λ before a (line : ArenaLine) after. TellsArena g.N.Names.parts a line before after) 0 _ _ _ _ _ _ (omega (arith, here)) l.invariant.0 told.1),
+            rw (w.arenas-is, w.push.ensures.items) (one_more (λ old a (line : ArenaLine) new. TellsArena g.N.Names.parts a line old new) 0 _ _ _ _ _ _ (omega (arith, here)) l.invariant.0 told.1),
             omega (arith, kept, here, w.push.ensures.len),
             omega (arith, kept, here, told.0, w.push.ensures.len),
             inl (omega (arith, kept, here, w.push.ensures.len)),
@@ -33,4 +33,4 @@ loop-arena-preserved g c =
 pub loop-place-preserved : goal.loop-place-preserved
 loop-place-preserved g c =
     let l = c.loop-place in
-    (rw c.push-in-loop-place.ensures.items (one_more (λ before p (seen : Seen) after. TellsPlace p seen.glance before after) 0 _ _ _ _ _ _ (omega arith) l.invariant.0 c.glance_by-glance.ensures), search rules)
+    (rw c.push-in-loop-place.ensures.items (one_more (λ old p (seen : Seen) new. TellsPlace p seen.glance old new) 0 _ _ _ _ _ _ (omega arith) l.invariant.0 c.glance_by-glance.ensures), search rules)
