@@ -3,7 +3,7 @@ ghost use Rattle.std.specs.Prelude.{◌≡◌, All};
 ghost use Rattle.xh_kernel.specs.Histories.{IsLaw};
 
 use crate::measures::Trial;
-use crate::turns::{Host, Step, Times};
+use crate::turns::{Runtime, Stepping, Times};
 use std::alloc::Global;
 use std::marker::Brand;
 use std::sync::Wait;
@@ -24,7 +24,7 @@ pub(crate) const CONFIG: Config = Config {
 
 /// What a process does.
 #[derive(Clone, Copy)]
-pub(crate) enum Call {
+pub(crate) enum Work {
     /// It makes a block of so many bytes and frees it, while it has so many others.
     AllocFree(u32, u8),
     /// It gives so many blocks by one end of a channel and takes them by the other.
@@ -57,15 +57,15 @@ pub(crate) fn glanced(bytes: &[u8]) -> u64 {
     sum
 }
 
-impl Call {
+impl Work {
     // How many blocks the process has, and of how many bytes.
     fn blocks(self) -> (u8, u32) {
         match self {
-            Call::AllocFree(_, others) => (others, 16),
-            Call::GiveTake(count) => (count, 64),
-            Call::Read(bytes) | Call::Write(bytes) => (1, bytes),
-            Call::PingPong => (1, 64),
-            Call::Ship(bytes) | Call::Carry(bytes) => (0, bytes),
+            Work::AllocFree(_, others) => (others, 16),
+            Work::GiveTake(count) => (count, 64),
+            Work::Read(bytes) | Work::Write(bytes) => (1, bytes),
+            Work::PingPong => (1, 64),
+            Work::Ship(bytes) | Work::Carry(bytes) => (0, bytes),
             _ => (0, 0),
         }
     }
@@ -87,7 +87,7 @@ struct Player<'a, N: Names, R> {
     heap: &'a Kernel<N>,
     account: &'a mut Account<N>,
     look: Look,
-    call: Call,
+    call: Work,
     is_first: bool,
     process: u16,
     ends: (u16, u16),
@@ -191,29 +191,29 @@ impl<'a, N: Names, R: Wait> Player<'a, N, R> {
     }
 }
 
-impl<'a, N: Names, R: Wait> Step for Player<'a, N, R> {
+impl<'a, N: Names, R: Wait> Stepping for Player<'a, N, R> {
     fn step<W: Wait>(&mut self, _rt: &W) -> Option<()> {
         let (rt, heap, p, gate) = (self.rt, self.heap, self.process, &OpenGate);
         let (account, bytes) = (&mut *self.account, &mut self.bytes);
         let block = self.blocks.first().copied();
         match self.call {
-            Call::AllocFree(bytes, _) => self.alloc_free(bytes),
-            Call::GiveTake(_) => self.give(false).and(self.take(false)),
-            Call::Read(_) => heap.read(rt, p, block?, 0, bytes, account, gate).ok(),
-            Call::Write(_) => heap.write(rt, p, block?, 0, bytes, account, gate).ok(),
-            Call::Kill(_) => {
+            Work::AllocFree(bytes, _) => self.alloc_free(bytes),
+            Work::GiveTake(_) => self.give(false).and(self.take(false)),
+            Work::Read(_) => heap.read(rt, p, block?, 0, bytes, account, gate).ok(),
+            Work::Write(_) => heap.write(rt, p, block?, 0, bytes, account, gate).ok(),
+            Work::Kill(_) => {
                 let victim = self.blocks.pop()?;
                 let killed = heap.kill(rt, p, victim, MAX_BUDGET, account, gate);
                 killed.ok().map(drop)
             }
-            Call::Glance => heap.glance(0, &mut self.look).ok().map(drop),
-            Call::Give if self.is_first => self.give(true),
-            Call::Give => self.take(true),
-            Call::PingPong if self.is_first => self.give(false).and(self.take(true)),
-            Call::PingPong => self.take(true).and(self.give(false)),
-            Call::Ship(_) if self.is_first => self.ship(),
-            Call::Ship(_) => self.receive(),
-            Call::Carry(_) => {
+            Work::Glance => heap.glance(0, &mut self.look).ok().map(drop),
+            Work::Give if self.is_first => self.give(true),
+            Work::Give => self.take(true),
+            Work::PingPong if self.is_first => self.give(false).and(self.take(true)),
+            Work::PingPong => self.take(true).and(self.give(false)),
+            Work::Ship(_) if self.is_first => self.ship(),
+            Work::Ship(_) => self.receive(),
+            Work::Carry(_) => {
                 self.ship()?;
                 self.receive()
             }
@@ -221,7 +221,7 @@ impl<'a, N: Names, R: Wait> Step for Player<'a, N, R> {
     }
 
     fn ready(&mut self) -> Option<u64> {
-        if let Call::Kill(blocks) = self.call {
+        if let Work::Kill(blocks) = self.call {
             for _ in self.blocks.len()..VICTIMS {
                 let victim = self.victim(blocks)?;
                 self.blocks.push(victim).ok()?;
@@ -232,14 +232,14 @@ impl<'a, N: Names, R: Wait> Step for Player<'a, N, R> {
     }
 }
 
-impl<'a, R: Host> Trial<'a, R> {
+impl<'a, R: Runtime> Trial<'a, R> {
     // A process for each account; each two have a channel between them.
     fn on<N: Names + Send + Sync>(
         &self,
         heap: &Kernel<N>,
         accounts: &mut [Account<N>],
         looks: Vec<Look>,
-        call: Call,
+        call: Work,
     ) -> Option<Times>
         requires { All (λ l. l.table ≡ N.parts.histories) looks.items }
     {
@@ -275,7 +275,7 @@ impl<'a, R: Host> Trial<'a, R> {
     fn over<N: Names + Send + Sync>(
         &self,
         parts: Parts,
-        call: Call,
+        call: Work,
     ) -> Result<Option<Times>, Refused>
         requires names { parts ≡ N.parts }
         requires law { IsLaw N.parts N.leads }
@@ -288,7 +288,7 @@ impl<'a, R: Host> Trial<'a, R> {
     }
 
     /// A process for each thread, which does this.
-    pub(crate) fn of_call(&self, call: Call) -> Option<Times> {
+    pub(crate) fn of_call(&self, call: Work) -> Option<Times> {
         let parts = Parts::new(self.alloc, CONFIG, self.threads).ok()?;
         self.over::<Brand>(parts, call).ok()?
     }

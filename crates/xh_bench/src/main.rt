@@ -11,14 +11,19 @@ mod measures;
 mod parts;
 mod turns;
 
-use crate::measures::{MEASURES, Row, Trial, Whole};
-use crate::turns::{Host, percent};
+use crate::measures::{MEASURES, Measure, Subject, Trial};
+use crate::turns::{Runtime, percent};
 use std::alloc::Global;
 use std::env;
 use std::process::ExitCode;
 
 // Tells a measure.
-fn tell<R: Host + Print>(rt: &R, alloc: Global, row: &Row, rounds: Option<u64>) -> Option<()> {
+fn tell<R: Runtime + Print>(
+    rt: &R,
+    alloc: Global,
+    row: &Measure,
+    rounds: Option<u64>,
+) -> Option<()> {
     let (name, threads, whole, limit, beside) = *row;
     let trial = Trial {
         rt,
@@ -28,8 +33,8 @@ fn tell<R: Host + Print>(rt: &R, alloc: Global, row: &Row, rounds: Option<u64>) 
         rounds,
     };
     let times = match whole {
-        Whole::Of(call) => trial.of_call(call)?,
-        Whole::By(parts) => trial.of(&mut trial.workers(parts)?)?,
+        Subject::Of(call) => trial.of_call(call)?,
+        Subject::By(parts) => trial.of(&mut trial.rigs(parts)?)?,
     };
     if rounds.is_some() {
         return println!(rt; "{name}").ok();
@@ -39,7 +44,7 @@ fn tell<R: Host + Print>(rt: &R, alloc: Global, row: &Row, rounds: Option<u64>) 
 }
 
 // Tells the measures that the words name; whether there are any, and none was refused.
-fn tell_all<R: Host + Print>(rt: &R, alloc: Global, word: &str, rounds: Option<u64>) -> bool {
+fn tell_all<R: Runtime + Print>(rt: &R, alloc: Global, word: &str, rounds: Option<u64>) -> bool {
     let mut told = false;
     for row in MEASURES {
         if word == "all" || word == row.0 {

@@ -1,48 +1,48 @@
 //! The table of measures.
-use crate::calls::Call;
-use crate::calls::Call::{
+use crate::calls::Work;
+use crate::calls::Work::{
     AllocFree, Carry, Give, GiveTake, Glance, Kill, PingPong, Read, Ship, Write,
 };
-use crate::parts::Part::{
+use crate::parts::Piece::{
     Carried, Copied, Exchange, Load, Lock, Pass, PushPop, PutTake, Script, Sent, ToAndFro, Zeroed,
 };
-use crate::parts::Parts;
-use crate::turns::{Host, Step, Times, by_turns, slice};
+use crate::parts::Pieces;
+use crate::turns::{Runtime, Stepping, Times, by_turns, slice};
 use std::alloc::Global;
 use std::marker::Send;
 
 /// What is measured: a call of a kernel, or parts by themselves.
 #[derive(Clone, Copy)]
-pub(crate) enum Whole {
-    Of(Call),
-    By(Parts),
+pub(crate) enum Subject {
+    Of(Work),
+    By(Pieces),
 }
 
-use Whole::{By, Of};
+use Subject::{By, Of};
 
 /// A measure: its name, by how many threads, what is measured, the most that it may be in hundredths of what stands
 /// beside it, and that.
-pub(crate) type Row = (&'static str, u8, Whole, u64, Parts);
+pub(crate) type Measure = (&'static str, u8, Subject, u64, Pieces);
 
-const ALLOC: Parts = &[(4, Lock), (4, Exchange), (1, Zeroed(64))];
+const ALLOC: Pieces = &[(4, Lock), (4, Exchange), (1, Zeroed(64))];
 
-const LAST: Parts = &[(4, Lock), (4, Exchange), (1, Zeroed(64)), (255, Load)];
+const LAST: Pieces = &[(4, Lock), (4, Exchange), (1, Zeroed(64)), (255, Load)];
 
-const COPY_16: Parts = &[(1, Lock), (1, Copied(16))];
+const COPY_16: Pieces = &[(1, Lock), (1, Copied(16))];
 
-const COPY_4K: Parts = &[(1, Lock), (1, Copied(4096))];
+const COPY_4K: Pieces = &[(1, Lock), (1, Copied(4096))];
 
-const KILL_16: Parts = &[(16, Lock), (16, Exchange), (8, Zeroed(64))];
+const KILL_16: Pieces = &[(16, Lock), (16, Exchange), (8, Zeroed(64))];
 
-const KILL_256: Parts = &[(256, Lock), (256, Exchange), (128, Zeroed(64))];
+const KILL_256: Pieces = &[(256, Lock), (256, Exchange), (128, Zeroed(64))];
 
-const PUT_TAKE: Parts = &[(1, PutTake)];
+const PUT_TAKE: Pieces = &[(1, PutTake)];
 
-const SCRIPT: Parts = &[(1, Script(4096))];
+const SCRIPT: Pieces = &[(1, Script(4096))];
 
-pub(crate) const MEASURES: &[Row] = &[
-    ("message_64", 1, Of(Carry(64)), 360, &[(1, Carried(64))]),
-    ("message_4k", 1, Of(Carry(4096)), 220, &[(1, Carried(4096))]),
+pub(crate) const MEASURES: &[Measure] = &[
+    ("message_64", 1, Of(Carry(64)), 495, &[(1, Carried(64))]),
+    ("message_4k", 1, Of(Carry(4096)), 320, &[(1, Carried(4096))]),
     (
         "message_1m",
         1,
@@ -50,12 +50,12 @@ pub(crate) const MEASURES: &[Row] = &[
         103,
         &[(1, Carried(1 << 20))],
     ),
-    ("message_64_across", 2, Of(Ship(64)), 135, &[(1, Sent(64))]),
+    ("message_64_across", 2, Of(Ship(64)), 145, &[(1, Sent(64))]),
     (
         "message_4k_across",
         2,
         Of(Ship(4096)),
-        125,
+        150,
         &[(1, Sent(4096))],
     ),
     (
@@ -77,7 +77,7 @@ pub(crate) const MEASURES: &[Row] = &[
     ("write_16", 1, Of(Write(16)), 200, COPY_16),
     ("write_4096", 1, Of(Write(4096)), 200, COPY_4K),
     ("kill_16", 1, Of(Kill(16)), 250, KILL_16),
-    ("kill_256", 1, Of(Kill(256)), 250, KILL_256),
+    ("kill_256", 1, Of(Kill(256)), 150, KILL_256),
     ("glance", 1, Of(Glance), 200, &[(1, Load)]),
     ("ping_pong", 2, Of(PingPong), 130, &[(1, ToAndFro)]),
     ("stream", 2, Of(Give), 150, &[(1, Pass)]),
@@ -91,17 +91,17 @@ pub(crate) struct Trial<'a, R> {
     pub(crate) rt: &'a R,
     pub(crate) alloc: Global,
     pub(crate) threads: u8,
-    pub(crate) beside: Parts,
+    pub(crate) beside: Pieces,
     pub(crate) rounds: Option<u64>,
 }
 
-impl<'a, R: Host> Trial<'a, R> {
+impl<'a, R: Runtime> Trial<'a, R> {
     /// The times of these; None where a call, the clock or a growth of memory was refused.
-    pub(crate) fn of<S: Step + Send>(&self, own: &mut [S]) -> Option<Times> {
+    pub(crate) fn of<S: Stepping + Send>(&self, own: &mut [S]) -> Option<Times> {
         if let Some(rounds) = self.rounds {
             return slice(self.rt, own, rounds).map(|time| (time, 0));
         }
-        let mut beside = self.workers(self.beside)?;
+        let mut beside = self.rigs(self.beside)?;
         let times = by_turns(self.rt, self.alloc, own, &mut beside);
         drop(beside);
         times

@@ -1,7 +1,7 @@
 //! What a call is made of, or what a user would take instead.
 use crate::calls::{CONFIG, glanced};
 use crate::measures::Trial;
-use crate::turns::{Host, Step};
+use crate::turns::{Runtime, Stepping};
 use arrayvec::ArrayVec;
 use crossbeam_channel::{Receiver, Sender, bounded};
 use crossbeam_queue::ArrayQueue;
@@ -16,7 +16,7 @@ use xh_script::Watched;
 use xh_session::run_serial;
 
 #[derive(Clone, Copy, Debug)]
-pub(crate) enum Part {
+pub(crate) enum Piece {
     /// A lock that nobody else wants is taken and let go.
     Lock,
     /// A word is exchanged, by a locked instruction.
@@ -44,12 +44,12 @@ pub(crate) enum Part {
 }
 
 /// What is done in a step, each part so often.
-pub(crate) type Parts = &'static [(u32, Part)];
+pub(crate) type Pieces = &'static [(u32, Piece)];
 
 /// As many bytes as a message of the heap has.
-type Message = [u64; 4];
+type Letter = [u64; 4];
 
-const MESSAGE: Message = [7; 4];
+const MESSAGE: Letter = [7; 4];
 
 const PAGE: &[u8] = &[1; 4096];
 
@@ -61,9 +61,9 @@ const BODY: &str = "a alloc x 64 0\na write x 0 0011223344556677\na read x 0 16\
 
 /// A thread, and what its parts need.
 #[derive(Drop)]
-pub(crate) struct Worker {
+pub(crate) struct Rig {
     alloc: Global,
-    parts: Parts,
+    parts: Pieces,
     is_first: bool,
     count: Mutex<u64>,
     word: AtomicU64,
@@ -72,25 +72,25 @@ pub(crate) struct Worker {
     sum: u64,
     outward: Sender<Vec<u8>>,
     inward: Receiver<Vec<u8>>,
-    queue: ArrayQueue<Message, Global>,
-    sender: Sender<Message>,
-    receiver: Receiver<Message>,
+    queue: ArrayQueue<Letter, Global>,
+    sender: Sender<Letter>,
+    receiver: Receiver<Letter>,
     channels: Channels,
     ends: (Endpoint, Endpoint),
     script: String,
 }
 
 // How many bytes a message has.
-fn bytes_of(parts: Parts) -> usize {
+fn bytes_of(parts: Pieces) -> usize {
     match parts.first() {
-        Some((_, Part::Sent(bytes))) | Some((_, Part::Carried(bytes))) => *bytes,
+        Some((_, Piece::Sent(bytes))) | Some((_, Piece::Carried(bytes))) => *bytes,
         _ => 0,
     }
 }
 
-fn script_of(alloc: Global, parts: Parts) -> Option<String> {
+fn script_of(alloc: Global, parts: Pieces) -> Option<String> {
     let mut text = String::new(alloc);
-    if let Some((_, Part::Script(commands))) = parts.first() {
+    if let Some((_, Piece::Script(commands))) = parts.first() {
         text.push_str(HEAD).ok()?;
         for _ in 0..commands.saturating_sub(3) / 8 {
             text.push_str(BODY).ok()?;
@@ -99,7 +99,7 @@ fn script_of(alloc: Global, parts: Parts) -> Option<String> {
     Some(text)
 }
 
-impl Worker {
+impl Rig {
     fn pass<R: Wait>(&self, rt: &R, sends: bool) -> Option<()> {
         if sends {
             self.sender.send(rt, MESSAGE).ok()
@@ -137,42 +137,42 @@ impl Worker {
         run_serial(self.alloc, &mut reader, &mut sink, config).ok()
     }
 
-    fn do_once<R: Wait>(&mut self, rt: &R, part: Part) -> Option<()> {
+    fn do_once<R: Wait>(&mut self, rt: &R, part: Piece) -> Option<()> {
         let first = self.is_first;
         match part {
-            Part::Zeroed(bytes) => drop(vec![in self.alloc; 0u8; bytes].ok()?),
-            Part::Copied(bytes) => {
+            Piece::Zeroed(bytes) => drop(vec![in self.alloc; 0u8; bytes].ok()?),
+            Piece::Copied(bytes) => {
                 let room = self.page.as_mut_slice().get_mut(..bytes)?;
                 room.copy_from_slice(PAGE.get(..bytes)?);
             }
-            Part::PushPop => {
+            Piece::PushPop => {
                 self.queue.push(rt, MESSAGE).ok()?;
                 self.queue.pop(rt)?;
             }
-            Part::Pass => return self.pass(rt, first),
-            Part::ToAndFro => return self.pass(rt, first).and(self.pass(rt, !first)),
-            Part::PutTake => return self.put_take(rt),
-            Part::Sent(_) if first => return self.ship(rt),
-            Part::Sent(_) => return self.receive(rt),
-            Part::Carried(_) => {
+            Piece::Pass => return self.pass(rt, first),
+            Piece::ToAndFro => return self.pass(rt, first).and(self.pass(rt, !first)),
+            Piece::PutTake => return self.put_take(rt),
+            Piece::Sent(_) if first => return self.ship(rt),
+            Piece::Sent(_) => return self.receive(rt),
+            Piece::Carried(_) => {
                 self.ship(rt)?;
                 return self.receive(rt);
             }
-            Part::Script(_) => return self.run(),
-            Part::Lock | Part::Exchange | Part::Load => return None,
+            Piece::Script(_) => return self.run(),
+            Piece::Lock | Piece::Exchange | Piece::Load => return None,
         }
         Some(())
     }
 }
 
-impl Step for Worker {
+impl Stepping for Rig {
     fn step<R: Wait>(&mut self, rt: &R) -> Option<()> {
         for (times, part) in self.parts {
             // three take so little time that a look at which part it is would count
             match part {
-                Part::Lock => (0..*times).for_each(|_| *self.count.lock(rt) = 1),
-                Part::Exchange => (0..*times).for_each(|_| drop(self.word.swap(1, SeqCst))),
-                Part::Load => (0..*times).for_each(|_| drop(self.word.load(SeqCst))),
+                Piece::Lock => (0..*times).for_each(|_| *self.count.lock(rt) = 1),
+                Piece::Exchange => (0..*times).for_each(|_| drop(self.word.swap(1, SeqCst))),
+                Piece::Load => (0..*times).for_each(|_| drop(self.word.load(SeqCst))),
                 _ => (0..*times).try_for_each(|_| self.do_once(rt, *part))?,
             }
         }
@@ -180,17 +180,17 @@ impl Step for Worker {
     }
 }
 
-impl<'a, R: Host> Trial<'a, R> {
+impl<'a, R: Runtime> Trial<'a, R> {
     /// As many threads as the measure has; each two send to each other.
-    pub(crate) fn workers(&self, parts: Parts) -> Option<Vec<Worker>> {
+    pub(crate) fn rigs(&self, parts: Pieces) -> Option<Vec<Rig>> {
         let alloc = self.alloc;
-        let mut workers = Vec::new(alloc);
+        let mut rigs = Vec::new(alloc);
         for number in 0..self.threads {
             let is_first = number % 2 == 0;
             let (sender, receiver) = bounded(alloc, 16).ok()?;
             let (outward, inward) = bounded(alloc, 16).ok()?;
             let channels = Channels::new(alloc, 16).ok()?;
-            let mut worker = Worker {
+            let mut rig = Rig {
                 alloc,
                 parts,
                 is_first,
@@ -209,12 +209,12 @@ impl<'a, R: Host> Trial<'a, R> {
                 script: script_of(alloc, parts)?,
             };
             if !is_first {
-                let first: &mut Worker = workers.last_mut()?;
-                mem::swap(&mut first.receiver, &mut worker.receiver);
-                mem::swap(&mut first.inward, &mut worker.inward);
+                let first: &mut Rig = rigs.last_mut()?;
+                mem::swap(&mut first.receiver, &mut rig.receiver);
+                mem::swap(&mut first.inward, &mut rig.inward);
             }
-            workers.push(worker).ok()?;
+            rigs.push(rig).ok()?;
         }
-        Some(workers)
+        Some(rigs)
     }
 }

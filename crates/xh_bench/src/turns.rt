@@ -6,12 +6,12 @@ use std::thread::{self, Threads};
 use std::time::Clock;
 
 /// What measures run on.
-pub(crate) trait Host: Threads + Wait + Clock + Sync {}
+pub(crate) trait Runtime: Threads + Wait + Clock + Sync {}
 
-impl<R: Threads + Wait + Clock + Sync> Host for R {}
+impl<R: Threads + Wait + Clock + Sync> Runtime for R {}
 
 /// What is done over and over. None where a call was refused.
-pub(crate) trait Step: Drop {
+pub(crate) trait Stepping: Drop {
     fn step<R: Wait>(&mut self, rt: &R) -> Option<()>;
 
     /// Makes ready for so many steps at most, which is not timed.
@@ -36,7 +36,7 @@ pub(crate) fn percent((own, other): Times) -> u64 {
         .unwrap_or(u64::MAX)
 }
 
-fn repeat<R: Wait, S: Step>(rt: &R, step: &mut S, rounds: u64) -> Option<()> {
+fn repeat<R: Wait, S: Stepping>(rt: &R, step: &mut S, rounds: u64) -> Option<()> {
     for _ in 0..rounds {
         step.step(rt)?;
     }
@@ -44,7 +44,7 @@ fn repeat<R: Wait, S: Step>(rt: &R, step: &mut S, rounds: u64) -> Option<()> {
 }
 
 // Does each so often, all at once: one in this thread, each other in one of its own.
-fn repeat_all<R: Host, S: Step + Send>(rt: &R, steps: &mut [S], rounds: u64) -> Option<()> {
+fn repeat_all<R: Runtime, S: Stepping + Send>(rt: &R, steps: &mut [S], rounds: u64) -> Option<()> {
     let threads = steps.len().max(1);
     let done = Mutex::new(Some(()));
     thread::for_each_mut(
@@ -61,7 +61,11 @@ fn repeat_all<R: Host, S: Step + Send>(rt: &R, steps: &mut [S], rounds: u64) -> 
 }
 
 /// The picoseconds that a round took of so many, or of as many as all were ready for.
-pub(crate) fn slice<R: Host, S: Step + Send>(rt: &R, steps: &mut [S], most: u64) -> Option<u64> {
+pub(crate) fn slice<R: Runtime, S: Stepping + Send>(
+    rt: &R,
+    steps: &mut [S],
+    most: u64,
+) -> Option<u64> {
     let mut rounds = most;
     for step in steps.iter_mut() {
         rounds = rounds.min(step.ready()?);
@@ -74,7 +78,7 @@ pub(crate) fn slice<R: Host, S: Step + Send>(rt: &R, steps: &mut [S], most: u64)
 }
 
 // How many rounds a slice has, by the better of two.
-fn rounds_of<R: Host, S: Step + Send>(rt: &R, steps: &mut [S]) -> Option<u64> {
+fn rounds_of<R: Runtime, S: Stepping + Send>(rt: &R, steps: &mut [S]) -> Option<u64> {
     let mut rounds = 1u64;
     for _ in 0..40 {
         let time = slice(rt, steps, rounds)?.min(slice(rt, steps, rounds)?);
@@ -87,7 +91,7 @@ fn rounds_of<R: Host, S: Step + Send>(rt: &R, steps: &mut [S]) -> Option<u64> {
 }
 
 /// The times of the slices whose ratio is the median.
-pub(crate) fn by_turns<R: Host, S: Step + Send, T: Step + Send>(
+pub(crate) fn by_turns<R: Runtime, S: Stepping + Send, T: Stepping + Send>(
     rt: &R,
     alloc: Global,
     own: &mut [S],

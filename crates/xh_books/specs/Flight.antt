@@ -8,14 +8,14 @@ use Rattle.xh_model.specs.declared.event.Holder.{Holder}
 use Rattle.xh_model.specs.declared.event.Holder.TheVariants.{Process, Direction}
 use Rattle.xh_model.specs.declared.limits.TheConstants.{DIRECTIONS}
 use Rattle.xh_model.specs.Keyed.{Among, value_at}
-use Rattle.xh_model.specs.Words.{IsHeldBy, Ownership, number_of, place_of, word_of}
+use Rattle.xh_model.specs.Words.{IsHeldBy, Ownership, number_of, place_of, process_of, word_of}
 use Rattle.xh_place.specs.declared.body.Body.{Body}
 use Rattle.xh_place.specs.Places.{Item, PlaceOf}
 use Rattle.xh_place.specs.Seen.{PlaceSeen}
 use Rattle.xh_records.specs.declared.shape.Shape.{Shape}
 use Rattle.xh_arena.specs.Views.{LotOf}
 use Rattle.xh_records.specs.Deeds.{Arrives, Deed, IsLeft, deeds_by, events}
-use Rattle.xh_records.specs.History.{LeadsTo, StartsWith, process_of}
+use Rattle.xh_records.specs.History.{LeadsTo, StartsWith}
 use Rattle.xh_books.specs.Ledgers.{is_listed}
 
 -- ---- the lines, of all records, each given by the word of its holder and its length

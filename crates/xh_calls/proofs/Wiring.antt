@@ -3,11 +3,12 @@ use Rattle.xh_calls.proofs.Common.{AreBlocks, Closes, ClosesAgain, Content, END_
 use Rattle.xh_calls.proofs.Common.{Option, PlaceSeen, Refused, Result, Some, [], alone, ap, arith, bytes, end_tests, endpoint, option_map, header_of, first_later, first_refusal, found, inr}
 use Rattle.xh_calls.proofs.Common.{kind_of}
 use Rattle.xh_calls.proofs.Common.{refl, start, status_at, subst, ℕ, ◌++◌, ◌+◌, ◌∙◌, ◌∷◌, ◌≡◌, ◌≤◌}
-use Rattle.xh_calls.proofs.Common.{Becomes, PlaceOf, Stays}
+use Rattle.xh_calls.proofs.Common.{sym, Becomes, PlaceOf, Stays}
 use Rattle.xh_model.specs.Keyed.{value_at, without}
 use Rattle.xh_place.proofs.Events.{stays_then}
 use Rattle.xh_place.specs.Events.{passed_on}
-use Rattle.xh_place.proofs.Swept.{last_bytes}
+use Rattle.xh_model.specs.declared.limits.TheConstants.{MAX_BUDGET}
+use Rattle.xh_place.proofs.Swept.{first_bytes}
 
 -- an endpoint is on its way, of a place that looked before
 abbrev pub Passes : ℕ → ℕ → PlaceSeen → PlaceSeen → Type 0
@@ -33,7 +34,6 @@ closes_again p r channel back old new result none blocks low h =
     let d : IsClosed r old new n result = subst (λ (o : Option Refused). MatchOption o (IsClosed r old new n result) (λ refused. (result ≡ Err refused) × (Stays old new × (n ≡ 0))))
     (first_later (start (status_at p old.place)) (end_tests (found old.place r)) none ∙ tests) h.1 in
     let long : x.len ≡ END_BYTES = end.1 in
-    let front = without r old.place.blocks in
-    let whole : without r old.place.blocks ++ alone r (value_at r old.place.blocks) ≡ front ++ (r, x) ∷ [] = ap (λ (o : Option Item). front ++ alone r o) low.1 in
-    let some : x.len ≤ n = last_bytes (IsSeen old new) front r x (record old.place { blocks = without r old.place.blocks ++ alone r (value_at r old.place.blocks) }) new.place n d.0 whole d.1 in
-    let enough : END_BYTES ≤ n = omega (arith, long, some) in (n, inr (result, d, enough), h.2)
+    let same : Some d.0 ≡ Some x = sym d.3 ∙ low.1 in let one : d.0 ≡ x = cc in
+    let some : d.0.len ≤ n = first_bytes (IsSeen old new) old.place.process MAX_BUDGET r d.0 d.1 n d.2 (omega arith) d.4 in
+    let enough : END_BYTES ≤ n = omega (arith, long, some, ap (λ (z : Item). z.len) one) in (n, inr (result, d, enough), h.2)

@@ -66,8 +66,8 @@ abbrev pub IsRefusedBy : PartsOf → ℕ → ℕ → FrontOf VaultOf → FrontOf
 IsRefusedBy parts a n old new e = (v : VaultOf) × Leaves parts old new a v v × IsLawfulArena v.arena × RefusesCarve n v.arena e
 
 -- a look at the arena, which left the vault as it was, and tells what the ledger would say of it
-abbrev pub Tells : PartsOf → ℕ → FrontOf VaultOf → FrontOf VaultOf → ArenaLine → Type 0
-Tells parts a old new line = DoesTo parts a old new (λ v w. (w ≡ v) × (line ≡ arena_line v.arena))
+abbrev pub Tells : PartsOf → FrontOf VaultOf → ℕ → ArenaLine → FrontOf VaultOf → Type 0
+Tells parts old a line new = DoesTo parts a old new (λ v w. (w ≡ v) × (line ≡ arena_line v.arena))
 
 -- NoSpace and Worn are what the arena's vault answered, or no arena of these parts has n bytes; for other reasons no vault was asked
 abbrev pub AsksVault : PartsOf → ℕ → ℕ → FrontOf VaultOf → FrontOf VaultOf → Refused → Type 0

@@ -1,5 +1,5 @@
 //! The locks of the arenas.
-ghost use Rattle.std.specs.Prelude.{◌≡◌, ◌<◌, ◌≤◌, ◌%◌, All, IfOk, MatchOption, Some, length, slice_get, vec_len};
+ghost use Rattle.std.specs.Prelude.{◌≡◌, ◌<◌, ◌≤◌, ◌%◌, All, IfOk, Some, length, slice_get, vec_len};
 ghost use Rattle.std.specs.Sync.Mutex.{mutex_guard_value};
 ghost use Rattle.atomic_table.specs.Seated.{TableId};
 ghost use Rattle.xh_model.specs.declared.limits.TheConstants.{MAX_ARENAS, MAX_BYTES, UNIT};
@@ -61,9 +61,9 @@ impl<N: Names> Arenas<N> {
         })
     }
 
-    // How many there are.
-    pub(crate) fn count(&self) -> u8
-        ensures { result ≡ length N.parts.records.shape.names }
+    /// How many there are.
+    pub fn count(&self) -> u8
+        ensures { (result ≡ length N.parts.records.shape.names) × (result ≤ MAX_ARENAS) }
     {
         self.locks.len() as u8
     }
@@ -83,18 +83,13 @@ impl<N: Names> Arenas<N> {
         unreachable!()
     }
 
-    /// What the ledger says of an arena as it is at a step of the call, which the worker enters in the arena's history. None where
-    /// there is no such arena.
-    pub fn line<R: Wait>(&self, rt: &R, arena: u8, seen: &mut Front<Vault>) -> Option<ArenaLine>
-        requires { seen.old.table ≡ N.parts.vaults }
-        ensures same { seen.new.table ≡ seen.old.table }
-        ensures few { length N.parts.records.shape.names ≤ MAX_ARENAS }
-        ensures told { MatchOption result ((length N.parts.records.shape.names ≤ arena) × (seen.new ≡ seen.old)) (λ line. (arena < length N.parts.records.shape.names) × Tells N.parts arena seen.old seen.new line) }
+    /// What the ledger says of an arena as it is at a step of the call, which the worker enters in the arena's history.
+    pub fn line<R: Wait>(&self, rt: &R, arena: u8, seen: &mut Front<Vault>) -> ArenaLine
+        requires there { (id : TableId) × (slice_get N.parts.records.shape.names arena ≡ Some id) }
+        requires table { seen.old.table ≡ N.parts.vaults }
+        ensures { Tells N.parts seen.old arena result seen.new }
     {
-        if arena >= self.count() {
-            return None;
-        }
-        Some(self.kept(rt, arena).line(&self.histories, seen))
+        self.kept(rt, arena).line(&self.histories, seen)
     }
 
     /// The vaults, by arena, out of their locks, each of which knows its arena's number. An error where memory was refused.
@@ -115,7 +110,8 @@ impl<N: Names> Arenas<N> {
     }
 }
 
-/// What the worker brings to a call. It takes an arena's lock for the one call, and enters the call in the arena's history as the worker's.
+/// What the worker brings to a call. It takes an arena's lock for one carving, cut or giving back, or for a run of givings back, and enters each in the arena's history as
+/// the worker's.
 #[derive(Drop)]
 pub(crate) struct Lent<'a, N: Names, R: Wait> {
     pub(crate) rt: &'a R,
@@ -150,6 +146,9 @@ impl<'a, N: Names, R: Wait> Lent<'a, N, R> {
 }
 
 impl<'a, N: Names, R: Wait> Vaults for Lent<'a, N, R> {
+    type Lock = MutexGuard<'a, Kept<N>>;
+
+    ghost use Rattle.std.specs.Sync.Mutex.{mutex_guard_value};
     ghost use Rattle.xh_calls.specs.Vaults.{Leaves};
 
     ghost names = { λ _. N.parts.records.shape.names };
@@ -159,6 +158,8 @@ impl<'a, N: Names, R: Wait> Vaults for Lent<'a, N, R> {
     ghost tallies = { λ l. l.till.tallies.items };
 
     ghost changes = { λ old new. Leaves N.parts old.till.seen new.till.seen };
+
+    ghost arena_of = { λ k. (mutex_guard_value k).pen.number };
 
     fn arenas(&self) -> u8 {
         self.arenas.count()
@@ -184,11 +185,20 @@ impl<'a, N: Names, R: Wait> Vaults for Lent<'a, N, R> {
     }
 
     #[inline(always)]
-    fn give_back(&mut self, arena: u8, lot: &mut Lot<Body>) {
-        let mut kept = self.arenas.kept(self.rt, arena);
+    fn lock(&self, arena: u8) -> MutexGuard<'a, Kept<N>> {
+        self.arenas.kept(self.rt, arena)
+    }
+
+    #[inline(always)]
+    fn number_of(lock: &MutexGuard<'a, Kept<N>>) -> u8 {
+        lock.number()
+    }
+
+    #[inline(always)]
+    fn give_back(&mut self, lock: &mut MutexGuard<'a, Kept<N>>, arena: u8, lot: &mut Lot<Body>) {
         let Till { tallies, seen } = &mut self.till;
         let tallies = tallies.as_mut_slice();
         let tally = &mut tallies[usize::from(arena)];
-        kept.give_back(&self.arenas.histories, seen, lot, tally);
+        lock.give_back(&self.arenas.histories, seen, lot, tally);
     }
 }

@@ -133,8 +133,7 @@ impl<N: Names> Kept<N> {
         front: &mut Front<Vault>,
     ) -> ArenaLine
         requires tables { (histories.now ≡ N.parts.vaults) × (front.old.table ≡ N.parts.vaults) }
-        ensures front { front.new.table ≡ front.old.table }
-        ensures entered { Tells N.parts self.old.pen.number front.old front.new result }
+        ensures { Tells N.parts front.old self.old.pen.number result front.new }
     {
         histories.add(&mut self.pen, front, None, &self.vault);
         let (out, taken) = (self.vault.handed_out(), self.vault.wear());

@@ -3,25 +3,19 @@ use Rattle.std.specs.Prelude.{ℕ, ◌+◌, ◌==◌, ◌&&◌, ◌||◌, Bool, 
 use Rattle.xh_model.specs.declared.limits.TheConstants.{PROCESSES}
 use Rattle.xh_model.specs.Words.{generation_of}
 use Rattle.xh_core.specs.declared.status.Status.{Status}
-use Rattle.xh_core.specs.declared.status.Status.TheVariants.{Vacant, Running, Ending, Ended}
+use Rattle.xh_core.specs.declared.status.Status.TheVariants.{Vacant, Running, Ended}
 
 abbrev pub is_vacant : Status → Bool
 is_vacant Vacant = true
-is_vacant Running = false
-is_vacant Ending = false
-is_vacant Ended = false
+is_vacant _ = false
 
 abbrev pub is_running : Status → Bool
-is_running Vacant = false
 is_running Running = true
-is_running Ending = false
-is_running Ended = false
+is_running _ = false
 
 abbrev pub is_ended : Status → Bool
-is_ended Vacant = false
-is_ended Running = false
-is_ended Ending = false
 is_ended Ended = true
+is_ended _ = false
 
 -- there is no process, or it has ended
 abbrev pub is_over : Status → Bool

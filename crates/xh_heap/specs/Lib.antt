@@ -1,4 +1,3 @@
 pub mod Handles
-pub mod Overviews
 pub mod Teams
 pub mod Values

@@ -2,7 +2,7 @@
 
 use std::fmt::{self, Formatter, Write};
 use xh_books::Books;
-use xh_core::{ArenaLine, PlaceLine, State};
+use xh_kernel::{write_arenas, write_place};
 
 /// What a run answers: the job's plan, what each worker answered, by index, and the closed books. As a text it is the
 /// ledger: a line for each arena (its number, size, bytes out, holes, bytes ever taken, bytes ever given back), one for
@@ -13,30 +13,6 @@ pub struct Closed<P, A> {
     pub plan: P,
     pub answers: Vec<A>,
     pub books: Books,
-}
-
-fn state_name(state: State) -> &'static str {
-    match state {
-        State::Running => "running",
-        State::Ending => "ending",
-        State::Ended => "ended",
-    }
-}
-
-// A line for each arena.
-pub(crate) fn write_arenas<W: Write>(f: &mut Formatter<W>, all: &[ArenaLine]) -> fmt::Result {
-    for (number, a) in all.iter().enumerate() {
-        let (size, out, holes) = (a.size, a.out, a.holes);
-        let (taken, back) = (a.taken, a.back);
-        writeln!(f, "arena {number} {size} {out} {holes} {taken} {back}")?;
-    }
-    Ok(())
-}
-
-// A place's line, but for its end.
-pub(crate) fn write_place<W: Write>(f: &mut Formatter<W>, p: &PlaceLine) -> fmt::Result {
-    let state = state_name(p.state);
-    write!(f, "process {} {state} {} {}", p.process, p.blocks, p.bytes)
 }
 
 impl<P, A> fmt::Display for Closed<P, A> {

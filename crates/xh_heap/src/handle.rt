@@ -3,17 +3,16 @@ ghost use Rattle.std.specs.Prelude.{◌≡◌, MatchResult, Ok};
 ghost use Rattle.xh_kernel.specs.Accounts.{AccountOf};
 ghost use Rattle.xh_kernel.specs.Waits.{SpawnsAt};
 
-use crate::overview::{Overview, see_all};
 use crate::process::Process;
-use crate::told::{
-    end_back, ends_at, given, is_back, recs_at, show_answered, show_block, show_ends, show_message,
+use crate::values::{
+    Answered, AsEnd, Block, End, Items, Message, Returned, end_back, ends_at, given, is_back,
+    recs_at,
 };
-use crate::values::{Answered, AsEnd, Block, End, Items, Message, Returned};
 use std::alloc::Global;
 use std::sync::{Mutex, Wait};
 use std::time::{Clock, Duration, Instant};
 use xh_core::{Contract, Refused};
-use xh_kernel::{Account, Kernel, Names, OpenGate};
+use xh_kernel::{Account, Kernel, Names, OpenGate, Overview};
 use xh_model::limits::MAX_BUDGET;
 
 /// The longest that a call waits which waits for a time, in seconds.
@@ -108,18 +107,16 @@ impl<'a, 'k, N: Names, R: Wait + Clock> Process for Handle<'a, 'k, N, R> {
 
     fn alloc_in(&mut self, arena: u32, n: u32) -> Result<Block, Refused> {
         let (rt, alloc, p) = (self.rt, self.alloc, self.number);
-        let told = self
-            .kernel
-            .alloc(rt, alloc, p, n, arena, self.account, &OpenGate);
-        show_block(p, told)
+        self.kernel
+            .alloc(rt, alloc, p, n, arena, self.account, &OpenGate)
+            .map(|named| Block::of(p, named))
     }
 
     fn alloc_wait(&mut self, arena: u32, n: u32) -> Result<Block, Refused> {
         let (rt, alloc, p) = (self.rt, self.alloc, self.number);
-        let told = self
-            .kernel
-            .alloc_wait(rt, alloc, p, n, arena, self.account, &OpenGate);
-        show_block(p, told)
+        self.kernel
+            .alloc_wait(rt, alloc, p, n, arena, self.account, &OpenGate)
+            .map(|named| Block::of(p, named))
     }
 
     fn alloc_for(&mut self, arena: u32, n: u32, time: Duration) -> Result<Block, Refused> {
@@ -127,23 +124,21 @@ impl<'a, 'k, N: Names, R: Wait + Clock> Process for Handle<'a, 'k, N, R> {
         let Some(deadline) = deadline(rt, time) else {
             return self.alloc_in(arena, n);
         };
-        let told = self
-            .kernel
-            .alloc_wait_until(rt, alloc, p, n, arena, deadline, self.account, &OpenGate);
-        show_block(p, told)
+        self.kernel
+            .alloc_wait_until(rt, alloc, p, n, arena, deadline, self.account, &OpenGate)
+            .map(|named| Block::of(p, named))
     }
 
     fn put_in(&mut self, arena: u32, bytes: &mut Vec<u8>) -> Result<Block, Refused> {
         let (rt, p) = (self.rt, self.number);
-        let told = self
-            .kernel
-            .put(rt, p, bytes, arena, self.account, &OpenGate);
-        show_block(p, told)
+        self.kernel
+            .put(rt, p, bytes, arena, self.account, &OpenGate)
+            .map(|named| Block::of(p, named))
     }
 
     fn into_bytes(&mut self, block: Block) -> Result<Vec<u8>, Returned<Block>> {
         let (rt, p) = (self.rt, self.number);
-        let rec = block.name.at(p);
+        let rec = block.at(p);
         match self.kernel.into_bytes(rt, p, rec, self.account, &OpenGate) {
             Ok(bytes) => Ok(bytes),
             Err(why) => Err(Returned { why, value: block }),
@@ -152,7 +147,7 @@ impl<'a, 'k, N: Names, R: Wait + Clock> Process for Handle<'a, 'k, N, R> {
 
     fn split(&mut self, block: &mut Block, k: u32) -> Result<Block, Refused> {
         let (rt, alloc, p) = (self.rt, self.alloc, self.number);
-        let rec = block.name.at(p);
+        let rec = block.at(p);
         match self
             .kernel
             .split(rt, alloc, p, rec, k, self.account, &OpenGate)
@@ -167,21 +162,21 @@ impl<'a, 'k, N: Names, R: Wait + Clock> Process for Handle<'a, 'k, N, R> {
 
     fn read(&mut self, block: &Block, at: u32, out: &mut [u8]) -> Result<(), Refused> {
         let (rt, p) = (self.rt, self.number);
-        let rec = block.name.at(p);
+        let rec = block.at(p);
         self.kernel
             .read(rt, p, rec, at, out, self.account, &OpenGate)
     }
 
     fn write(&mut self, block: &Block, at: u32, bytes: &[u8]) -> Result<(), Refused> {
         let (rt, p) = (self.rt, self.number);
-        let rec = block.name.at(p);
+        let rec = block.at(p);
         self.kernel
             .write(rt, p, rec, at, bytes, self.account, &OpenGate)
     }
 
     fn with_bytes<A, F: FnMut(&[u8]) -> A>(&mut self, block: &Block, f: F) -> Result<A, Refused> {
         let (rt, p, mut f) = (self.rt, self.number, f);
-        let rec = block.name.at(p);
+        let rec = block.at(p);
         self.kernel
             .with_bytes(rt, p, rec, &mut f, self.account, &OpenGate)
     }
@@ -192,15 +187,17 @@ impl<'a, 'k, N: Names, R: Wait + Clock> Process for Handle<'a, 'k, N, R> {
         f: F,
     ) -> Result<A, Refused> {
         let (rt, p, mut f) = (self.rt, self.number, f);
-        let rec = block.name.at(p);
+        let rec = block.at(p);
         self.kernel
             .with_bytes_mut(rt, p, rec, &mut f, self.account, &OpenGate)
     }
 
     fn free(&mut self, block: Block) -> Result<u32, Returned<Block>> {
         let (rt, p) = (self.rt, self.number);
-        let rec = block.name.at(p);
-        match self.kernel.free(rt, p, rec, self.account, &OpenGate) {
+        match self
+            .kernel
+            .free(rt, p, block.at(p), self.account, &OpenGate)
+        {
             Ok(bytes) => Ok(bytes),
             Err(why) => Err(Returned { why, value: block }),
         }
@@ -208,39 +205,40 @@ impl<'a, 'k, N: Names, R: Wait + Clock> Process for Handle<'a, 'k, N, R> {
 
     fn open(&mut self) -> Result<(End, End), Refused> {
         let (rt, p) = (self.rt, self.number);
-        let told = self.kernel.open(rt, p, 0, self.account, &OpenGate);
-        show_ends(p, p, told)
+        self.kernel
+            .open(rt, p, 0, self.account, &OpenGate)
+            .map(|(one, other)| (End::of(p, one), End::of(p, other)))
     }
 
     fn open_with(&mut self, contract: Contract) -> Result<(End, End), Refused> {
         let (rt, p) = (self.rt, self.number);
-        let told = self
-            .kernel
-            .open_with(rt, p, 0, contract, self.account, &OpenGate);
-        show_ends(p, p, told)
+        self.kernel
+            .open_with(rt, p, 0, contract, self.account, &OpenGate)
+            .map(|(one, other)| (End::of(p, one), End::of(p, other)))
     }
 
     fn wire(&mut self, other: &Self) -> Result<(End, End), Refused> {
         let (rt, p, q) = (self.rt, self.number, other.number);
-        let told = self.kernel.wire(rt, p, q, 0, self.account, &OpenGate);
-        show_ends(p, q, told)
+        self.kernel
+            .wire(rt, p, q, 0, self.account, &OpenGate)
+            .map(|(one, other)| (End::of(p, one), End::of(q, other)))
     }
 
     fn wire_with(&mut self, other: &Self, contract: Contract) -> Result<(End, End), Refused> {
         let (rt, p, q) = (self.rt, self.number, other.number);
-        let told = self
-            .kernel
-            .wire_with(rt, p, q, 0, contract, self.account, &OpenGate);
-        show_ends(p, q, told)
+        self.kernel
+            .wire_with(rt, p, q, 0, contract, self.account, &OpenGate)
+            .map(|(one, other)| (End::of(p, one), End::of(q, other)))
     }
 
-    fn give(&mut self, end: &End, tag: u16, items: Items) -> Result<u64, Returned<Items>> {
-        let (rt, p, e) = (self.rt, self.number, end.name.at(self.number));
-        let recs = recs_at(p, items.as_slice());
+    fn give(&mut self, end: &End, tag: u16, load: Items) -> Result<u64, Returned<Items>> {
+        let (rt, p) = (self.rt, self.number);
+        let recs = recs_at(p, &load);
+        let blocks = recs.as_slice();
         let told = self
             .kernel
-            .give(rt, p, e, tag, recs.as_slice(), self.account, &OpenGate);
-        given(p, items, told)
+            .give(rt, p, end.at(p), tag, blocks, self.account, &OpenGate);
+        given(p, load, told)
     }
 
     fn give_block(
@@ -249,11 +247,11 @@ impl<'a, 'k, N: Names, R: Wait + Clock> Process for Handle<'a, 'k, N, R> {
         tag: u16,
         block: Block,
     ) -> Result<u64, Returned<Option<Block>>> {
-        let (rt, p, e) = (self.rt, self.number, end.name.at(self.number));
-        let rec = block.name.at(p);
+        let (rt, p) = (self.rt, self.number);
+        let rec = block.at(p);
         match self
             .kernel
-            .give(rt, p, e, tag, &[rec], self.account, &OpenGate)
+            .give(rt, p, end.at(p), tag, &[rec], self.account, &OpenGate)
         {
             Ok(number) => Ok(number),
             Err(why) => {
@@ -267,53 +265,57 @@ impl<'a, 'k, N: Names, R: Wait + Clock> Process for Handle<'a, 'k, N, R> {
         }
     }
 
-    fn give_wait(&mut self, end: &End, tag: u16, items: Items) -> Result<u64, Returned<Items>> {
-        let (rt, p, e) = (self.rt, self.number, end.name.at(self.number));
-        let recs = recs_at(p, items.as_slice());
+    fn give_wait(&mut self, end: &End, tag: u16, load: Items) -> Result<u64, Returned<Items>> {
+        let (rt, p) = (self.rt, self.number);
+        let recs = recs_at(p, &load);
+        let blocks = recs.as_slice();
         let told = self
             .kernel
-            .give_wait(rt, p, e, tag, recs.as_slice(), self.account, &OpenGate);
-        given(p, items, told)
+            .give_wait(rt, p, end.at(p), tag, blocks, self.account, &OpenGate);
+        given(p, load, told)
     }
 
     fn give_for(
         &mut self,
         end: &End,
         tag: u16,
-        items: Items,
+        load: Items,
         time: Duration,
     ) -> Result<u64, Returned<Items>> {
-        let (rt, p, e) = (self.rt, self.number, end.name.at(self.number));
+        let (rt, p) = (self.rt, self.number);
         let Some(deadline) = deadline(rt, time) else {
-            return self.give(end, tag, items);
+            return self.give(end, tag, load);
         };
-        let recs = recs_at(p, items.as_slice());
-        let blocks = recs.as_slice();
+        let recs = recs_at(p, &load);
+        let (e, blocks) = (end.at(p), recs.as_slice());
         let told = self
             .kernel
             .give_wait_until(rt, p, e, tag, blocks, deadline, self.account, &OpenGate);
-        given(p, items, told)
+        given(p, load, told)
     }
 
     fn take(&mut self, end: &End) -> Result<Message, Refused> {
-        let (rt, p, e) = (self.rt, self.number, end.name.at(self.number));
-        show_message(p, self.kernel.take(rt, p, e, self.account, &OpenGate))
+        let (rt, p) = (self.rt, self.number);
+        self.kernel
+            .take(rt, p, end.at(p), self.account, &OpenGate)
+            .map(|taken| Message::of(p, taken))
     }
 
     fn take_wait(&mut self, end: &End) -> Result<Message, Refused> {
-        let (rt, p, e) = (self.rt, self.number, end.name.at(self.number));
-        show_message(p, self.kernel.take_wait(rt, p, e, self.account, &OpenGate))
+        let (rt, p) = (self.rt, self.number);
+        self.kernel
+            .take_wait(rt, p, end.at(p), self.account, &OpenGate)
+            .map(|taken| Message::of(p, taken))
     }
 
     fn take_for(&mut self, end: &End, time: Duration) -> Result<Message, Refused> {
-        let (rt, p, e) = (self.rt, self.number, end.name.at(self.number));
+        let (rt, p) = (self.rt, self.number);
         let Some(deadline) = deadline(rt, time) else {
             return self.take(end);
         };
-        let told = self
-            .kernel
-            .take_wait_until(rt, p, e, deadline, self.account, &OpenGate);
-        show_message(p, told)
+        self.kernel
+            .take_wait_until(rt, p, end.at(p), deadline, self.account, &OpenGate)
+            .map(|taken| Message::of(p, taken))
     }
 
     fn take_any<E: AsEnd>(&mut self, ends: &[E]) -> Result<Answered, Refused> {
@@ -322,7 +324,7 @@ impl<'a, 'k, N: Names, R: Wait + Clock> Process for Handle<'a, 'k, N, R> {
         let told = self
             .kernel
             .take_any(rt, p, recs.as_slice(), self.account, &OpenGate);
-        show_answered(p, told)
+        Answered::of(p, told)
     }
 
     fn take_any_wait<E: AsEnd>(&mut self, ends: &[E]) -> Result<Answered, Refused> {
@@ -331,7 +333,7 @@ impl<'a, 'k, N: Names, R: Wait + Clock> Process for Handle<'a, 'k, N, R> {
         let told = self
             .kernel
             .take_any_wait(rt, p, recs.as_slice(), self.account, &OpenGate);
-        show_answered(p, told)
+        Answered::of(p, told)
     }
 
     fn take_any_for<E: AsEnd>(&mut self, ends: &[E], time: Duration) -> Result<Answered, Refused> {
@@ -344,12 +346,12 @@ impl<'a, 'k, N: Names, R: Wait + Clock> Process for Handle<'a, 'k, N, R> {
         let told = self
             .kernel
             .take_any_wait_until(rt, p, looked, deadline, self.account, &OpenGate);
-        show_answered(p, told)
+        Answered::of(p, told)
     }
 
     fn close(&mut self, end: End) -> Result<u64, Returned<Option<End>>> {
-        let (rt, p, e) = (self.rt, self.number, end.name.at(self.number));
-        match self.kernel.close(rt, p, e, self.account, &OpenGate) {
+        let (rt, p) = (self.rt, self.number);
+        match self.kernel.close(rt, p, end.at(p), self.account, &OpenGate) {
             Ok(bytes) => Ok(bytes),
             Err(why) => {
                 let value = end_back(&why, end);
@@ -370,6 +372,6 @@ impl<'a, 'k, N: Names, R: Wait + Clock> Process for Handle<'a, 'k, N, R> {
     }
 
     fn overview(&mut self) -> Overview {
-        see_all(self.rt, self.kernel, self.account)
+        self.kernel.overview(self.rt, self.account)
     }
 }

@@ -1,25 +1,26 @@
 //! A process of the heap, by its handle.
-ghost use Rattle.std.specs.Prelude.{◌≡◌, ◌≢◌, ◌<◌, [], ◌∷◌, Err, IfErr, IfOk, MatchResult, None, Ok, OnErr, Some, length};
+ghost use Rattle.std.specs.Prelude.{◌≡◌, ◌≢◌, ◌<◌, [], ◌∷◌, IfErr, IfOk, MatchResult, None, Ok, OnErr, Some, length};
 ghost use Rattle.std.specs.Result.{result_map_both};
 ghost use Rattle.xh_calls.specs.Leading.{Leading};
 ghost use Rattle.xh_calls.specs.Parts.{PartsOf};
-ghost use Rattle.xh_core.specs.declared.refused.Refused.TheVariants as refused;
-ghost use Rattle.xh_heap.specs.Handles.{Acts, HandleOf};
-ghost use Rattle.xh_heap.specs.Overviews.{SeesAll};
-ghost use Rattle.xh_heap.specs.Values.{Answers, Cuts, answered_of, block_back, block_of, end_at, end_back, ends_at, ends_of, items_back, message_of, plain, rec_at, recs_at};
+ghost use Rattle.xh_core.specs.declared.Refused.TheVariants.{Empty, NoPlace, NoRecord, NoSpace};
+ghost use Rattle.xh_heap.specs.Handles.{Acts, ActsBy, Awaits, HandleOf};
+ghost use Rattle.xh_heap.specs.declared.values.Item.TheVariants as item;
+ghost use Rattle.xh_heap.specs.Teams.{OpensOwn, WiresTo};
+ghost use Rattle.xh_heap.specs.Values.{Answers, Cuts, answered_of, block_back, block_of, end_at, end_back, ends_at, gift, items_back, message_of, plain, rec_at};
 ghost use Rattle.xh_kernel.specs.Accounts.{AccountOf};
 ghost use Rattle.xh_kernel.specs.Did.{DidAlloc, DidClose, DidFree, DidGive, DidIntoBytes, DidPut, DidRead, DidSplit, DidTake, DidTakeAny, DidWrite};
 ghost use Rattle.xh_kernel.specs.Endings.{Exits, Kills};
 ghost use Rattle.xh_kernel.specs.Lends.{LendsAll, LendsAllMut};
+ghost use Rattle.xh_kernel.specs.Looks.{SeesAll};
 ghost use Rattle.xh_kernel.specs.Waits.{AtLast, AtLastOf, IsNoMemory, SpawnsAt, no_room};
-ghost use Rattle.xh_kernel.specs.Wires.{OpensBoth, Wires};
 ghost use Rattle.xh_model.specs.declared.limits.TheConstants.{MAX_BUDGET};
 
-use crate::overview::Overview;
 use crate::values::{Answered, AsEnd, Block, End, Items, Message, Returned};
 use std::sync::Wait;
 use std::time::{Clock, Duration};
 use xh_core::{Contract, Refused};
+use xh_kernel::Overview;
 
 /// The handle of a process. There is one: whoever has it does the calls of the process, and nobody else can. When it is
 /// dropped the process ends, where it didn't before; whoever waits for a message of it is told PeerClosed then.
@@ -50,7 +51,7 @@ pub trait Process: Drop {
     /// A new process, by a handle of its own. NoPlace where 33 handles are there, or each of the 32 places has a process that runs
     /// or is ending, or had its 2,047; nothing else refuses.
     fn spawn(&self) -> Result<Self, Refused>
-        ensures { MatchResult result (λ p. (before : AccountOf) × SpawnsAt parts leads before (handle p).account (Ok (handle p).number)) (λ why. why ≡ refused.NoPlace) };
+        ensures { MatchResult result (λ p. (before : AccountOf) × SpawnsAt parts leads before (handle p).account (Ok (handle p).number)) (λ why. why ≡ NoPlace) };
 
     /// A block of `n` bytes of arena 0, as `alloc_in`.
     fn alloc(&mut self, n: u32) -> Result<Block, Refused>
@@ -70,7 +71,7 @@ pub trait Process: Drop {
     /// asks again. That memory comes isn't promised.
     fn alloc_wait(&mut self, arena: u32, n: u32) -> Result<Block, Refused>
         ensures call { Acts (λ p. Answers (AtLastOf (DidAlloc parts leads p n arena) IsNoMemory) (block_of p) result) (handle self.old) (handle self.new) }
-        ensures waits { IfErr result (λ why. (why ≢ refused.NoRecord) × (why ≢ refused.NoSpace)) };
+        ensures waits { IfErr result (λ why. (why ≢ NoRecord) × (why ≢ NoSpace)) };
 
     /// As `alloc_wait`; after so long it is refused NoRecord or NoSpace. Where the clock can't be read it waits no longer.
     fn alloc_for(&mut self, arena: u32, n: u32, time: Duration) -> Result<Block, Refused>
@@ -97,7 +98,7 @@ pub trait Process: Drop {
     /// A block goes, as by `free`; its buffer is the answer, with all its bytes, the zeros after those that were put too. NotOwned;
     /// NotData.
     fn into_bytes(&mut self, block: Block) -> Result<Vec<u8>, Returned<Block>>
-        ensures call { Acts (λ p. DidIntoBytes leads p (rec_at p block) (result_map_both (λ v. v.items) (λ e. e.why) result)) (handle self.old) (handle self.new) }
+        ensures call { ActsBy (rec_at block) (λ p r. DidIntoBytes leads p r (result_map_both (λ v. v.items) (λ e. e.why) result)) (handle self.old) (handle self.new) }
         ensures returned { IfErr result (λ e. e.value ≡ block) };
 
     /// Cuts a block after its first `k` bytes, which it keeps. It answers the tail.
@@ -105,20 +106,20 @@ pub trait Process: Drop {
     /// NotOwned; NotData of an endpoint; BadCut where `k` is 0, no multiple of 16, or not less than the block has; NoRecord;
     /// OutOfMemory.
     fn split(&mut self, block: &mut Block, k: u32) -> Result<Block, Refused>
-        ensures { Acts (λ p. Cuts p (DidSplit leads p (rec_at p block.old) k) block.old block.new result) (handle self.old) (handle self.new) };
+        ensures { ActsBy (rec_at block.old) (λ p r. Cuts p (DidSplit leads p r k) block.old block.new result) (handle self.old) (handle self.new) };
 
     /// The bytes of a block from `at` on, as many as `out` has.
     ///
     /// NotOwned; NotData; BadRange where they reach past its end. `out` stays as it was then.
     fn read(&mut self, block: &Block, at: u32, out: &mut [u8]) -> Result<(), Refused>
-        ensures call { Acts (λ p. DidRead leads p (rec_at p block.now) at out.new result) (handle self.old) (handle self.new) }
+        ensures call { ActsBy (rec_at block.now) (λ p r. DidRead leads p r at out.new result) (handle self.old) (handle self.new) }
         ensures refused { OnErr result (out.new ≡ out.old) };
 
     /// These bytes stand in a block from `at` on, in place of as many.
     ///
     /// NotOwned; NotData; BadRange where they reach past its end.
     fn write(&mut self, block: &Block, at: u32, bytes: &[u8]) -> Result<(), Refused>
-        ensures { Acts (λ p. DidWrite leads p (rec_at p block.now) at bytes.now result) (handle self.old) (handle self.new) };
+        ensures { ActsBy (rec_at block.now) (λ p r. DidWrite leads p r at bytes.now result) (handle self.old) (handle self.new) };
 
     /// One call of `f` at a block's bytes, all of them, where they lie: what `f` answers. It is called under the lock of the
     /// process's place, so it must not call the heap.
@@ -126,7 +127,7 @@ pub trait Process: Drop {
     /// NotOwned; NotData. `f` isn't called then.
     fn with_bytes<A, F: FnMut(&[u8]) -> A>(&mut self, block: &Block, f: F) -> Result<A, Refused>
         requires { F.IsAlwaysCallable f }
-        ensures { Acts (λ p old new. (after : F) × LendsAll leads F.FnMut p (rec_at p block.now) f after old new result) (handle self.old) (handle self.new) };
+        ensures { ActsBy (rec_at block.now) (λ p r old new. (after : F) × LendsAll leads F.FnMut p r f after old new result) (handle self.old) (handle self.new) };
 
     /// As `with_bytes`; `f` may change the bytes.
     fn with_bytes_mut<A, F: FnMut(&mut [u8]) -> A>(
@@ -135,34 +136,32 @@ pub trait Process: Drop {
         f: F,
     ) -> Result<A, Refused>
         requires { F.IsAlwaysCallable f }
-        ensures { Acts (λ p old new. (after : F) × LendsAllMut leads F.FnMut p (rec_at p block.now) f after old new result) (handle self.old) (handle self.new) };
+        ensures { ActsBy (rec_at block.now) (λ p r old new. (after : F) × LendsAllMut leads F.FnMut p r f after old new result) (handle self.old) (handle self.new) };
 
     /// A block's bytes go back, and its record is free. It answers how many bytes. NotOwned; NotData.
     fn free(&mut self, block: Block) -> Result<u32, Returned<Block>>
-        ensures call { Acts (λ p. DidFree leads p (rec_at p block) (plain result)) (handle self.old) (handle self.new) }
+        ensures call { ActsBy (rec_at block) (λ p r. DidFree leads p r (plain result)) (handle self.old) (handle self.new) }
         ensures returned { IfErr result (λ e. e.value ≡ block) };
 
     /// Both ends of a new channel: side 0 and side 1, each a block of 32 bytes of arena 0.
     ///
     /// NoChannel where ends of 64 channels are there; OutOfMemory where a growth was refused; NoRecord; NoSpace; Worn.
     fn open(&mut self) -> Result<(End, End), Refused>
-        ensures { Acts (λ p. Answers (λ told old new. OpensBoth parts leads p 0 None old new told) (ends_of p p) result) (handle self.old) (handle self.new) };
+        ensures { OpensOwn parts leads None (handle self.old) (handle self.new) result };
 
     /// As `open`; the channel goes by the contract.
     fn open_with(&mut self, contract: Contract) -> Result<(End, End), Refused>
-        ensures { Acts (λ p. Answers (λ told old new. OpensBoth parts leads p 0 (Some contract) old new told) (ends_of p p) result) (handle self.old) (handle self.new) };
+        ensures { OpensOwn parts leads (Some contract) (handle self.old) (handle self.new) result };
 
     /// A channel to another process: side 0 is this one's, side 1 the other's.
     ///
     /// Ended of the other; then as `open`. Where the other ends before side 1 reaches it, both sides are reclaimed again.
     fn wire(&mut self, other: &Self) -> Result<(End, End), Refused>
-        ensures { Acts (λ p. let q = (handle other.now).number in Answers (λ told old new. Wires parts leads p q 0 None old new told) (ends_of p q) result)
-            (handle self.old) (handle self.new) };
+        ensures { WiresTo parts leads None (handle other.now) (handle self.old) (handle self.new) result };
 
     /// As `wire`; the channel goes by the contract.
     fn wire_with(&mut self, other: &Self, contract: Contract) -> Result<(End, End), Refused>
-        ensures { Acts (λ p. let q = (handle other.now).number in Answers (λ told old new. Wires parts leads p q 0 (Some contract) old new told) (ends_of p q) result)
-            (handle self.old) (handle self.new) };
+        ensures { WiresTo parts leads (Some contract) (handle other.now) (handle self.old) (handle self.new) result };
 
     /// Gives the items by an end, in a message with a tag: they are the receiver's to take. It answers the message's number in
     /// its direction, counted from 1.
@@ -170,9 +169,9 @@ pub trait Process: Drop {
     /// NotOwned and NotEndpoint of the end; NotOwned of an item, as of a missing one; Twice where an item is the end; Protocol
     /// where the contract doesn't allow the message, PeerClosed, and Full where as many wait as may: these three hand back the
     /// items that came back, and name their records.
-    fn give(&mut self, end: &End, tag: u16, items: Items) -> Result<u64, Returned<Items>>
-        ensures call { Acts (λ p. DidGive leads p (end_at p end.now) tag (recs_at p items.items) (plain result)) (handle self.old) (handle self.new) }
-        ensures returned { let p = (handle self.old).number in IfErr result (λ e. e.value.items ≡ items_back p e.why items.items) };
+    fn give(&mut self, end: &End, tag: u16, load: Items) -> Result<u64, Returned<Items>>
+        ensures call { ActsBy (gift end.now load.items) (λ p g. DidGive leads p g.0 tag g.1 (plain result)) (handle self.old) (handle self.new) }
+        ensures returned { let p = (handle self.old).number in IfErr result (λ e. e.value.items ≡ items_back p e.why load.items) };
 
     /// As `give`, of one block.
     fn give_block(
@@ -181,61 +180,59 @@ pub trait Process: Drop {
         tag: u16,
         block: Block,
     ) -> Result<u64, Returned<Option<Block>>>
-        ensures call { Acts (λ p. DidGive leads p (end_at p end.now) tag (rec_at p block ∷ []) (plain result)) (handle self.old) (handle self.new) }
+        ensures call { ActsBy (gift end.now (item.Block block ∷ [])) (λ p g. DidGive leads p g.0 tag g.1 (plain result)) (handle self.old) (handle self.new) }
         ensures returned { let p = (handle self.old).number in IfErr result (λ e. e.value ≡ block_back p e.why block) };
 
     /// As `give`; where as many messages wait as may, it waits until the peer takes, without a lock, and gives again. It is refused
     /// Full only with fewer items than were given. In a direction that has carried its last message, 2^62 - 1, it waits on.
-    fn give_wait(&mut self, end: &End, tag: u16, items: Items) -> Result<u64, Returned<Items>>
-        ensures call { Acts (λ p. let recs = recs_at p items.items in AtLast (DidGive leads p (end_at p end.now) tag recs) (no_room recs) (plain result))
-            (handle self.old) (handle self.new) }
-        ensures waits { let p = (handle self.old).number in plain result ≢ no_room (recs_at p items.items) }
-        ensures returned { let p = (handle self.old).number in IfErr result (λ e. e.value.items ≡ items_back p e.why items.items) };
+    fn give_wait(&mut self, end: &End, tag: u16, load: Items) -> Result<u64, Returned<Items>>
+        ensures call { ActsBy (gift end.now load.items) (λ p g. AtLast (DidGive leads p g.0 tag g.1) (no_room g.1) (plain result)) (handle self.old) (handle self.new) }
+        ensures waits { let g = gift end.now load.items (handle self.old).number in plain result ≢ no_room g.1 }
+        ensures returned { let p = (handle self.old).number in IfErr result (λ e. e.value.items ≡ items_back p e.why load.items) };
 
     /// As `give_wait`; after so long it is refused Full. Where the clock can't be read it waits no longer.
     fn give_for(
         &mut self,
         end: &End,
         tag: u16,
-        items: Items,
+        load: Items,
         time: Duration,
     ) -> Result<u64, Returned<Items>>
-        ensures call { Acts (λ p. let recs = recs_at p items.items in AtLast (DidGive leads p (end_at p end.now) tag recs) (no_room recs) (plain result))
-            (handle self.old) (handle self.new) }
-        ensures returned { let p = (handle self.old).number in IfErr result (λ e. e.value.items ≡ items_back p e.why items.items) };
+        ensures call { ActsBy (gift end.now load.items) (λ p g. AtLast (DidGive leads p g.0 tag g.1) (no_room g.1) (plain result)) (handle self.old) (handle self.new) }
+        ensures returned { let p = (handle self.old).number in IfErr result (λ e. e.value.items ≡ items_back p e.why load.items) };
 
     /// Takes the message that waits longest at an end. Its items are this process's.
     ///
     /// NotOwned; NotEndpoint; where no message waits, PeerClosed where the peer is closed, and else Empty.
     fn take(&mut self, end: &End) -> Result<Message, Refused>
-        ensures { Acts (λ p. Answers (DidTake leads p (end_at p end.now)) (message_of p) result) (handle self.old) (handle self.new) };
+        ensures { ActsBy (end_at end.now) (λ p e. Answers (DidTake leads p e) (message_of p) result) (handle self.old) (handle self.new) };
 
     /// As `take`; where no message waits and the peer is open, it waits, without a lock.
     fn take_wait(&mut self, end: &End) -> Result<Message, Refused>
-        ensures call { Acts (λ p. Answers (AtLast (DidTake leads p (end_at p end.now)) (Err refused.Empty)) (message_of p) result) (handle self.old) (handle self.new) }
-        ensures waits { IfErr result (λ why. why ≢ refused.Empty) };
+        ensures call { ActsBy (end_at end.now) (λ p e. Answers (Awaits (DidTake leads p e)) (message_of p) result) (handle self.old) (handle self.new) }
+        ensures waits { IfErr result (λ why. why ≢ Empty) };
 
     /// As `take_wait`; after so long it is refused Empty. Where the clock can't be read it waits no longer.
     fn take_for(&mut self, end: &End, time: Duration) -> Result<Message, Refused>
-        ensures { Acts (λ p. Answers (AtLast (DidTake leads p (end_at p end.now)) (Err refused.Empty)) (message_of p) result) (handle self.old) (handle self.new) };
+        ensures { ActsBy (end_at end.now) (λ p e. Answers (Awaits (DidTake leads p e)) (message_of p) result) (handle self.old) (handle self.new) };
 
     /// Looks at up to 64 ends in their order, and takes at the first that has a message: its index, and what `take` answers there.
     /// Where none has one, PeerClosed at the first whose peer is closed. Of more than 64 it names 65.
     ///
     /// TooMany; NotOwned and NotEndpoint of the first that is; Twice; Empty where no message waits and no peer is closed.
     fn take_any<E: AsEnd>(&mut self, ends: &[E]) -> Result<Answered, Refused>
-        ensures call { Acts (λ p. Answers (DidTakeAny leads p (ends_at p E.shows ends.now)) (answered_of p) result) (handle self.old) (handle self.new) }
+        ensures call { ActsBy (ends_at E.shows ends.now) (λ p e. Answers (DidTakeAny leads p e) (answered_of p) result) (handle self.old) (handle self.new) }
         ensures at { IfOk result (λ a. a.at < length ends.now) };
 
     /// As `take_any`; where no message waits and no peer is closed, it waits, without a lock. It is refused Empty of no ends alone.
     fn take_any_wait<E: AsEnd>(&mut self, ends: &[E]) -> Result<Answered, Refused>
-        ensures call { Acts (λ p. Answers (AtLast (DidTakeAny leads p (ends_at p E.shows ends.now)) (Err refused.Empty)) (answered_of p) result) (handle self.old) (handle self.new) }
-        ensures waits { IfErr result (λ why. why ≡ refused.Empty → ends.now ≡ []) }
+        ensures call { ActsBy (ends_at E.shows ends.now) (λ p e. Answers (Awaits (DidTakeAny leads p e)) (answered_of p) result) (handle self.old) (handle self.new) }
+        ensures waits { IfErr result (λ why. why ≡ Empty → ends.now ≡ []) }
         ensures at { IfOk result (λ a. a.at < length ends.now) };
 
     /// As `take_any_wait`; after so long it is refused Empty. Where the clock can't be read it waits no longer.
     fn take_any_for<E: AsEnd>(&mut self, ends: &[E], time: Duration) -> Result<Answered, Refused>
-        ensures call { Acts (λ p. Answers (AtLast (DidTakeAny leads p (ends_at p E.shows ends.now)) (Err refused.Empty)) (answered_of p) result) (handle self.old) (handle self.new) }
+        ensures call { ActsBy (ends_at E.shows ends.now) (λ p e. Answers (Awaits (DidTakeAny leads p e)) (answered_of p) result) (handle self.old) (handle self.new) }
         ensures at { IfOk result (λ a. a.at < length ends.now) };
 
     /// Closes an end: it goes, and what was on its way to it. The peer may still take what was given by it. It answers the bytes
@@ -244,7 +241,7 @@ pub trait Process: Drop {
     /// NotOwned; NotEndpoint; Unfinished where blocks that came with it are left: so many, which no value names; they are
     /// reclaimed when the process ends. The end is gone then too, and not handed back.
     fn close(&mut self, end: End) -> Result<u64, Returned<Option<End>>>
-        ensures call { Acts (λ p. DidClose leads p (end_at p end) (plain result)) (handle self.old) (handle self.new) }
+        ensures call { ActsBy (end_at end) (λ p e. DidClose leads p e (plain result)) (handle self.old) (handle self.new) }
         ensures returned { IfErr result (λ e. e.value ≡ end_back e.why end) };
 
     /// The process ends: its blocks are reclaimed, and what was on its way to its endpoints. What it gave stays on its way. It

@@ -1,10 +1,12 @@
-//! Blocks and endpoints as values, what messages carry, and the errors that hand values back.
-ghost use Rattle.std.specs.Prelude.{◌≡◌};
-ghost use Rattle.xh_heap.specs.Values.{block_in, block_of, end_in, end_of, item_at, len_of, name_at};
+//! Blocks and endpoints as values, what messages carry, and what is handed back.
+ghost use Rattle.std.specs.Prelude.{◌≡◌, IfErr, map};
+ghost use Rattle.std.specs.Result.{result_map_both};
+ghost use Rattle.xh_heap.specs.Values as values;
+ghost use Rattle.xh_heap.specs.Values.{answered_of, block_in, block_of, end_at, end_in, end_of, item_at, item_of, items_back, len_of, message_of, plain, rec_at};
 
 use arrayvec::ArrayVec;
-use xh_core::{Block as Named, Refused};
-use xh_kernel::MAX_ENDS;
+use xh_core::{Block as Named, Kind, Refused};
+use xh_kernel::{Answered as TakenAt, Got, MAX_ENDS, Taken};
 use xh_model::limits::MAX_BLOCKS;
 
 /// The number of a record that no arena has.
@@ -13,27 +15,12 @@ pub(crate) const NO_RECORD: u16 = 65_535;
 /// More endpoints than a take looks at.
 pub(crate) const TOO_MANY_ENDS: usize = MAX_ENDS + 1;
 
-/// A record's number, and the process that has it.
-#[derive(Clone, Copy, Debug)]
-pub(crate) struct Name {
-    pub(crate) rec: u16,
-    pub(crate) owner: u16,
-}
-
-impl Name {
-    // The record, to its owner; to others it names nothing.
-    pub(crate) fn at(self, p: u16) -> u16
-        ensures { result ≡ name_at p self }
-    {
-        if self.owner == p { self.rec } else { NO_RECORD }
-    }
-}
-
 /// A block of bytes, of one process. It can't be copied: whoever has it alone can name it. To let it go frees nothing: the
 /// process has the block until it ends.
 #[derive(Debug, Drop)]
 pub struct Block {
-    pub(crate) name: Name,
+    rec: u16,
+    owner: u16,
     len: u32,
 }
 
@@ -45,35 +32,42 @@ impl Block {
         self.len
     }
 
-    pub(crate) fn of(p: u16, named: Named) -> Block
-        ensures { result ≡ block_of p named }
+    pub(crate) fn of(owner: u16, named: Named) -> Block
+        ensures { result ≡ block_of owner named }
     {
-        Block {
-            name: Name {
-                rec: named.rec,
-                owner: p,
-            },
-            len: named.len,
-        }
+        let Named { rec, len } = named;
+        Block { rec, owner, len }
+    }
+
+    // Its record, to its owner; to others it names nothing.
+    pub(crate) fn at(&self, p: u16) -> u16
+        ensures { result ≡ rec_at self.now p }
+    {
+        if self.owner == p { self.rec } else { NO_RECORD }
     }
 }
 
 /// An end of a channel, of one process. It can't be copied; to let it go closes nothing: the process has it until it ends.
 #[derive(Debug, Drop)]
 pub struct End {
-    pub(crate) name: Name,
+    rec: u16,
+    owner: u16,
 }
 
 impl End {
-    pub(crate) fn of(p: u16, named: Named) -> End
-        ensures { result ≡ end_of p named }
+    pub(crate) fn of(owner: u16, named: Named) -> End
+        ensures { result ≡ end_of owner named }
     {
         End {
-            name: Name {
-                rec: named.rec,
-                owner: p,
-            },
+            rec: named.rec,
+            owner,
         }
+    }
+
+    pub(crate) fn at(&self, p: u16) -> u16
+        ensures { result ≡ end_at self.now p }
+    {
+        if self.owner == p { self.rec } else { NO_RECORD }
     }
 }
 
@@ -103,38 +97,61 @@ impl AsEnd for &End {
     }
 }
 
+// The ends' records, to a process; one more than a take looks at, where there are too many.
+pub(crate) fn ends_at<E: AsEnd>(p: u16, ends: &[E]) -> ArrayVec<u16, TOO_MANY_ENDS>
+    ensures { result.items ≡ values.ends_at E.shows ends.now p }
+{
+    let seen = &ends[..TOO_MANY_ENDS.min(ends.len())];
+    let mut recs = ArrayVec::new();
+    for end in seen {
+        recs.push(end.as_end().at(p));
+    }
+    recs
+}
+
 /// What a message carries: a block, an end, or what was reclaimed on its way, which names nothing.
-#[derive(Debug, Drop)]
+#[derive(Debug, Default, Drop)]
 pub enum Item {
     Block(Block),
     End(End),
+    #[default]
     Missing,
-}
-
-impl Default for Item {
-    ghost use Rattle.std.specs.Prelude.{◌≡◌};
-    ghost use Rattle.xh_heap.specs.declared.values.Item.TheVariants as item;
-
-    ghost is_default = { λ i. i ≡ item.Missing };
-
-    fn default() -> Item {
-        Item::Missing
-    }
 }
 
 /// The items of a message, in order.
 pub type Items = ArrayVec<Item, MAX_BLOCKS>;
 
 impl Item {
-    pub(crate) fn at(&self, p: u16) -> u16
+    fn of(p: u16, got: &Got) -> Item
+        ensures { result ≡ item_of p got.now }
+    {
+        match got {
+            Got::Here(named, Kind::Data) => Item::Block(Block::of(p, *named)),
+            Got::Here(named, Kind::End) => Item::End(End::of(p, *named)),
+            Got::Missing { .. } => Item::Missing,
+        }
+    }
+
+    fn at(&self, p: u16) -> u16
         ensures { result ≡ item_at p self.now }
     {
         match self {
-            Item::Block(block) => block.name.at(p),
-            Item::End(end) => end.name.at(p),
+            Item::Block(block) => block.at(p),
+            Item::End(end) => end.at(p),
             Item::Missing => NO_RECORD,
         }
     }
+}
+
+// The items' records, to a process.
+pub(crate) fn recs_at(p: u16, items: &Items) -> ArrayVec<u16, MAX_BLOCKS>
+    ensures { result.items ≡ map (item_at p) items.now.items }
+{
+    let mut recs = ArrayVec::new();
+    for item in items.as_slice() {
+        recs.push(item.at(p));
+    }
+    recs
 }
 
 /// A message that was taken: its number in its direction, from 1, its tag, and its items, now this process's.
@@ -146,6 +163,20 @@ pub struct Message {
 }
 
 impl Message {
+    pub(crate) fn of(p: u16, taken: Taken) -> Message
+        ensures { result ≡ message_of p taken }
+    {
+        let mut items = Items::new();
+        for got in taken.blocks.as_slice() {
+            items.push(Item::of(p, got));
+        }
+        Message {
+            no: taken.no,
+            tag: taken.tag,
+            items,
+        }
+    }
+
     /// Its first item, a block; others are let go. NotData of an end; NotOwned of a missing one, or none.
     pub fn block(self) -> Result<Block, Refused>
         ensures { result ≡ block_in self.items.items }
@@ -176,6 +207,17 @@ pub struct Answered {
     pub answer: Result<Message, Refused>,
 }
 
+impl Answered {
+    pub(crate) fn of(p: u16, told: Result<TakenAt, Refused>) -> Result<Answered, Refused>
+        ensures { result ≡ result_map_both (answered_of p) (λ why. why) told }
+    {
+        told.map(|TakenAt { at, answer }| Answered {
+            at,
+            answer: answer.map(|taken| Message::of(p, taken)),
+        })
+    }
+}
+
 /// Why a call was refused, and what it hands back.
 #[derive(Debug, Drop)]
 pub struct Returned<V> {
@@ -188,5 +230,46 @@ impl<V: Drop> From<Returned<V>> for Refused {
 
     fn from(returned: Returned<V>) -> Refused {
         returned.why
+    }
+}
+
+// Whether a record that was given came back.
+pub(crate) fn is_back(why: &Refused, rec: u16) -> bool
+    ensures { result ≡ values.is_back why.now rec }
+{
+    match why {
+        Refused::Full { back } | Refused::PeerClosed { back } | Refused::Protocol { back } => {
+            back.contains(&rec)
+        }
+        _ => true,
+    }
+}
+
+// The end, where it is still there.
+pub(crate) fn end_back(why: &Refused, end: End) -> Option<End>
+    ensures { result ≡ values.end_back why.now end }
+{
+    match why {
+        Refused::Unfinished { .. } => None,
+        _ => Some(end),
+    }
+}
+
+// What a give of the items was answered, with those that came back.
+pub(crate) fn given(
+    p: u16,
+    items: Items,
+    told: Result<u64, Refused>,
+) -> Result<u64, Returned<Items>>
+    ensures call { plain result ≡ told }
+    ensures returned { IfErr result (λ e. e.value.items ≡ items_back p e.why items.items) }
+{
+    match told {
+        Ok(number) => Ok(number),
+        Err(why) => {
+            let mut items = items;
+            items.retain(|item| is_back(&why, item.at(p)));
+            Err(Returned { why, value: items })
+        }
     }
 }

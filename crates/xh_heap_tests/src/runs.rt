@@ -86,27 +86,10 @@ fn each_does_its_work_once(rt: HostRuntime) {
     assert!(rt; text.as_str().starts_with(ARENA));
 }
 
-/// The first waits for a message of the second, which waits for room toward it, and a third at several ends. The fourth, which
-/// waits for a word of the first in vain, sees so at a deadline, and ends the first, and so the waits of its peers.
+/// The first waits for a message of the second, which waits for room toward it, a third at several ends, a fourth for memory. The
+/// last, which waits for a word in vain, sees so at a deadline, and ends the first and the fourth, and so the waits of the others.
 #[derive(Drop)]
-struct Watched<R> {
-    rt: R,
-}
-
-impl<R: Print + Drop> Watched<R> {
-    fn watch<P: Process>(&self, own: &mut P, quiet: &End) -> Result<Overview, Refused> {
-        for _ in own.rt().forever() {
-            let _nobody_gives = own.take_for(quiet, Duration::from_millis(20));
-            let seen = own.overview();
-            if seen.places.iter().filter(|s| s.awaits.is_some()).count() == 3 {
-                let _ = println!(self.rt; "{seen}");
-                own.kill(0)?;
-                return Ok(seen);
-            }
-        }
-        unreachable!()
-    }
-}
+struct Watched<R>(R);
 
 impl<R: Print + Drop> Job for Watched<R> {
     type Plan = [(End, End); 4];
@@ -115,11 +98,11 @@ impl<R: Print + Drop> Job for Watched<R> {
 
     fn plan<P: Process>(&self, team: &mut Team<P>) -> Result<Self::Plan, Refused> {
         let (first, second) = (team.wire(0, 1)?, team.wire(1, 0)?);
-        Ok([first, second, team.wire(2, 0)?, team.wire(3, 0)?])
+        Ok([first, second, team.wire(2, 0)?, team.wire(4, 0)?])
     }
 
     fn work<P: Process>(&self, ends: &Self::Plan, index: usize, own: &mut P) -> Self::Answer {
-        let (end, _) = &ends[index % 4];
+        let (end, _) = &ends[index.min(3)];
         match index {
             0 => drop(own.take_wait(end)?),
             1 => {
@@ -128,7 +111,19 @@ impl<R: Print + Drop> Job for Watched<R> {
                 }
             }
             2 => drop(own.take_any_wait(&[end])?),
-            _ => return self.watch(own, end),
+            3 => drop(own.alloc_wait(0, 1024)?),
+            _ => {
+                for _ in own.rt().forever() {
+                    let _nobody_gives = own.take_for(end, Duration::from_millis(20));
+                    let seen = own.overview();
+                    if seen.places.iter().filter(|s| s.awaits.is_some()).count() == 4 {
+                        let _ = println!(self.0; "{seen}");
+                        own.kill(0)?;
+                        own.kill(3)?;
+                        return Ok(seen);
+                    }
+                }
+            }
         }
         Err(Refused::Empty)
     }
@@ -139,10 +134,9 @@ impl<R: Print + Drop> Job for Watched<R> {
 fn who_waits_is_seen(rt: HostRuntime) {
     const SEEN: &str =
         "arena 0 1024 256 1 256 0\nprocess 0 running 4 128 awaits message 0 0\nprocess 1 running 2 64 awaits room 1 0\n\
-    process 2 running 1 32 awaits messages\nprocess 3 running 1 32\n";
-    let job = Watched { rt: &rt };
-    let mut closed = run(&rt, rt.alloc(), one_arena(1024), 4, &job).expect(&rt, "room");
-    let seen = closed.answers.pop().expect(&rt, "the fourth");
+    process 2 running 1 32 awaits messages\nprocess 3 running 0 0 awaits memory 0\nprocess 4 running 1 32\n";
+    let mut closed = run(&rt, rt.alloc(), one_arena(1024), 5, &Watched(&rt)).expect(&rt, "room");
+    let seen = closed.answers.pop().expect(&rt, "the last");
     let text = format!(in rt.alloc(); "{}", seen.expect(&rt, "an overview")).expect(&rt, "room");
     assert_eq!(rt; text.as_str(), SEEN);
 }
@@ -150,7 +144,7 @@ fn who_waits_is_seen(rt: HostRuntime) {
 /// A run of which a thread is refused begins no work, and says so. The gate refuses each in turn.
 #[test]
 fn threads_of_a_run(rt: HostRuntime) {
-    match run(&rt, rt.alloc(), one_arena(1024), 4, &Watched { rt: &rt }) {
+    match run(&rt, rt.alloc(), one_arena(1024), 5, &Watched(&rt)) {
         Ok(closed) => assert!(rt; matches!(closed.answers.first(), Some(Err(Refused::Ended)))),
         Err(refused) => {
             assert_eq!(rt; refused.name(), "OutOfMemory");

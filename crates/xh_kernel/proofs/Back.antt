@@ -2,12 +2,10 @@
 use Rattle.xh_kernel.proofs.Common.{AccountOf, Err, FrontOf, HasGivenBack, History, IfErr, List, MatchResult, Ok, OnOk, PartsOf, PlaceSeen, Refused, Result, TallyOf, VaultOf, [], ap, arith, length}
 use Rattle.xh_kernel.proofs.Common.{refl, seen_of, subst, sym, ℕ, ◌+◌, ◌-◌, ◌<◌, ◌∙◌, ◌∷◌, ◌≡◌}
 use Rattle.atomic_table.specs.Seated.{TableId}
-use Rattle.std.specs.Prelude.{MatchOption, None, Option, Some, ◌≤◌}
+use Rattle.std.specs.Prelude.{◌≤◌}
 use Rattle.std.specs.Result.{result_map_both}
-use Rattle.xh_calls.specs.Vaults.{AsksVault, Entered, EntersEach, EntersSome, Tells}
-use Rattle.xh_core.specs.declared.ledger.ArenaLine.{ArenaLine}
+use Rattle.xh_calls.specs.Vaults.{AsksVault, Entered, EntersEach, EntersSome}
 use Rattle.xh_core.specs.declared.status.Status.{Status}
-use Rattle.xh_kernel.specs.Accounts.{TellsArena}
 use Rattle.xh_calls.proofs.Tallied.{tallied}
 use Rattle.xh_place.specs.Calls.{GivesUp}
 use Rattle.xh_place.specs.Tallies.{gave, ids_of, took}
@@ -87,7 +85,7 @@ module _ (parts : PartsOf) where
   tabled : (f : FrontOf VaultOf) → f.table ≡ parts.vaults → f ≡ record f { table = parts.vaults }
   tabled f table = λ i. record f { table = table i }
 
-  by_account : {view old : AccountOf} (f g : FrontOf VaultOf) (P : FrontOf VaultOf → FrontOf VaultOf → Type 0) → view ≡ old → record f { table = parts.vaults } ≡ seen_of parts view
+  pub by_account : {view old : AccountOf} (f g : FrontOf VaultOf) (P : FrontOf VaultOf → FrontOf VaultOf → Type 0) → view ≡ old → record f { table = parts.vaults } ≡ seen_of parts view
       → f.table ≡ parts.vaults → g.table ≡ parts.vaults → P f g → P (seen_of parts old) (record g { table = parts.vaults })
   by_account f g P is was table table' h =
       let before = tabled f table ∙ was ∙ ap (seen_of parts) is in
@@ -96,21 +94,3 @@ module _ (parts : PartsOf) where
   pub asked : {A : Type 0} {view old : AccountOf} (arena n : ℕ) (f g : FrontOf VaultOf) (result : Result A Refused) → view ≡ old → record f { table = parts.vaults } ≡ seen_of parts view
       → f.table ≡ parts.vaults → g.table ≡ parts.vaults → IfErr result (AsksVault parts arena n f g) → IfErr result (AsksVault parts arena n (seen_of parts old) (record g { table = parts.vaults }))
   asked arena n f g result is was table table' h = by_account f g (λ x y. IfErr result (AsksVault parts arena n x y)) is was table table' h
-
-  -- a look at an arena, which changed nothing but what the account has seen of it
-  pub line_told : {view old : AccountOf} (arena : ℕ) (o : Option ArenaLine) (f g : FrontOf VaultOf) → view ≡ old → record f { table = parts.vaults } ≡ seen_of parts view
-      → f.table ≡ parts.vaults → g.table ≡ parts.vaults
-      → MatchOption o ((length parts.records.shape.names ≤ arena) × (g ≡ f)) (λ line. (arena < length parts.records.shape.names) × Tells parts arena f g line)
-      → MatchOption o ((length parts.records.shape.names ≤ arena) × (record view { signs = g.number; vaults = g.fronts } ≡ old))
-      (λ line. (arena < length parts.records.shape.names) × TellsArena parts arena line old (record view { signs = g.number; vaults = g.fronts }))
-  line_told {view} arena None f g is was table table' h =
-      let with_ = λ (z : FrontOf VaultOf). record view { signs = z.number; vaults = z.fronts } in
-      (h.0, ap with_ h.1 ∙ ap with_ was ∙ is)
-  line_told {view} arena (Some line) f g is was table table' h =
-      let signs : g.number ≡ view.signs = ap (λ (z : FrontOf VaultOf). z.number) h.1.2.1.seen ∙ ap (λ (z : FrontOf VaultOf). z.number) was in (
-        h.0,
-        (
-          by_account f g (λ x y. Tells parts arena x y line) is was table table' h.1,
-          ap (λ (n : ℕ). record view { signs = n; vaults = g.fronts }) signs ∙ ap (λ (a : AccountOf). record a { vaults = g.fronts }) is,
-        ),
-      )

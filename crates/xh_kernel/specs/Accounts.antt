@@ -4,8 +4,7 @@ use Rattle.atomic_table.specs.Seated.{TableId}
 use Rattle.xh_arena.specs.Views.{TallyOf, VaultOf}
 use Rattle.xh_calls.specs.Parts.{PartsOf}
 use Rattle.xh_calls.specs.Tallies.{fresh_tally}
-use Rattle.xh_calls.specs.Vaults.{AsksVault, EntersEach, Tells}
-use Rattle.xh_core.specs.declared.ledger.ArenaLine.{ArenaLine}
+use Rattle.xh_calls.specs.Vaults.{AsksVault, EntersEach}
 use Rattle.xh_core.specs.declared.refused.Refused.{Refused}
 use Rattle.xh_history.specs.Histories.{FrontOf, History}
 use Rattle.xh_calls.specs.declared.call.Entry.{Entry}
@@ -70,7 +69,3 @@ seen_of parts a = record { table = parts.vaults; number = a.signs; fronts = a.va
 -- where the answer was NoSpace or Worn, the vault of the arena refused n bytes for this reason when this call asked it; for other reasons none was asked
 abbrev pub VaultRefuses : PartsOf → ℕ → ℕ → AccountOf → AccountOf → {A : Type 0} → Result A Refused → Type 0
 VaultRefuses parts arena n old new result = IfErr result (AsksVault parts arena n (seen_of parts old) (seen_of parts new))
-
--- the worker looked at the arena, entered its look in the arena's history, and was told what the ledger would say of it; and nothing else of the account changed
-abbrev pub TellsArena : PartsOf → ℕ → ArenaLine → AccountOf → AccountOf → Type 0
-TellsArena parts arena line old new = Tells parts arena (seen_of parts old) (seen_of parts new) line × (new ≡ record old { vaults = new.vaults })

@@ -43,3 +43,7 @@ Makes k e old new = Noted k e old.number old.fronts new.fronts × Moves e old ne
 -- it made the call, and this is what the call did to the place
 abbrev pub Calls : Leading → ℕ → Call → (PlaceSeen → PlaceSeen → Type 0) → AccountOf → AccountOf → Type 0
 Calls leads k e R old new = Makes k e old new × Steps leads k (at new.fronts k) R
+
+-- the same of a call that moves no bytes and asks no arena
+abbrev pub CallsStill : Leading → ℕ → Call → (PlaceSeen → PlaceSeen → Type 0) → AccountOf → AccountOf → Type 0
+CallsStill leads k e R old new = (Noted k e old.number old.fronts new.fronts × IsStill old new) × Steps leads k (at new.fronts k) R

@@ -11,7 +11,7 @@ use Rattle.xh_core.specs.Space.{rounded}
 use Rattle.xh_core.specs.declared.block.Block.{Block}
 use Rattle.xh_core.specs.declared.refused.Refused.{Refused}
 use Rattle.xh_kernel.specs.Accounts.{AccountOf, VaultRefuses}
-use Rattle.xh_kernel.specs.Calls.{Calls}
+use Rattle.xh_kernel.specs.Calls.{Calls, CallsStill}
 use Rattle.xh_model.specs.Words.{place_of}
 use Rattle.xh_place.specs.Calls.{Allocates, Closes, FreesBlock, GivesUp, HasBytes, Makes, Reads, Splits, Writes}
 use Rattle.xh_place.specs.Messages.{Gives, TakesAt}
@@ -34,10 +34,10 @@ abbrev pub DidSplit : Leading → (p r k : ℕ) → Result (Block × Block) Refu
 DidSplit leads p r k result = Calls leads (place_of p) (call.Split p r k result) (λ from to. Splits (status_at p from.place) r k from to result)
 
 abbrev pub DidRead : Leading → (p r i : ℕ) → List ℕ → Result (Unit {0}) Refused → AccountOf → AccountOf → Type 0
-DidRead leads p r i shown result = Calls leads (place_of p) (call.Read p r i shown result) (λ from to. Reads (status_at p from.place) r i shown from to result)
+DidRead leads p r i shown result = CallsStill leads (place_of p) (call.Read p r i shown result) (λ from to. Reads (status_at p from.place) r i shown from to result)
 
 abbrev pub DidWrite : Leading → (p r i : ℕ) → List ℕ → Result (Unit {0}) Refused → AccountOf → AccountOf → Type 0
-DidWrite leads p r i xs result = Calls leads (place_of p) (call.Write p r i xs result) (λ from to. Writes (status_at p from.place) r i xs from to result)
+DidWrite leads p r i xs result = CallsStill leads (place_of p) (call.Write p r i xs result) (λ from to. Writes (status_at p from.place) r i xs from to result)
 
 abbrev pub DidFree : Leading → (p r : ℕ) → Result ℕ Refused → AccountOf → AccountOf → Type 0
 DidFree leads p r result = Calls leads (place_of p) (call.Free p r result) (λ from to. FreesBlock (status_at p from.place) r from to result)
@@ -49,13 +49,13 @@ DidIntoBytes leads p r result = Calls leads (place_of p) (call.IntoBytes p r res
 -- ---- messages
 
 abbrev pub DidGive : Leading → (p e tag : ℕ) → List ℕ → Result ℕ Refused → AccountOf → AccountOf → Type 0
-DidGive leads p e tag given result = Calls leads (place_of p) (call.Give p e tag given result) (λ from to. Gives (status_at p from.place) e tag given from to result)
+DidGive leads p e tag given result = CallsStill leads (place_of p) (call.Give p e tag given result) (λ from to. Gives (status_at p from.place) e tag given from to result)
 
 abbrev pub DidTake : Leading → (p e : ℕ) → Result Taken Refused → AccountOf → AccountOf → Type 0
-DidTake leads p e result = Calls leads (place_of p) (call.Take p e result) (λ from to. TakesAt (status_at p from.place) e from to result)
+DidTake leads p e result = CallsStill leads (place_of p) (call.Take p e result) (λ from to. TakesAt (status_at p from.place) e from to result)
 
 abbrev pub DidTakeAny : Leading → ℕ → List ℕ → Result Answered Refused → AccountOf → AccountOf → Type 0
-DidTakeAny leads p ends result = Calls leads (place_of p) (call.TakeAny p ends result) (λ from to. TakesAny p ends from to result)
+DidTakeAny leads p ends result = CallsStill leads (place_of p) (call.TakeAny p ends result) (λ from to. TakesAny p ends from to result)
 
 -- so many bytes came back
 abbrev pub DidClose : Leading → (p e : ℕ) → Result ℕ Refused → AccountOf → AccountOf → Type 0

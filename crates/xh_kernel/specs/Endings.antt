@@ -6,7 +6,7 @@ use Rattle.xh_calls.specs.declared.call.Call.TheVariants as call
 use Rattle.xh_calls.specs.Leading.{Leading}
 use Rattle.xh_calls.specs.Places.{status_at}
 use Rattle.xh_kernel.specs.Accounts.{AccountOf}
-use Rattle.xh_kernel.specs.Calls.{Calls}
+use Rattle.xh_kernel.specs.Calls.{Calls, CallsStill}
 use Rattle.xh_model.specs.Words.{place_of}
 use Rattle.xh_place.specs.Calls.{Stops}
 
@@ -16,7 +16,7 @@ Exits leads p budget old new result = (bytes : ℕ) × Calls leads (place_of p) 
 -- the worker looked whether the process runs; where it doesn't, the refusal is the answer, and nothing else was done
 abbrev pub LooksFirst : Leading → ℕ → AccountOf → AccountOf → {A : Type 0} → Result A Refused → (AccountOf → Type 0) → Type 0
 LooksFirst leads p old new result next = (mid : AccountOf) × (looked : Result (Unit {0}) Refused)
-    × Calls leads (place_of p) (call.Look p looked) (λ from to. Looks p from to looked) old mid
+    × CallsStill leads (place_of p) (call.Look p looked) (λ from to. Looks p from to looked) old mid
     × MatchResult looked (λ _. next mid) (λ why. (result ≡ Err why) × (new ≡ mid))
 
 abbrev pub Kills : Leading → ℕ → ℕ → ℕ → AccountOf → AccountOf → Result ℕ Refused → Type 0

@@ -12,7 +12,7 @@ ghost use Rattle.xh_kernel.specs.Calls.{Calls};
 ghost use Rattle.xh_kernel.specs.Histories.{IsLaw};
 ghost use Rattle.xh_kernel.specs.inner.Making.{AreFirstSeats, ArePens, AreUnseen, IsFirstSeat};
 ghost use Rattle.xh_kernel.specs.Kept.{AreKept};
-ghost use Rattle.xh_kernel.specs.Looks.{HasGlanced, TellsPlace};
+ghost use Rattle.xh_kernel.specs.Looks.{HasGlanced};
 ghost use Rattle.xh_kernel.specs.Places.{places_of};
 ghost use Rattle.xh_kernel.specs.Waits.{SpawnsAt};
 ghost use Rattle.xh_model.specs.declared.limits.TheConstants.{MAX_ARENAS, PLACES};
@@ -27,13 +27,14 @@ mod memory;
 mod messages;
 
 use crate::account::Account;
-use crate::awaiting::Awaiting;
 use crate::finishing::{Finished, compare};
 use crate::held::Held;
-use crate::looking::Waits;
+use crate::looking::{Waits, bell_of};
+use crate::overview::Awaited;
 use crate::parts::{Look, Parts};
 use crate::scribe::Scribe;
 use crate::shared::Shared;
+use crate::until::Until;
 use crate::words::{Glances, unpack};
 use crossbeam_utils::CachePadded;
 use std::alloc::{AllocError, Global};
@@ -173,7 +174,6 @@ impl<N: Names> Kernel<N> {
         ensures looks { IfOk result (λ r. (vec_len r.2 ≡ parts.workers) × All (λ l. l ≡ fresh_look N.parts.histories) r.2.items) }
         ensures refused { IfErr result (λ e. e ≡ Refused.OutOfMemory) }
     {
-        let awaiting = Awaiting::new(alloc)?;
         let records = parts.records;
         let places = lock_places(alloc, &records, parts.seats, parts.pens)?;
         let accounts = name_accounts(alloc, parts.bundles, parts.fronts, parts.seen)?;
@@ -190,7 +190,7 @@ impl<N: Names> Kernel<N> {
         let shared = Shared {
             heap,
             histories,
-            awaiting,
+            awaiting: Default::default(),
         };
         Ok((Kernel { shared, places }, accounts, parts.looks))
     }
@@ -257,13 +257,17 @@ impl<N: Names> Kernel<N> {
         Ok(unpack(place, self.shared.histories.look(look, place)))
     }
 
-    /// As `glance`, by what the worker of the account has seen.
-    pub fn glance_by(&self, place: u8, account: &mut Account<N>) -> Glance
-        requires { place < PLACES }
-        ensures { TellsPlace place result account.old account.new }
-    {
-        let histories = &self.shared.histories;
-        unpack(place, histories.look_by(&mut account.front, place))
+    // Sleeps until what the process awaits may be there, or the time is past. Meanwhile it can be seen what that is, by the latest
+    // of its threads that sleep.
+    fn sleep<R: Wait, U: Until<R>>(&self, rt: &R, until: &U, p: u16, awaited: Awaited, seen: u64) {
+        let Shared { heap, awaiting, .. } = &self.shared;
+        let (cell, told) = (&awaiting[usize::from(bell_of(p))], Some((p, awaited)));
+        cell.store(rt, told);
+        match awaited {
+            Awaited::Message(spot) => until.sleep(rt, &heap.channels, spot, seen),
+            _ => until.sleep_at(rt, &heap.channels, bell_of(p), seen),
+        }
+        let _if_still_told: Result<_, _> = cell.compare_exchange(rt, told, None);
     }
 
     /// Lets the kernel go where a run fails, with all that its locks keep. Its books stay unclosed.

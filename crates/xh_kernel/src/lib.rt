@@ -2,11 +2,11 @@
 #![tactic(auto)]
 
 mod account;
-mod awaiting;
 mod finishing;
 mod held;
 mod kernel;
 mod looking;
+mod overview;
 mod parts;
 mod scribe;
 mod shared;
@@ -14,11 +14,12 @@ mod until;
 mod words;
 
 pub use account::Account;
-pub use awaiting::Awaited;
 pub use finishing::Finished;
 pub use kernel::{Kernel, Settled};
+pub use overview::{Awaited, Overview, Seen, write_arenas, write_place};
 pub use parts::{Look, Parts};
 pub use words::Glances;
 pub use xh_calls::{Answered, Call, Entry, MAX_ENDS, Names};
+pub use xh_channel::Spot;
 pub use xh_core::Block;
 pub use xh_place::{Gate, Got, OpenGate, Point, Taken};

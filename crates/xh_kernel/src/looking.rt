@@ -74,7 +74,7 @@ impl<N: Names> Held<N> {
         self.place.spot(&shared.heap.records, e)
     }
 
-    // A message of the endpoint.
+    // A message of the endpoint. The answer has 160 bytes, and is written where its caller keeps it.
     #[inline(always)]
     pub(crate) fn take<R: Wait, G: Gate>(
         &mut self,
@@ -82,18 +82,18 @@ impl<N: Names> Held<N> {
         shared: &Shared<N>,
         p: u16,
         e: u16,
+        answer: &mut Result<Taken, Refused>,
         account: &mut Account<N>,
         gate: &G,
-    ) -> Result<Taken, Refused>
+    )
         requires { self.old.scribe.pen.number ≡ place_of p }
-        ensures call { DidTake N.leads p e result account.old account.new }
-        ensures empty { IfErr result (λ why. why ≡ Refused.Empty → (first_refusal (start (status_at p self.old.place.place)) ≡ None) × (has_end (found self.old.place.place e) ≡ true)) }
+        ensures call { DidTake N.leads p e answer.new account.old account.new }
+        ensures empty { IfErr answer.new (λ why. why ≡ Refused.Empty → (first_refusal (start (status_at p self.old.place.place)) ≡ None) × (has_end (found self.old.place.place e) ≡ true)) }
     {
-        let answer = shared.heap.take(rt, &mut self.place, p, e, gate);
-        let about = (p, e, &answer);
+        *answer = shared.heap.take(rt, &mut self.place, p, e, gate);
+        let about = (p, e, &*answer);
         self.scribe
             .note(shared, &self.place, &mut account.front, &about, false);
-        answer
     }
 
     // Where the process waits at the endpoint, if it runs and has it, and the turn there. A process that has ended leaves what
@@ -123,23 +123,22 @@ impl<N: Names> Held<N> {
         shared: &Shared<N>,
         p: u16,
         e: u16,
+        answer: &mut Result<Taken, Refused>,
         account: &mut Account<N>,
         gate: &G,
-    ) -> (Result<Taken, Refused>, Option<(Spot, u64)>)
+    ) -> Option<(Spot, u64)>
         requires { self.old.scribe.pen.number ≡ place_of p }
-        ensures call { DidTake N.leads p e result.0 account.old account.new }
-        ensures vain { MatchOption result.1 (IfErr result.0 (λ why. why ≢ Refused.Empty)) (λ _. result.0 ≡ Err Refused.Empty) }
+        ensures call { DidTake N.leads p e answer.new account.old account.new }
+        ensures vain { MatchOption result (IfErr answer.new (λ why. why ≢ Refused.Empty)) (λ _. answer.new ≡ Err Refused.Empty) }
     {
         let turn = self.turn_at(rt, shared, p, e);
-        let answer = self.take(rt, shared, p, e, account, gate);
-        let Some((spot, seen)) = turn else {
-            return (answer, None);
-        };
-        if !is_empty(&answer) {
-            return (answer, None);
+        self.take(rt, shared, p, e, answer, account, gate);
+        let (spot, seen) = turn?;
+        if !is_empty(answer) {
+            return None;
         }
         self.waits.at = Some(spot);
-        (answer, Some((spot, seen)))
+        Some((spot, seen))
     }
 
     // A message of the first of the endpoints that has one.

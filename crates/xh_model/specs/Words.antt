@@ -53,24 +53,26 @@ record_of (Vacate p r) = r
 record_of (Pass p r d) = r
 record_of (Accept p r d) = r
 
--- its holder before the event, and after it
+-- the process of an event
+abbrev pub process_of : Event → ℕ
+process_of (Claim p r) = p
+process_of (Carve p r n) = p
+process_of (Cut p r t k) = p
+process_of (GiveBack p r) = p
+process_of (Vacate p r) = p
+process_of (Pass p r d) = p
+process_of (Accept p r d) = p
+
+-- who holds the record before the event, and after it
 abbrev pub from_of : Event → Option Holder
 from_of (Claim p r) = None
-from_of (Carve p r n) = Some (Process p)
-from_of (Cut p r t k) = Some (Process p)
-from_of (GiveBack p r) = Some (Process p)
-from_of (Vacate p r) = Some (Process p)
-from_of (Pass p r d) = Some (Process p)
 from_of (Accept p r d) = Some (Direction d)
+from_of e = Some (Process (process_of e))
 
 abbrev pub to_of : Event → Option Holder
-to_of (Claim p r) = Some (Process p)
-to_of (Carve p r n) = Some (Process p)
-to_of (Cut p r t k) = Some (Process p)
-to_of (GiveBack p r) = Some (Process p)
 to_of (Vacate p r) = None
 to_of (Pass p r d) = Some (Direction d)
-to_of (Accept p r d) = Some (Process p)
+to_of e = Some (Process (process_of e))
 
 -- with n records in an arena, the event is done on who holds which
 abbrev pub IsDone : ℕ → Ownership → Event → Ownership → Type 0

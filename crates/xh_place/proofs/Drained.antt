@@ -2,8 +2,8 @@
 use Rattle.xh_place.specs.Seen.{Sight, bears, brings}
 use Rattle.xh_place.proofs.Words.{on_err_weaker, ◌≡◌, ℕ, ◌≤◌, inl, inr, List, [], ◌∷◌, ◌++◌, append_assoc, append-nil, length, refl, sym, ap, ◌∙◌, subst, Some, None, Option, Ok, Err, Result}
 use Rattle.xh_place.proofs.Words.{MatchResult, map, map-append, Message, EndpointOf, Refused, put, value_at, front_at, put_at, put_same, put_twice, Content, bytes, endpoint, kind_of, toward, Taken}
-use Rattle.xh_place.proofs.Words.{AreGot, Body, EndsWith, Event, IsDrained, EndpointShuts, Got, Shape, StartsWith, EndpointTakes, TakesEach, blocks_of, record_of, EndDoes, end_block, toward_in}
-use Rattle.xh_place.proofs.Words.{away_in, Clears}
+use Rattle.xh_place.proofs.Words.{AreGot, Body, EndsWith, Event, IsDrained, EndpointShuts, Got, Shape, StartsWith, EndpointTakes, TakesEach, flat_map, record_of, EndDoes, end_block, toward_in}
+use Rattle.xh_place.proofs.Words.{AreFetched, Clears, away, suc, ⊎_elim}
 use Rattle.xh_place.proofs.Words.{Becomes, Did, Drains, IsUntaken, IsSeenAfter, IsSent, IsTaken, Item, PlaceOf, with_blocks, with_more, IsSeen, PlaceSeen, Stays, accepted_on, passed_on, picked}
 use Rattle.xh_place.proofs.Words.{true, false, ◌+◌, arith, Bool, IfErr, MatchBool, MatchOption, Status, Running, end_tests, first_refusal, found_at, header_of, option_map, start}
 use Rattle.std.proofs.Common.{is_some, length-append}
@@ -19,7 +19,7 @@ use Rattle.xh_core.specs.Headers.{has_end, is_data}
 use Rattle.xh_core.specs.declared.header.Kind.{Kind}
 use Rattle.xh_core.specs.declared.refused.Refused.TheVariants.{Empty, NotEndpoint}
 use Rattle.xh_place.specs.Messages.{TakesAt}
-use Rattle.xh_place.proofs.Seeing.{all_got_as, arrived_wide, did_more, did_none, did_starts, got_both, seen_wide, starts_more, starts_same}
+use Rattle.xh_place.proofs.Seeing.{all_fetched_as, all_got_as, arrived_wide, did_more, did_none, did_starts, fetched, got_both, seen_wide, starts_more, starts_same}
 use Rattle.xh_place.proofs.Events.{more_none, more_twice, stays_again, stays_then}
 use Rattle.xh_core.specs.declared.header.Kind.TheVariants as kind
 
@@ -63,13 +63,18 @@ each_way : (ms : List Message) (old new : EndpointOf) → TakesEach ms old new �
 each_way [] old new each = ap (λ (p : EndpointOf). toward (endpoint p)) each
 each_way (m ∷ ms) old new each = each_way ms each.0 new each.2 ∙ way_taken m old each.0 each.1
 
-blocks_more : (ms : List Message) (m : Message) → blocks_of (ms ++ m ∷ []) ≡ blocks_of ms ++ m.blocks.items
+-- where it has taken these, after n others, and then ends so
+drained_of : (n : ℕ) (ms : List Message) (old last new : EndpointOf) → TakesEach ms old last → IsDrained (n + length ms) [] last new → IsDrained n ms old new
+drained_of n [] old last new each end = subst (λ (p : EndpointOf). IsDrained n [] p new) each (⊎_elim inl (λ h. inr (omega (arith, h.0), h.1, h.2)) end)
+drained_of n (m ∷ ms) old last new each end = (each.0, each.1, drained_of (suc n) ms each.0 last new each.2 (⊎_elim inl (λ h. inr (omega (arith, h.0), h.1, h.2)) end))
+
+blocks_more : (ms : List Message) (m : Message) → flat_map (λ (m : Message). m.blocks.items) (ms ++ m ∷ []) ≡ flat_map (λ (m : Message). m.blocks.items) ms ++ m.blocks.items
 blocks_more [] m = append-nil m.blocks.items
-blocks_more (n ∷ ms) m = ap (λ (l : List ℕ). n.blocks.items ++ l) (blocks_more ms m) ∙ sym (append_assoc n.blocks.items (blocks_of ms) m.blocks.items)
+blocks_more (n ∷ ms) m = ap (λ (l : List ℕ). n.blocks.items ++ l) (blocks_more ms m) ∙ sym (append_assoc n.blocks.items (flat_map (λ (m : Message). m.blocks.items) ms) m.blocks.items)
 
 -- until now the endpoint took these messages, and these came with them, to the end of the list
 abbrev pub Draining : (ℕ → Sight → Type 0) → ℕ → List Message → List (ℕ × Item) → PlaceOf → PlaceOf → Type 0
-Draining saw e ms ys old new = (mid : PlaceOf) × (gots : List Got) × EndDoes e old mid (TakesEach ms) × (map record_of gots ≡ blocks_of ms)
+Draining saw e ms ys old new = (mid : PlaceOf) × (gots : List Got) × EndDoes e old mid (TakesEach ms) × (map record_of gots ≡ flat_map (λ (m : Message). m.blocks.items) ms)
     × AreGot saw (toward_in (value_at e old.blocks)) ys gots × (new ≡ with_more ys mid)
 
 pub draining_none : (saw : ℕ → Sight → Type 0) (e : ℕ) (p : EndpointOf) (old : PlaceOf) → value_at e old.blocks ≡ Some (end_block p) → put e (end_block p) old.blocks ≡ old.blocks
@@ -111,8 +116,8 @@ module _ (saw : ℕ → Sight → Type 0) (e : ℕ) (ms : List Message) (ys : Li
   same_after : (p : EndpointOf) → value_at e mid.blocks ≡ Some (end_block p) → p ≡ after
   same_after p at = one_end p after (sym at ∙ draining_at)
 
-  pub draining_more : (next new : PlaceOf) (m : Message) (zs : List (ℕ × Item)) (gots : List Got) → EndDoes e mid next (EndpointTakes (Ok m)) → map record_of gots ≡ m.blocks.items
-      → AreGot saw (toward_in (value_at e mid.blocks)) zs gots → new ≡ with_more zs next → Draining saw e (ms ++ m ∷ []) (ys ++ zs) old new
+  pub draining_more : (next new : PlaceOf) (m : Message) (zs : List (ℕ × Item)) (gots : List Got) (does : EndDoes e mid next (EndpointTakes (Ok m))) → map record_of gots ≡ m.blocks.items
+      → AreGot saw (toward (endpoint does.0)) zs gots → new ≡ with_more zs next → Draining saw e (ms ++ m ∷ []) (ys ++ zs) old new
   draining_more next new m zs gots does records got list =
       let q : EndpointOf = does.1 in
       let one : EndpointTakes (Ok m) after q = subst (λ (p : EndpointOf). EndpointTakes (Ok m) p q) (same_after does.0 does.2) does.4 in
@@ -121,7 +126,7 @@ module _ (saw : ℕ → Sight → Type 0) (e : ℕ) (ms : List Message) (ys : Li
         is.1 ++ gots,
         (before, q, is.2.2, refl, each_more ms m before after q is.2.4 one),
         map-append record_of is.1 gots ∙ (λ i. is.3 i ++ records i) ∙ sym (blocks_more ms m),
-        got_both saw d ys zs is.1 gots is.4 (subst (λ (n : ℕ). AreGot saw n zs gots) draining_way got),
+        got_both saw d ys zs is.1 gots is.4 (subst (λ (n : ℕ). AreGot saw n zs gots) (sym (ap toward_in does.2) ∙ draining_way) got),
         list ∙ ap (with_more zs) (does.3 ∙ draining_put q) ∙ more_twice ys zs base,
       )
 
@@ -129,10 +134,10 @@ module _ (saw : ℕ → Sight → Type 0) (e : ℕ) (ms : List Message) (ys : Li
   drained new refused t =
       let does = t.1 in let q : EndpointOf = does.1 in
       let one : EndpointTakes (Err t.0) after q = subst (λ (p : EndpointOf). EndpointTakes (Err t.0) p q) (same_after does.0 does.2) does.4 in
-      (with_blocks old (put e (end_block q) old.blocks), ms, is.1, (before, q, is.2.2, refl, (after, is.2.4, inl (t.0, one))), is.3, is.4, does.3 ∙ draining_put q)
+      (with_blocks old (put e (end_block q) old.blocks), ms, is.1, (before, q, is.2.2, refl, drained_of 0 ms before after q is.2.4 (inl (t.0, one))), is.3, is.4, does.3 ∙ draining_put q)
 
   pub drained_all : 18446744073709551615 ≤ length ms → Drains saw e ys old mid
-  drained_all all = (is.0, ms, is.1, (before, after, is.2.2, is.2.3, (after, is.2.4, inr (all, refl, each_many ms before after is.2.4 all))), is.3, is.4, is.5)
+  drained_all all = (is.0, ms, is.1, (before, after, is.2.2, is.2.3, drained_of 0 ms before after after is.2.4 (inr (omega (arith, all), refl, each_many ms before after is.2.4 all))), is.3, is.4, is.5)
 
 -- it was shut before
 pub cleared : (saw : ℕ → Sight → Type 0) (r : ℕ) (ys : List (ℕ × Item)) (old mid new : PlaceOf) → EndDoes r old mid EndpointShuts → Drains saw r ys mid new
@@ -141,7 +146,7 @@ cleared saw r ys old mid new shut drain =
     let p : EndpointOf = shut.0 in let s : EndpointOf = shut.1 in let does = drain.3 in let q : EndpointOf = does.1 in let ms : List Message = drain.1 in
     let at : value_at r mid.blocks ≡ Some (end_block s) = ap (λ (z : PlaceOf). value_at r z.blocks) shut.3 ∙ put_at r (end_block s) (end_block p) old.blocks shut.2 in
     let one : does.0 ≡ s = one_end does.0 s (sym does.2 ∙ at) in
-    let drained' : IsDrained ms s q = subst (λ (z : EndpointOf). IsDrained ms z q) one does.4 in
+    let drained' : IsDrained 0 ms s q = subst (λ (z : EndpointOf). IsDrained 0 ms z q) one does.4 in
     let turned : toward_in (value_at r mid.blocks) ≡ toward (endpoint p) = ap toward_in at ∙ way_shut p s shut.4 in
     let base : drain.0 ≡ with_blocks old (put r (end_block q) old.blocks) =
     does.3 ∙ ap (λ (z : PlaceOf). with_blocks z (put r (end_block q) z.blocks)) shut.3 ∙ ap (with_blocks old) (put_twice r (end_block q) (end_block s) old.blocks) in (
@@ -150,7 +155,7 @@ cleared saw r ys old mid new shut drain =
         end_block q,
         shut.2,
         refl,
-        (ms, s, q, drain.2, shut.4, drained', drain.4, subst (λ (n : ℕ). AreGot saw n ys drain.2) turned drain.5),
+        (ms, s, q, shut.4, drained', subst (λ (z : ℕ × List ℕ). AreFetched saw z.0 z.1 ys) (λ i. (turned i, drain.4 i)) (fetched saw (toward_in (value_at r mid.blocks)) ys drain.2 drain.5)),
         drain.6 ∙ ap (with_more ys) base,
       ),
       turned ∙ sym (ap toward_in shut.2),
@@ -172,22 +177,26 @@ cleared_bytes saw r x old new at plain same = (
 
 -- ---- a call that did its tests before, which looked only
 
+-- the endpoint is the same
+abbrev did_from : (e : ℕ) (p q next : PlaceOf) (does : EndpointOf → EndpointOf → Type 0) → p ≡ q → EndDoes e p next does → EndDoes e q next does
+did_from e p q next does same is =
+    (is.0, is.1, ap (λ (z : PlaceOf). value_at e z.blocks) (sym same) ∙ is.2, is.3 ∙ ap (λ (z : PlaceOf). with_blocks z (put e (end_block is.1) z.blocks)) same, is.4)
+
 pub taken_from : (e : ℕ) (old mid new : PlaceSeen) (result : Result Taken Refused) → Stays old mid
     → MatchResult result (IsTaken e mid new) (λ refused. IsUntaken e mid.place new.place refused × (new.front ≡ mid.front))
     → MatchResult result (IsTaken e old new) (λ refused. IsUntaken e old.place new.place refused × Did old.place.process [] old.front new.front)
 taken_from e old mid new (Ok taken) same is =
     let shape : mid.place.shape ≡ old.place.shape = ap (λ (p : PlaceOf). p.shape) same.0 in
-    let way : toward_in (value_at e mid.place.blocks) ≡ toward_in (value_at e old.place.blocks) = ap (λ (p : PlaceOf). toward_in (value_at e p.blocks)) same.0 in
     let wide = seen_wide mid new old new shape (ap (λ (p : PlaceOf). p.process) same.0) (did_starts old.place.process [] old.front mid.front same.1) (starts_same refl) in
-    let d : ℕ = toward_in (value_at e mid.place.blocks) in record {
+    let d : ℕ = toward (endpoint is.made.0) in record {
       mid = is.mid;
       m = is.m;
       gained = is.gained;
-      made = subst (λ (p : PlaceOf). EndDoes e p is.mid (EndpointTakes (Ok is.m))) same.0 is.made;
+      made = did_from e mid.place old.place is.mid (EndpointTakes (Ok is.m)) same.0 is.made;
       told = is.told;
-      list = stays_then (with_more is.gained is.mid) (accepted_on old.place.process (toward_in (value_at e old.place.blocks)) is.gained) old mid new same
-          (subst (λ (p : PlaceOf). Becomes (with_more is.gained is.mid) (accepted_on p.process (toward_in (value_at e p.blocks)) is.gained) mid new) same.0 is.list);
-      got = subst (λ (n : ℕ). AreGot (IsSeen old new) n is.gained taken.blocks.items) way (all_got_as (IsSeen mid new) (IsSeen old new) wide d is.gained taken.blocks.items is.got);
+      list = stays_then (with_more is.gained is.mid) (accepted_on old.place.process d is.gained) old mid new same
+          (subst (λ (p : PlaceOf). Becomes (with_more is.gained is.mid) (accepted_on p.process d is.gained) mid new) same.0 is.list);
+      got = all_got_as (IsSeen mid new) (IsSeen old new) wide d is.gained taken.blocks.items is.got;
     }
 taken_from e old mid new (Err refused) same is = (
   subst (λ (p : PlaceOf). IsUntaken e p new.place refused) same.0 is.0,
@@ -234,7 +243,7 @@ pub sent_from : (e tag : ℕ) (given : List ℕ) (old mid new : PlaceSeen) (resu
 sent_from e tag given old mid new result same is =
     let before = did_starts old.place.process [] old.front mid.front same.1 in
     let q : PlaceSeen = record { place = mid.place; front = old.front } in
-    let d : ℕ = away_in (value_at e mid.place.blocks) in
+    let d : ℕ = away (endpoint is.made.0) in
     let p : ℕ = mid.place.process in
     let log : List (Event × Item) = passed_on p d (picked given is.mid.blocks) ++ accepted_on p d is.back in
     subst (λ (z : PlaceOf). IsSent e tag given (record { place = z; front = old.front }) new result) same.0 (record {
@@ -243,12 +252,8 @@ sent_from e tag given old mid new result same is =
       back = is.back;
       made = is.made;
       moved = (is.moved.0, did_more p [] log old.front mid.front new.front (subst (λ (n : PlaceOf). Did n.process [] old.front mid.front) (sym same.0) same.1) is.moved.1);
-      seen = on_err_weaker is.answered (λ h. (
-        h.0,
-        h.1,
-        all_got_as (IsSeenAfter d p mid.place.shape mid.front new.front) (IsSeenAfter d p mid.place.shape old.front new.front)
-            (after_wide d p mid.place.shape before) d is.back h.0 h.2,
-      )) is.seen;
+      seen = on_err_weaker is.answered (all_fetched_as (IsSeenAfter d p mid.place.shape mid.front new.front) (IsSeenAfter d p mid.place.shape old.front new.front)
+          (after_wide d p mid.place.shape before) d given is.back) is.seen;
       answer = is.answer;
     }) where
       after_wide : (d p : ℕ) (s : Shape) → StartsWith mid.front old.front → (r : ℕ) (w : Sight) → IsSeenAfter d p s mid.front new.front r w → IsSeenAfter d p s old.front new.front r w

@@ -1,9 +1,9 @@
 -- What was seen stays seen, and a word that was seen between two fronts was seen between wider ones.
 use Rattle.xh_place.proofs.Words.{◌≡◌, ℕ, ⊎_elim, inl, inr, List, [], ◌∷◌, ◌++◌, append_assoc, append-nil, refl, sym, ap, ◌∙◌, subst, Event, Among, value_at, Shape}
-use Rattle.xh_place.proofs.Words.{StartsWith, Held, IsRecord, HasSeen, Body, Got, Content, bytes, endpoint, toward, AreEnded, IsSwept, AreGot, Did, map, map-append}
+use Rattle.xh_place.proofs.Words.{StartsWith, Held, IsRecord, HasSeen, Body, Got, Content, bytes, endpoint, toward, IsSwept, Sweeps, AreFetched, drop, suc, zero, AreGot, Did, Message, flat_map, map, map-append}
 use Rattle.xh_place.proofs.Words.{EndsWith, toward_in, Clears, Drains, Item, PlaceOf, Status, IsElsewhere, IsSeen, PlaceSeen, SawAt, SawFull, SawWord}
 use Rattle.xh_place.proofs.Words.{Accept, LotOf, dite, here_first, item_of, not_here, place_of, record_of, ℕ_discrete}
-use Rattle.xh_records.specs.History.{process_of}
+use Rattle.xh_model.specs.Words.{process_of}
 use Rattle.xh_records.specs.Deeds.{Adds, deeds_by}
 use Rattle.xh_records.proofs.Deeds.{deeds_append}
 use Rattle.xh_place.specs.Seen.{Arrived, Sight, bears, brings}
@@ -99,25 +99,22 @@ module _ (P Q : ℕ → Sight → Type 0) (f : (r : ℕ) (s : Sight) → P r s �
   all_got_as d ys (Here block kind ∷ gots) h = (h.0, h.1, h.2, h.3, f block.rec (brings d h.0) h.4, all_got_as d h.1 gots h.5)
   all_got_as d ys (Missing r word ∷ gots) h = (h.0, f r (bears word) h.1, all_got_as d ys gots h.2)
 
+  pub all_fetched_as : (d : ℕ) (rs : List ℕ) (ys : List (ℕ × Item)) → AreFetched P d rs ys → AreFetched Q d rs ys
+  all_fetched_as d [] ys h = h
+  all_fetched_as d (r ∷ rs) ys h =
+      ⊎_elim (λ t. inl (t.0, t.1, t.2, f r (brings d t.0) t.3, all_fetched_as d rs t.1 t.4)) (λ t. inr (t.0, t.1, f r (bears t.0) t.2, all_fetched_as d rs ys t.3)) h
+
   pub ends_as : (c : Content) (came : List (ℕ × Item)) → EndsWith P c came → EndsWith Q c came
   ends_as (bytes xs) came h = h
-  ends_as (endpoint e) came h = (h.0, h.1, h.2, h.3, h.4, h.5, h.6, all_got_as (toward (endpoint e)) came h.3 h.7)
+  ends_as (endpoint e) came h = (h.0, h.1, h.2, h.3, h.4, all_fetched_as (toward (endpoint e)) (flat_map (λ (m : Message). m.blocks.items) h.0) came h.5)
 
-  ended_as : (p : ℕ) (gone accepted : List (ℕ × Item)) (log : List (Event × Item)) → AreEnded P p gone accepted log → AreEnded Q p gone accepted log
-  ended_as p [] accepted log h = h
-  ended_as p (y ∷ ys) accepted log h = (h.0, h.1, h.2, h.3, h.4, ends_as y.1.content h.0 h.5, ended_as p ys h.1 h.2 h.6)
+  sweeps_as : (p budget : ℕ) (xs left : List (ℕ × Item)) (n : ℕ) (log : List (Event × Item)) → Sweeps P p budget xs left n log → Sweeps Q p budget xs left n log
+  sweeps_as p zero xs left n log h = h
+  sweeps_as p (suc budget) [] left n log h = h
+  sweeps_as p (suc budget) (y ∷ ys) left n log h = (h.0, h.1, h.2, ends_as y.1.content h.0 h.3, h.4, h.5, sweeps_as p budget (ys ++ h.0) left h.1 h.2 h.6)
 
   pub swept_as : (from budget : ℕ) (old new : PlaceOf) (n : ℕ) (log : List (Event × Item)) → IsSwept P from budget old new n log → IsSwept Q from budget old new n log
-  swept_as from budget old new n log h = record {
-    count = h.count;
-    accepted = h.accepted;
-    there = h.there;
-    list = h.list;
-    ended = ended_as old.process _ h.accepted log h.ended;
-    sum = h.sum;
-    within = h.within;
-    more = h.more;
-  }
+  swept_as from budget old new n log h = (h.0, sweeps_as old.process budget (drop from old.blocks) h.0 n log h.1, h.2)
 
   pub drains_as : (e : ℕ) (ys : List (ℕ × Item)) (old new : PlaceOf) → Drains P e ys old new → Drains Q e ys old new
   drains_as e ys old new h = (h.0, h.1, h.2, h.3, h.4, all_got_as (toward_in (value_at e old.blocks)) ys h.2 h.5, h.6)
@@ -169,6 +166,12 @@ module _ (seat : Held Body) {xs : List (ℕ × Item)} {state : Status} {p : Plac
 -- ---- what a take gained, block by block
 
 module _ (saw : ℕ → Sight → Type 0) where
+  -- where it isn't told what came
+  pub fetched : (d : ℕ) (ys : List (ℕ × Item)) (gots : List Got) → AreGot saw d ys gots → AreFetched saw d (map record_of gots) ys
+  fetched d ys [] h = h
+  fetched d ys (Here block kind ∷ gots) h = inl (h.0, h.1, h.2, h.4, fetched d h.1 gots h.5)
+  fetched d ys (Missing r word ∷ gots) h = inr (word, h.0, h.1, fetched d ys gots h.2)
+
   pub got_both : (d : ℕ) (ys zs : List (ℕ × Item)) (gots more : List Got) → AreGot saw d ys gots → AreGot saw d zs more → AreGot saw d (ys ++ zs) (gots ++ more)
   got_both d ys zs [] more all two = subst (λ (l : List (ℕ × Item)). AreGot saw d (l ++ zs) more) (sym all) two
   got_both d ys zs (Here block kind ∷ gots) more h two =

@@ -1,6 +1,7 @@
--- What a give or a take says of a place leaves it the same place.
+-- What a give, a take, a close or a stop says of a place leaves it the same place.
 use Rattle.xh_place.proofs.Words.{◌≡◌, ℕ, List, ◌++◌, Bool, None, Some, Option, Ok, Err, Result, Refused, MatchOption, MatchResult, ap, ◌∙◌, is_some, value_at, Event, Item, PlaceOf, Becomes}
-use Rattle.xh_place.proofs.Words.{Did, IsSamePlace, IsSent, IsTaken, IsUntaken, PlaceSeen, RefusedOr, Status, Stays, Taken, [], end_tests, first_refusal, found_at, given_tests, start}
+use Rattle.xh_place.proofs.Words.{Did, IsSamePlace, IsSent, IsTaken, IsUntaken, PlaceSeen, RefusedOr, Status, Stays, Taken, [], end_tests, first_refusal, found_at, given_tests, refl, start, stop}
+use Rattle.xh_place.specs.Calls.{Closes, Stops}
 use Rattle.xh_place.specs.Messages.{Gives, TakesAt}
 use Rattle.xh_place.proofs.Events.{stays_same}
 use Rattle.xh_place.proofs.Seeing.{did_starts}
@@ -30,3 +31,11 @@ took_same status e old new result h =
       go (Ok taken) is = becomes_as _ _ old new is.list (ap (λ (z : PlaceOf). z.table) is.made.3) (ap (λ (z : PlaceOf). z.shape) is.made.3) (ap (λ (z : PlaceOf). z.process) is.made.3)
       go (Err refused) is = let q = is.0.1.3 in
           (ap (λ (z : PlaceOf). z.table) q, ap (λ (z : PlaceOf). z.shape) q, ap (λ (z : PlaceOf). z.process) q, did_starts old.place.process [] old.front new.front is.1)
+
+pub stopped_same : (status : Status) (budget back : ℕ) (old new : PlaceSeen) (result : Result ℕ Refused) → Stops status budget back old new result → IsSamePlace old new
+stopped_same status budget back old new result h =
+    either_way (stop status) result _ _ (λ s. stays_same old new s.0) (λ is. becomes_as _ _ old new is.2 refl refl refl) h
+
+pub closed_same : (status : Status) (e back : ℕ) (old new : PlaceSeen) (result : Result ℕ Refused) → Closes status e back old new result → IsSamePlace old new
+closed_same status e back old new result h = either_way (start status ++ end_tests (found_at old.place e)) result _ _ (λ s. stays_same old new s.0)
+    (λ is. becomes_as _ _ old new is.5 refl refl refl) h

@@ -1,42 +1,50 @@
 -- Sweeps one after another, what a worker gave back, and how far a process has come before a sweep and after it.
 use Rattle.xh_place.specs.Seen.{Sight}
 use Rattle.xh_place.proofs.Words.{◌≡◌, ℕ, zero, suc, ◌+◌, ◌-◌, ◌<◌, ◌≤◌, inl, inr, List, [], ◌∷◌, ◌++◌, length, take, drop, length-append, refl, sym, ap, ◌∙◌, subst, arith}
-use Rattle.xh_place.proofs.Words.{take-append-drop, Option, None, Result, Err, MatchOption, TallyOf, Refused, reclaimed, Tests, first_refusal, Status, Ending, Ended, true, MAX_BUDGET, is_over}
-use Rattle.xh_place.proofs.Words.{HasGivenBack, IsSwept, ending, RefusedOr, ending_again, Item, PlaceOf, total_of, with_list, with_more, vacated}
-use Rattle.xh_place.proofs.Words.{append_assoc, append-nil, Some}
-use Rattle.xh_place.proofs.Words.{drop-append-le, drop_at, drop-drop, length-drop, length-take-le, take-append-le, take_at, Event, nat_tests, Among, Distinct, keys, put, value_at, without}
-use Rattle.xh_place.proofs.Words.{keys_append, absent, here_first, not_here, put_keys, put_without, toward, accepted_on, AreEnded, EndsWith, Clears, gave}
+use Rattle.xh_place.proofs.Words.{take-append-drop, Option, None, Result, Err, MatchOption, TallyOf, Refused, reclaimed, Tests, first_refusal, Status, Ending, Ended, Vacant, ◌≢◌, true, MAX_BUDGET, is_over}
+use Rattle.xh_place.proofs.Words.{HasGivenBack, IsSwept, RefusedOr, ending_again, Item, PlaceOf, total_of, with_list, with_more, vacated}
+use Rattle.xh_place.proofs.Words.{append_assoc, Some}
+use Rattle.xh_place.proofs.Words.{drop-append-le, drop_at, length-take-le, take-append-le, take_at, Event, nat_tests, Among, Distinct, keys, put, value_at, without}
+use Rattle.xh_place.proofs.Words.{keys_append, absent, here_first, not_here, put_keys, put_without, toward, accepted_on, EndsWith, Clears, Sweeps, gave, ⊎_elim, ◌⊎◌}
 use Rattle.xh_place.proofs.Counted.{none_back}
 use Rattle.xh_arena.specs.Views.{VaultOf}
 use Rattle.xh_place.specs.Vaults.{AsksEach, BringsBack}
-use Rattle.std.proofs.Math.Seq.{drop-append_seam, take-append_seam, take-add}
+use Rattle.std.proofs.Math.Seq.{drop-append_seam, take-append_seam}
 use Rattle.xh_place.proofs.Words.{toward_in}
-use Rattle.xh_place.proofs.Listing.{total_both, total_last, total_put}
+use Rattle.xh_place.proofs.Listing.{total_both, total_put}
 
 again_same : (state : Status) (xs : List (ℕ × Item)) → (is_over state ≡ true → xs ≡ []) → ending_again state (length xs) ≡ state
 again_same Ended xs none = ap (λ (l : List (ℕ × Item)). ending_again Ended (length l)) (none refl)
 again_same s xs none = refl
 
+-- it is over again where nothing is left
+pub again_over : (state : Status) (left : ℕ) (xs : List (ℕ × Item)) → state ≢ Vacant → left ≡ length xs - 0 → is_over (ending_again state left) ≡ true → xs ≡ []
+again_over Vacant left xs some long over = absurd (some refl)
+again_over Ended zero [] some long over = refl
+again_over Ended zero (x ∷ xs) some long over = absurd (omega (arith, long))
+again_over Ended (suc left) xs some long over =
+    let e : ending_again Ended (suc left) ≡ Ending = grind (arith, nat_tests) in let bad : is_over Ending ≡ true = ap is_over (sym e) ∙ over in absurd (cc)
+again_over s left xs some long over = absurd (cc)
+
 -- a sweep says nothing of how far the process has come
 any_state : (saw : ℕ → Sight → Type 0) (from budget bytes : ℕ) (log : List (Event × Item)) (old new : PlaceOf) (s t : Status) → IsSwept saw from budget old new bytes log
     → IsSwept saw from budget (record old { state = s }) (record new { state = t }) bytes log
-any_state saw from budget bytes log old new s t is =
-    record { count = is.count; accepted = is.accepted; there = is.there; list = is.list; ended = is.ended; sum = is.sum; within = is.within; more = is.more }
+any_state saw from budget bytes log old new s t is = is
 
 -- a stop: the process is ending while the list is swept, and then is as far as the blocks that are left say
 pub stopped : (saw : ℕ → Sight → Type 0) (budget bytes count : ℕ) (log : List (Event × Item)) (old swept new : PlaceOf) (result : Result ℕ Refused)
     → IsSwept saw 0 budget (record old { state = Ending }) swept bytes log → swept ≡ with_list (record old { state = Ending }) swept → count ≡ length swept.blocks - 0
-    → new ≡ record swept { state = ending count } → result ≡ reclaimed bytes count
-    → IsSwept saw 0 budget old new bytes log × (new ≡ record (with_list old new) { state = ending (length new.blocks) }) × (result ≡ reclaimed bytes (length new.blocks))
+    → new ≡ record swept { state = ending_again Ended count } → result ≡ reclaimed bytes count
+    → IsSwept saw 0 budget old new bytes log × (new ≡ record (with_list old new) { state = ending_again Ended (length new.blocks) }) × (result ≡ reclaimed bytes (length new.blocks))
 stopped saw budget bytes count log old swept new result is list counted end told =
     let by : IsSwept saw 0 budget old new bytes log =
-    subst (λ (p : PlaceOf). IsSwept saw 0 budget old p bytes log) (sym end) (any_state saw 0 budget bytes log (record old { state = Ending }) swept old.state (ending count) is) in
+    subst (λ (p : PlaceOf). IsSwept saw 0 budget old p bytes log) (sym end) (any_state saw 0 budget bytes log (record old { state = Ending }) swept old.state (ending_again Ended count) is) in
     let blocks : length new.blocks ≡ length swept.blocks = ap (λ (p : PlaceOf). length p.blocks) end in
     let all : count ≡ length new.blocks = omega (arith, counted, blocks) in
-    let same : new ≡ record (with_list old new) { state = ending count } =
-    end ∙ ap (λ (p : PlaceOf). record p { state = ending count }) list ∙ sym (ap (λ (p : PlaceOf). record (with_list old p) { state = ending count }) end) in (
+    let same : new ≡ record (with_list old new) { state = ending_again Ended count } =
+    end ∙ ap (λ (p : PlaceOf). record p { state = ending_again Ended count }) list ∙ sym (ap (λ (p : PlaceOf). record (with_list old p) { state = ending_again Ended count }) end) in (
       by,
-      same ∙ ap (λ (n : ℕ). record (with_list old new) { state = ending n }) all,
+      same ∙ ap (λ (n : ℕ). record (with_list old new) { state = ending_again Ended n }) all,
       told ∙ ap (reclaimed bytes) all,
     )
 
@@ -50,31 +58,30 @@ untested tests told refusal passed h = subst (λ (o : Option Refused). MatchOpti
 
 -- ---- what was given back of an endpoint that came too late
 
-total_left : (k : ℕ) (xs : List (ℕ × Item)) → total_of (drop k xs) ≤ total_of xs
-total_left k xs = omega (arith, total_both (take k xs) (drop k xs), ap total_of (take-append-drop k xs))
+-- a sweep of the whole list
+pub swept_all : (saw : ℕ → Sight → Type 0) (budget bytes : ℕ) (log : List (Event × Item)) (old new : PlaceOf) → IsSwept saw 0 budget old new bytes log
+    → Sweeps saw old.process budget old.blocks new.blocks bytes log
+swept_all saw budget bytes log old new is = subst (λ (l : List (ℕ × Item)). Sweeps saw old.process budget old.blocks l bytes log) (sym is.2) is.1
 
--- what a sweep from the last record on gave back is no less than its length
-pub last_bytes : (saw : ℕ → Sight → Type 0) (front : List (ℕ × Item)) (r : ℕ) (x : Item) (old new : PlaceOf) (bytes : ℕ) (log : List (Event × Item)) → old.blocks ≡ front ++ (r, x) ∷ []
+-- a sweep of its end
+pub swept_end : (saw : ℕ → Sight → Type 0) (front end : List (ℕ × Item)) (budget bytes : ℕ) (log : List (Event × Item)) (old new : PlaceOf) → old.blocks ≡ front ++ end
+    → IsSwept saw (length front) budget old new bytes log → (left : List (ℕ × Item)) × Sweeps saw old.process budget end left bytes log × (new.blocks ≡ front ++ left)
+swept_end saw front end budget bytes log old new whole is = (
+  is.0,
+  subst (λ (l : List (ℕ × Item)). Sweeps saw old.process budget l is.0 bytes log) (ap (drop (length front)) whole ∙ drop-append_seam front end) is.1,
+  is.2 ∙ ap (λ (l : List (ℕ × Item)). l ++ is.0) (ap (take (length front)) whole ∙ take-append_seam front end),
+)
+
+-- what a sweep of one block and what came with it gave back is no less than its length
+pub first_bytes : (saw : ℕ → Sight → Type 0) (p budget r : ℕ) (x : Item) (left : List (ℕ × Item)) (bytes : ℕ) (log : List (Event × Item)) → 0 < budget
+    → Sweeps saw p budget ((r, x) ∷ []) left bytes log → x.len ≤ bytes
+first_bytes saw p zero r x left bytes log some h = absurd (omega arith)
+first_bytes saw p (suc budget) r x left bytes log some h = let sum = h.4 in omega (arith, sum)
+
+last_bytes : (saw : ℕ → Sight → Type 0) (front : List (ℕ × Item)) (r : ℕ) (x : Item) (old new : PlaceOf) (bytes : ℕ) (log : List (Event × Item)) → old.blocks ≡ front ++ (r, x) ∷ []
     → IsSwept saw (length front) MAX_BUDGET old new bytes log → x.len ≤ bytes
-last_bytes saw front r x old new bytes log whole is = go is.count refl is.accepted is.list is.sum where
-  from : ℕ
-  from = length front
-
-  all : total_of old.blocks ≡ total_of front + x.len
-  all = ap total_of whole ∙ total_last front r x
-
-  now : (n : ℕ) (accepted : List (ℕ × Item)) → new.blocks ≡ take from old.blocks ++ drop n (drop from old.blocks ++ accepted) → new.blocks ≡ front ++ drop n ((r, x) ∷ accepted)
-  now n accepted list = list ∙ (λ i. take from (whole i) ++ drop n (drop from (whole i) ++ accepted))
-      ∙ (λ i. take-append_seam front ((r, x) ∷ []) i ++ drop n (drop-append_seam front ((r, x) ∷ []) i ++ accepted))
-
-  go : (n : ℕ) → is.count ≡ n → (accepted : List (ℕ × Item)) → new.blocks ≡ take from old.blocks ++ drop n (drop from old.blocks ++ accepted)
-      → bytes + total_of new.blocks ≡ total_of old.blocks + total_of accepted → x.len ≤ bytes
-  go zero none accepted list sum =
-      let long : length new.blocks ≡ from + suc (length accepted) = ap length (now 0 accepted list) ∙ length-append front ((r, x) ∷ accepted) in
-      let used : is.count ≡ MAX_BUDGET = is.more (omega (arith, long)) in absurd (omega (arith, none, used))
-  go (suc k) some accepted list sum =
-      let here : total_of new.blocks ≡ total_of front + total_of (drop k accepted) = ap total_of (now (suc k) accepted list) ∙ total_both front (drop k accepted) in
-      let less : total_of (drop k accepted) ≤ total_of accepted = total_left k accepted in omega (arith, here, less, sum, all)
+last_bytes saw front r x old new bytes log whole is =
+    let end = swept_end saw front ((r, x) ∷ []) MAX_BUDGET bytes log old new whole is in first_bytes saw old.process MAX_BUDGET r x end.0 bytes log (omega arith) end.1
 
 -- an endpoint came, or none did, and the place is as far as it was, or ending again; `none` is what is known where none did
 pub turned : (saw : ℕ → Sight → Type 0) (d r n sum : ℕ) (x : Item) (log : List (Event × Item)) (old swept new : PlaceOf)
@@ -103,80 +110,84 @@ turned_none n old swept new quiet same left last =
 
 -- ---- the blocks that went
 
-ended_both : (saw : ℕ → Sight → Type 0) (p : ℕ) (gone more ys zs : List (ℕ × Item)) (es fs : List (Event × Item)) → AreEnded saw p gone ys es → AreEnded saw p more zs fs
-    → AreEnded saw p (gone ++ more) (ys ++ zs) (es ++ fs)
-ended_both saw p [] more ys zs es fs one two =
-    subst (λ (z : List (ℕ × Item) × List (Event × Item)). AreEnded saw p more (z.0 ++ zs) (z.1 ++ fs)) (λ i. (sym one.0 i, sym one.1 i)) two
-ended_both saw p (y ∷ gone) more ys zs es fs one two = (
-  one.0,
-  one.1 ++ zs,
-  one.2 ++ fs,
-  ap (λ (l : List (ℕ × Item)). l ++ zs) one.3 ∙ append_assoc one.0 one.1 zs,
-  ap (λ (l : List (Event × Item)). l ++ fs) one.4 ∙ append_assoc (accepted_on p (toward y.1.content) one.0) (vacated p y.0 ++ one.2) fs,
-  one.5,
-  ended_both saw p gone more one.1 zs one.2 fs one.6 two,
+-- one sweep after another, where blocks were left
+sweeps_then : (saw : ℕ → Sight → Type 0) (p u k all : ℕ) (xs one left : List (ℕ × Item)) (a b : ℕ) (first next : List (Event × Item)) → all ≡ u + k → Sweeps saw p u xs one a first → 0 < length one
+    → Sweeps saw p k one left b next → Sweeps saw p all xs left (a + b) (first ++ next)
+sweeps_then saw p zero k all xs one left a b first next sum h some two =
+    let used : k ≡ all = omega (arith, sum) in let bytes : b ≡ a + b = omega (arith, h.1) in
+    subst (λ (z : ℕ × List (ℕ × Item) × ℕ × List (Event × Item)). Sweeps saw p z.0 z.1 left z.2 z.3) (λ i. (used i, h.0 i, bytes i, sym (ap (λ (l : List (Event × Item)). l ++ next) h.2) i)) two
+sweeps_then saw p (suc u) k all [] one left a b first next sum h some two = absurd (omega (arith, some, ap length h.0))
+sweeps_then saw p (suc u) k zero (y ∷ ys) one left a b first next sum h some two = absurd (omega (arith, sum))
+sweeps_then saw p (suc u) k (suc all) (y ∷ ys) one left a b first next sum h some two = (
+  h.0,
+  h.1 + b,
+  h.2 ++ next,
+  h.3,
+  omega (arith, h.4),
+  ap (λ (l : List (Event × Item)). l ++ next) h.5 ∙ append_assoc (accepted_on p (toward y.1.content) h.0) (vacated p y.0 ++ h.2) next,
+  sweeps_then saw p u k all (ys ++ h.0) one left h.1 b h.2 next (omega (arith, sum)) h.6 some two,
 )
+
+-- nothing is left of nothing
+sweeps_none : (saw : ℕ → Sight → Type 0) (p budget : ℕ) (left : List (ℕ × Item)) (bytes : ℕ) (log : List (Event × Item)) → Sweeps saw p budget [] left bytes log → left ≡ []
+sweeps_none saw p zero left bytes log h = h.0
+sweeps_none saw p (suc budget) left bytes log h = h.0
+
+-- where nothing is left, a larger budget does no more
+sweeps_idle : (saw : ℕ → Sight → Type 0) (p used budget : ℕ) (xs left : List (ℕ × Item)) (bytes : ℕ) (log : List (Event × Item)) → used ≤ budget → left ≡ [] → Sweeps saw p used xs left bytes log
+    → Sweeps saw p budget xs left bytes log
+sweeps_idle saw p zero budget xs left bytes log most none h = subst (λ (l : List (ℕ × Item)). Sweeps saw p budget l left bytes log) (sym none ∙ h.0) (go budget) where
+  go : (n : ℕ) → Sweeps saw p n [] left bytes log
+  go zero = (none, h.1, h.2)
+  go (suc n) = (none, h.1, h.2)
+sweeps_idle saw p (suc used) zero xs left bytes log most none h = absurd (omega (arith, most))
+sweeps_idle saw p (suc used) (suc budget) [] left bytes log most none h = h
+sweeps_idle saw p (suc used) (suc budget) (y ∷ ys) left bytes log most none h =
+    (h.0, h.1, h.2, h.3, h.4, h.5, sweeps_idle saw p used budget (ys ++ h.0) left h.1 h.2 (omega (arith, most)) none h.6)
+
+-- a list goes so far, or nothing of it is beyond
+goes_so_far : (from : ℕ) (xs : List (ℕ × Item)) → (length (take from xs) ≡ from) ⊎ (drop from xs ≡ [])
+goes_so_far zero xs = inl refl
+goes_so_far (suc from) [] = inr refl
+goes_so_far (suc from) (x ∷ xs) = ⊎_elim (λ e. inl (ap suc e)) inr (goes_so_far from xs)
 
 -- no block went
 pub swept_none : (saw : ℕ → Sight → Type 0) (from : ℕ) (old : PlaceOf) → IsSwept saw from 0 old old 0 []
-swept_none saw from old = record {
-  count = 0;
-  accepted = [];
-  there = omega arith;
-  list = sym (take-append-drop from old.blocks) ∙ ap (λ (l : List (ℕ × Item)). take from old.blocks ++ l) (sym (append-nil (drop from old.blocks)));
-  ended = (refl, refl);
-  sum = omega arith;
-  within = omega arith;
-  more = λ h. refl;
-}
+swept_none saw from old = (drop from old.blocks, (refl, refl, refl), sym (take-append-drop from old.blocks))
 
 -- as far as the budget goes
 pub swept_full : (saw : ℕ → Sight → Type 0) (from used budget : ℕ) (old new : PlaceOf) (bytes : ℕ) (log : List (Event × Item)) → used ≤ budget → (from < length new.blocks → used ≡ budget)
     → IsSwept saw from used old new bytes log → IsSwept saw from budget old new bytes log
-swept_full saw from used budget old new bytes log most full is = record {
-  count = is.count;
-  accepted = is.accepted;
-  there = is.there;
-  list = is.list;
-  ended = is.ended;
-  sum = is.sum;
-  within = omega (arith, is.within, most);
-  more = λ h. is.more h ∙ full h;
-}
+swept_full saw from used budget old new bytes log most full is = (is.0, go is.0 refl, is.2) where
+  long : length new.blocks ≡ length (take from old.blocks) + length is.0
+  long = ap length is.2 ∙ length-append (take from old.blocks) is.0
+
+  go : (l : List (ℕ × Item)) → is.0 ≡ l → Sweeps saw old.process budget (drop from old.blocks) is.0 bytes log
+  go [] e = sweeps_idle saw old.process used budget (drop from old.blocks) is.0 bytes log most e is.1
+  go (z ∷ zs) e = ⊎_elim
+      (λ far. subst (λ (n : ℕ). Sweeps saw old.process n (drop from old.blocks) is.0 bytes log) (full (omega (arith, far, long, ap length e))) is.1)
+      (λ none. absurd (omega (
+        arith,
+        ap length e,
+        ap length (sweeps_none saw old.process used is.0 bytes log
+            (subst (λ (l : List (ℕ × Item)). Sweeps saw old.process used l is.0 bytes log) none is.1)),
+      )))
+      (goes_so_far from old.blocks)
 
 -- one sweep after another from the same place, where blocks were left
 pub swept_more : (saw : ℕ → Sight → Type 0) (from u k a b : ℕ) (old mid new : PlaceOf) (first next : List (Event × Item)) → from ≤ length old.blocks → mid.process ≡ old.process
     → IsSwept saw from u old mid a first → from < length mid.blocks → IsSwept saw from k mid new b next → IsSwept saw from (u + k) old new (a + b) (first ++ next)
 swept_more saw from u k a b old mid new first next inside whose one left two =
-    let w : List (ℕ × Item) = drop from old.blocks ++ one.accepted in
-    let both : List (ℕ × Item) = one.accepted ++ two.accepted in
-    let m : ℕ = one.count in let n : ℕ = two.count in let used : m ≡ u = one.more left in
-    let ahead : take from mid.blocks ≡ take from old.blocks = ap (take from) one.list ∙ take_at (take from old.blocks) (drop m w) from (length-take-le from old.blocks inside) in
-    let rest : drop from mid.blocks ≡ drop m w = ap (drop from) one.list ∙ drop_at (take from old.blocks) (drop m w) from (length-take-le from old.blocks inside) in
-    let all : w ++ two.accepted ≡ drop from old.blocks ++ both = append_assoc (drop from old.blocks) one.accepted two.accepted in
-    let same : drop n (drop from mid.blocks ++ two.accepted) ≡ drop (m + n) (drop from old.blocks ++ both) =
-    ap (λ (l : List (ℕ × Item)). drop n (l ++ two.accepted)) rest ∙ ap (drop n) (sym (drop-append-le m w two.accepted one.there)) ∙ drop-drop n m (w ++ two.accepted) ∙ ap (drop (m + n)) all in
-    let long : length (drop from old.blocks ++ both) ≡ length w + length two.accepted = ap length (sym all) ∙ length-append w two.accepted in
-    let fits : n ≤ length (drop m w) + length two.accepted =
-    subst (λ (z : ℕ). n ≤ z) (ap (λ (l : List (ℕ × Item)). length (l ++ two.accepted)) rest ∙ length-append (drop m w) two.accepted) two.there in
-    let sums : total_of both ≡ total_of one.accepted + total_of two.accepted = total_both one.accepted two.accepted in
-    let one_sum : a + total_of mid.blocks ≡ total_of old.blocks + total_of one.accepted = one.sum in
-    let two_sum : b + total_of new.blocks ≡ total_of mid.blocks + total_of two.accepted = two.sum in
-    let later : AreEnded saw old.process (take n (drop m w ++ two.accepted)) two.accepted next =
-    subst (λ (z : ℕ × List (ℕ × Item)). AreEnded saw z.0 (take n (z.1 ++ two.accepted)) two.accepted next) (λ i. (whose i, rest i)) two.ended in
-    let ends : take (m + n) (drop from old.blocks ++ both) ≡ take m w ++ take n (drop m w ++ two.accepted) =
-    ap (take (m + n)) (sym all) ∙ take-add m n (w ++ two.accepted) ∙ (λ i. take-append-le m w two.accepted one.there i ++ take n (drop-append-le m w two.accepted one.there i)) in
-    record {
-      count = m + n;
-      accepted = both;
-      there = omega (arith, long, length-drop m w, one.there, fits);
-      list = two.list ∙ (λ i. ahead i ++ same i);
-      ended = subst (λ (l : List (ℕ × Item)). AreEnded saw old.process l both (first ++ next)) (sym ends)
-          (ended_both saw old.process (take m w) (take n (drop m w ++ two.accepted)) one.accepted two.accepted first next one.ended later);
-      sum = omega (arith, sums, one_sum, two_sum);
-      within = omega (arith, used, two.within);
-      more = λ h. let e : n ≡ k = two.more h in omega (arith, used, e);
-    }
+    let far : length (take from old.blocks) ≡ from = length-take-le from old.blocks inside in
+    let ahead : take from mid.blocks ≡ take from old.blocks = ap (take from) one.2 ∙ take_at (take from old.blocks) one.0 from far in
+    let rest : drop from mid.blocks ≡ one.0 = ap (drop from) one.2 ∙ drop_at (take from old.blocks) one.0 from far in
+    let long : length mid.blocks ≡ length (take from old.blocks) + length one.0 = ap length one.2 ∙ length-append (take from old.blocks) one.0 in
+    let later : Sweeps saw old.process k one.0 two.0 b next =
+    subst (λ (z : ℕ × List (ℕ × Item)). Sweeps saw z.0 k z.1 two.0 b next) (λ i. (whose i, rest i)) two.1 in (
+      two.0,
+      sweeps_then saw old.process u k (u + k) (drop from old.blocks) one.0 two.0 a b first next refl one.1 (omega (arith, far, long, left)) later,
+      two.2 ∙ ap (λ (l : List (ℕ × Item)). l ++ two.0) ahead,
+    )
 
 -- the list without the block at `from`
 cut_out : (from r : ℕ) (x : Item) (more w : List (ℕ × Item)) → Distinct (keys w) → drop from w ≡ (r, x) ∷ more → without r w ≡ take from w ++ more
@@ -193,27 +204,33 @@ cut_out (suc from) r x more (y ∷ w) d e =
 
 -- some came to an end at `from`, and then it went
 swept_one : (saw : ℕ → Sight → Type 0) (from r bytes d : ℕ) (x : Item) (more : List (ℕ × Item)) (old mid new : PlaceOf) (ys : List (ℕ × Item))
-    → from ≤ length old.blocks → drop from old.blocks ≡ (r, x) ∷ more → mid ≡ with_more ys old → Distinct (keys mid.blocks)
-    → AreEnded saw old.process ((r, x) ∷ []) ys (accepted_on old.process d ys ++ vacated old.process r)
+    → from ≤ length old.blocks → drop from old.blocks ≡ (r, x) ∷ more → mid ≡ with_more ys old → Distinct (keys mid.blocks) → EndsWith saw x.content ys → d ≡ toward x.content
     → new.blocks ≡ without r mid.blocks → bytes + total_of new.blocks ≡ total_of mid.blocks
     → IsSwept saw from 1 old new bytes (accepted_on old.process d ys ++ vacated old.process r)
-swept_one saw from r bytes d x more old mid new ys inside first came once ends is sum =
+swept_one saw from r bytes d x more old mid new ys inside first came once ends way is sum =
     let list : mid.blocks ≡ old.blocks ++ ys = ap (λ (p : PlaceOf). p.blocks) came in
     let ahead : take from mid.blocks ≡ take from old.blocks = ap (take from) list ∙ take-append-le from old.blocks ys inside in
     let rest : drop from mid.blocks ≡ (r, x) ∷ (more ++ ys) = ap (drop from) list ∙ drop-append-le from old.blocks ys inside ∙ ap (λ (l : List (ℕ × Item)). l ++ ys) first in
-    let all : total_of mid.blocks ≡ total_of old.blocks + total_of ys = ap total_of list ∙ total_both old.blocks ys in
-    let whole : drop from old.blocks ++ ys ≡ (r, x) ∷ (more ++ ys) = ap (λ (l : List (ℕ × Item)). l ++ ys) first in
-    let long : length (drop from old.blocks ++ ys) ≡ suc (length (more ++ ys)) = ap length whole in
-    record {
-      count = 1;
-      accepted = ys;
-      there = omega (arith, long);
-      list = is ∙ cut_out from r x (more ++ ys) mid.blocks once rest ∙ (λ i. ahead i ++ drop 1 (sym whole i));
-      ended = subst (λ (l : List (ℕ × Item)). AreEnded saw old.process (take 1 l) ys (accepted_on old.process d ys ++ vacated old.process r)) (sym whole) ends;
-      sum = sum ∙ all;
-      within = omega arith;
-      more = λ h. refl;
-    }
+    let left : new.blocks ≡ take from old.blocks ++ (more ++ ys) =
+    is ∙ cut_out from r x (more ++ ys) mid.blocks once rest ∙ ap (λ (l : List (ℕ × Item)). l ++ (more ++ ys)) ahead in
+    let all : total_of mid.blocks ≡ total_of (take from mid.blocks) + total_of (drop from mid.blocks) =
+    ap total_of (sym (take-append-drop from mid.blocks)) ∙ total_both (take from mid.blocks) (drop from mid.blocks) in
+    let gone : total_of (drop from mid.blocks) ≡ x.len + total_of (more ++ ys) = ap total_of rest in
+    let front : total_of (take from mid.blocks) ≡ total_of (take from old.blocks) = ap total_of ahead in
+    let now : total_of new.blocks ≡ total_of (take from old.blocks) + total_of (more ++ ys) = ap total_of left ∙ total_both (take from old.blocks) (more ++ ys) in
+    let p : ℕ = old.process in (
+      more ++ ys,
+      subst (λ (l : List (ℕ × Item)). Sweeps saw p 1 l (more ++ ys) bytes (accepted_on p d ys ++ vacated p r)) (sym first) (
+        ys,
+        0,
+        [],
+        ends,
+        omega (arith, all, gone, front, now, sum),
+        ap (λ (n : ℕ). accepted_on p n ys ++ vacated p r) way,
+        (refl, refl, refl),
+      ),
+      left,
+    )
 
 without_both : (r : ℕ) (xs ys : List (ℕ × Item)) → without r (xs ++ ys) ≡ without r xs ++ without r ys
 without_both r [] ys = refl
@@ -236,15 +253,7 @@ swept_clear saw from r bytes x more old mid new ys inside first at clear once is
     let one_total : total_of mid.blocks ≡ total_of (put r y xs) + total_of ys = ap total_of list ∙ total_both (put r y xs) ys in
     let two_total : total_of (xs ++ ys) ≡ total_of xs + total_of ys = total_both xs ys in
     let total : total_of mid.blocks ≡ total_of (xs ++ ys) = omega (arith, long, sizes, one_total, two_total) in
-    swept_one saw from r bytes d x more old (with_more ys old) new ys inside first refl (subst Distinct names once) (
-      ys,
-      [],
-      [],
-      sym (append-nil ys),
-      (λ i. accepted_on old.process (way i) ys ++ sym (append-nil (vacated old.process r)) i),
-      subst (λ (w : Item). EndsWith saw w.content ys) one clear.4,
-      (refl, refl),
-    )
+    swept_one saw from r bytes d x more old (with_more ys old) new ys inside first refl (subst Distinct names once) (subst (λ (w : Item). EndsWith saw w.content ys) one clear.4) way
     (is ∙ less) (sum ∙ total)
 
 -- ---- what a worker gave back

@@ -8,7 +8,7 @@ pub use Rattle.std.proofs.lemmas.Bool.Decides.{nat_tests}
 pub use Rattle.std.specs.Prelude.{option_map}
 pub use Rattle.std.proofs.lemmas.List.{drop-append-le, drop-drop, drop_at, drop_more, length-map, length-replicate, map-append, set-get_or, take-append-drop, take-append-le, take_at, take_more}
 pub use Rattle.std.proofs.lemmas.Result.{on_err_weaker, on_ok_weaker}
-pub use Rattle.std.specs.List.{list_all, list_any}
+pub use Rattle.std.specs.List.{flat_map, list_all, list_any}
 pub use Rattle.xh_arena.specs.Views.{LotOf, TallyOf}
 pub use Rattle.xh_channel.specs.Calls.{EndpointPuts, EndpointShuts, EndpointTakes}
 pub use Rattle.xh_channel.specs.Endpoint.{EndpointOf}
@@ -31,9 +31,9 @@ pub use Rattle.xh_model.specs.declared.event.Holder.TheVariants.{Process}
 pub use Rattle.xh_model.specs.declared.limits.TheConstants.{END_BYTES, MAX_BUDGET}
 pub use Rattle.xh_place.specs.Bodies.{Content, away, bytes, content_of, endpoint, fits_in, front, kind_of, part, patched, rest, toward}
 pub use Rattle.xh_place.specs.Desk.{IsSameDesk, IsSeatAt}
-pub use Rattle.xh_place.specs.Ending.{AreEnded, HasGivenBack, IsClosed, IsSwept, ending}
-pub use Rattle.xh_place.specs.Endpoints.{AreGot, EndsWith, IsDrained, TakesEach, blocks_of, record_of}
-pub use Rattle.xh_place.specs.Ends.{EndDoes, IsTooLate, RefusedOr, away_in, end_block, ending_again, toward_in}
+pub use Rattle.xh_place.specs.Ending.{HasGivenBack, IsClosed, IsSwept, Sweeps}
+pub use Rattle.xh_place.specs.Endpoints.{AreFetched, AreGot, EndsWith, IsDrained, record_of}
+pub use Rattle.xh_place.specs.Ends.{EndDoes, IsTooLate, RefusedOr, end_block, ending_again}
 pub use Rattle.xh_place.specs.Messages.{IsSent, IsTaken, IsUntaken, refusal, settled}
 pub use Rattle.xh_place.specs.Events.{accepted_on, claimed, let_go, passed_on, vacated}
 pub use Rattle.xh_place.specs.Places.{AreBlocks, Fits, IsBlock, IsPlace, IsPlaceOf, IsQuiet, IsWhole, Item, Lists, PlaceOf, found as found_at, header_of, item_at, item_in, item_of, shown}
@@ -48,7 +48,7 @@ pub use Rattle.xh_place.specs.declared.got.Got.{Got}
 pub use Rattle.xh_place.specs.declared.got.Taken.{Taken}
 pub use Rattle.xh_place.specs.inner.Lists.{AreBack, CameBack, IsSeenBy, lens, less, less_all}
 pub use Rattle.xh_place.specs.inner.Lots.{Acts, HasNow, IsCut, IsData, IsEnd, LotDoes, SeatFull, SeatLetsGo, bare}
-pub use Rattle.xh_place.specs.inner.Reclaiming.{Clears, Drains, IsSweptLate}
+pub use Rattle.xh_place.specs.inner.Reclaiming.{Clears, Drains, IsSweptLate, TakesEach, toward_in}
 pub use Rattle.xh_records.specs.History.{StartsWith}
 pub use Rattle.xh_records.specs.Seats.{HasDone, HasGained, HasLooked, HasLost, HasSeen, Held, IsRecord, IsSeatOf, Knows, RecordsOf, SawAt, SawTaken, with_lots}
 pub use Rattle.xh_records.specs.Showing.{IsLotOf}

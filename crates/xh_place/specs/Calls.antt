@@ -1,7 +1,7 @@
 -- What the calls of a process do to its place, and why they are refused. In each relation `status` says how far the process that calls has come: of that are its first tests.
 use Rattle.std.specs.Borrow.{Bor, MutBor}
 use Rattle.std.specs.Fn.{CalledAt, CalledAtMut, Mut}
-use Rattle.std.specs.Prelude.{◌≡◌, ℕ, ◌-◌, ◌/◌, ◌≤◌, List, [], ◌∷◌, ◌++◌, length, replicate, Some, Result, Err, IfErr, IfOk, MatchOption, OnErr}
+use Rattle.std.specs.Prelude.{◌≡◌, ℕ, ◌-◌, ◌/◌, ◌≤◌, ◌==◌, cond, List, [], ◌∷◌, ◌++◌, length, replicate, Some, Result, Err, IfErr, IfOk, MatchOption, OnErr}
 use Rattle.xh_arena.specs.declared.refused.Refused.{Refused as Reason}
 use Rattle.xh_arena.specs.declared.refused.Refused.TheVariants as arena
 use Rattle.xh_arena.specs.Views.{VaultOf}
@@ -9,6 +9,7 @@ use Rattle.xh_core.specs.declared.block.Block.{Block}
 use Rattle.xh_core.specs.declared.refused.Refused.{Refused}
 use Rattle.xh_core.specs.declared.refused.Refused.TheVariants.{NoRecord, NoSpace, OutOfMemory, Worn}
 use Rattle.xh_core.specs.declared.status.Status.{Status}
+use Rattle.xh_core.specs.declared.status.Status.TheVariants.{Ending, Ended}
 use Rattle.xh_core.specs.Calls.{alloc_tests, data_tests, end_tests, range_tests, reclaimed, split_tests, start, stop}
 use Rattle.xh_core.specs.Headers.{len_in}
 use Rattle.xh_core.specs.Refusing.{Tested, first_refusal}
@@ -17,7 +18,7 @@ use Rattle.xh_model.specs.declared.limits.TheConstants.{MAX_RECORDS}
 use Rattle.xh_model.specs.declared.event.Event.{Event}
 use Rattle.xh_model.specs.Keyed.{put, value_at, without}
 use Rattle.xh_place.specs.Bodies.{Content, bytes, endpoint, part, patched}
-use Rattle.xh_place.specs.Ending.{IsClosed, IsSwept, ending}
+use Rattle.xh_place.specs.Ending.{IsClosed, Sweeps}
 use Rattle.xh_place.specs.Ends.{RefusedOr}
 use Rattle.xh_place.specs.Events.{claimed, vacated}
 use Rattle.xh_place.specs.Places.{Item, PlaceOf, found}
@@ -138,5 +139,6 @@ Closes status e back old new result = RefusedOr (start status ++ end_tests (foun
 -- the whole list is swept, as far as the budget goes; so many bytes came back
 abbrev pub Stops : Status → ℕ → ℕ → PlaceSeen → PlaceSeen → Result ℕ Refused → Type 0
 Stops status budget back old new result = RefusedOr (stop status) result (Stays old new × (back ≡ 0)) ((log : List (Event × Item))
-    × IsSwept (IsSeen old new) 0 budget old.place new.place back log × Becomes (record old.place { blocks = new.place.blocks; state = ending (length new.place.blocks) }) log old new
+    × Sweeps (IsSeen old new) old.place.process budget old.place.blocks new.place.blocks back log
+    × Becomes (record old.place { blocks = new.place.blocks; state = cond (length new.place.blocks == 0) Ended Ending }) log old new
     × (result ≡ reclaimed back (length new.place.blocks)))

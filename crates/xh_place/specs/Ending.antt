@@ -1,9 +1,7 @@
 -- What reclaiming does: the sweep, and the calls that end an endpoint or a process.
-use Rattle.std.specs.Prelude.{◌≡◌, ℕ, ◌+◌, ◌-◌, ◌<◌, ◌≤◌, ◌==◌, cond, List, [], ◌∷◌, ◌++◌, length, take, drop, Result}
+use Rattle.std.specs.Prelude.{◌≡◌, ℕ, suc, ◌+◌, List, [], ◌∷◌, ◌++◌, length, take, drop, Some, Result}
 use Rattle.xh_arena.specs.Views.{TallyOf}
 use Rattle.xh_core.specs.declared.refused.Refused.{Refused}
-use Rattle.xh_core.specs.declared.status.Status.{Status}
-use Rattle.xh_core.specs.declared.status.Status.TheVariants.{Ending, Ended}
 use Rattle.xh_model.specs.declared.event.Event.{Event}
 use Rattle.xh_model.specs.Keyed.{value_at, without}
 use Rattle.xh_core.specs.Calls.{reclaimed}
@@ -11,30 +9,21 @@ use Rattle.xh_model.specs.declared.limits.TheConstants.{MAX_BUDGET}
 use Rattle.xh_place.specs.Bodies.{toward}
 use Rattle.xh_place.specs.Endpoints.{EndsWith}
 use Rattle.xh_place.specs.Events.{accepted_on, vacated}
-use Rattle.xh_place.specs.Places.{Item, PlaceOf, alone, total_of}
+use Rattle.xh_place.specs.Places.{Item, PlaceOf}
 use Rattle.xh_place.specs.Seen.{Becomes, IsSeen, PlaceSeen, Sight}
 
 -- `saw r s` says what was seen at the record r
 module _ (saw : ℕ → Sight → Type 0) where
-  -- These went, one after another, each as it ends. What was accepted is what came with each, in their order, which the process accepted on the direction toward it; then it vacated the record.
-  abbrev pub AreEnded : ℕ → List (ℕ × Item) → List (ℕ × Item) → List (Event × Item) → Type 0
-  AreEnded p [] accepted log = (accepted ≡ []) × (log ≡ [])
-  AreEnded p (y ∷ ys) accepted log = (came : List (ℕ × Item)) × (more : List (ℕ × Item)) × (later : List (Event × Item)) × (accepted ≡ came ++ more)
-      × (log ≡ accepted_on p (toward y.1.content) came ++ (vacated p y.0 ++ later)) × EndsWith saw y.1.content came × AreEnded p ys more later
+  -- A sweep: blocks of the process p went, the first one first, each as it ends, as far as the budget goes. What came with each was accepted on the direction toward it, to the end of the list,
+  -- to go with the others; then its record was vacated. These are left, and so many bytes went.
+  abbrev pub Sweeps : ℕ → ℕ → List (ℕ × Item) → List (ℕ × Item) → ℕ → List (Event × Item) → Type 0
+  Sweeps p (suc budget) (y ∷ ys) left bytes log = (came : List (ℕ × Item)) × (more : ℕ) × (later : List (Event × Item)) × EndsWith saw y.1.content came × (bytes ≡ y.1.len + more)
+      × (log ≡ accepted_on p (toward y.1.content) came ++ (vacated p y.0 ++ later)) × Sweeps p budget (ys ++ came) left more later
+  Sweeps p budget ys left bytes log = (left ≡ ys) × (bytes ≡ 0) × (log ≡ [])
 
-  -- A sweep: no more blocks were reclaimed than the budget, and blocks are left from `from` on only where it is used up.
-  -- The list from `from` on is the old one from there, followed by what was accepted, without its first blocks.
-  -- Those were bytes, or endpoints that were shut and took all that they found; what was accepted came with their messages.
-  -- The bytes are those that the list had and gained, less those that it has.
-  pub record IsSwept (from budget : ℕ) (old new : PlaceOf) (bytes : ℕ) (log : List (Event × Item)) : Type 0 where
-    pub count : ℕ
-    pub accepted : List (ℕ × Item)
-    pub there : count ≤ length (drop from old.blocks ++ accepted)
-    pub list : new.blocks ≡ take from old.blocks ++ drop count (drop from old.blocks ++ accepted)
-    pub ended : AreEnded old.process (take count (drop from old.blocks ++ accepted)) accepted log
-    pub sum : bytes + total_of new.blocks ≡ total_of old.blocks + total_of accepted
-    pub within : count ≤ budget
-    pub more : from < length new.blocks → count ≡ budget
+  -- a sweep of the list from `from` on
+  abbrev pub IsSwept : ℕ → ℕ → PlaceOf → PlaceOf → ℕ → List (Event × Item) → Type 0
+  IsSwept from budget old new bytes log = (left : List (ℕ × Item)) × Sweeps old.process budget (drop from old.blocks) left bytes log × (new.blocks ≡ take from old.blocks ++ left)
 
 -- of each arena the worker has given some bytes back, or none: so many of all; and it moved no others
 abbrev pub HasGivenBack : ℕ → List TallyOf → List TallyOf → Type 0
@@ -42,14 +31,10 @@ HasGivenBack bytes [] [] = bytes ≡ 0
 HasGivenBack bytes (t ∷ old) (u ∷ new) = (n : ℕ) × (more : ℕ) × (bytes ≡ n + more) × (u ≡ record t { back = t.back + n }) × HasGivenBack more old new
 HasGivenBack bytes _ _ = ⊥
 
--- a process is ending while it has blocks
-abbrev pub ending : ℕ → Status
-ending left = cond (left == 0) Ended Ending
-
 -- ---- close
 
--- the endpoint goes to the end of the list, and the list is swept from there
+-- the endpoint is swept, and what is left of it and of what came with it stands last
 abbrev pub IsClosed : ℕ → PlaceSeen → PlaceSeen → ℕ → Result ℕ Refused → Type 0
-IsClosed e old new bytes result = (log : List (Event × Item))
-    × IsSwept (IsSeen old new) (length (without e old.place.blocks)) MAX_BUDGET (record old.place { blocks = without e old.place.blocks ++ alone e (value_at e old.place.blocks) }) new.place bytes log
-    × Becomes (record old.place { blocks = new.place.blocks }) log old new × (result ≡ reclaimed bytes (length new.place.blocks - length (without e old.place.blocks)))
+IsClosed e old new bytes result = (x : Item) × (left : List (ℕ × Item)) × (log : List (Event × Item)) × (value_at e old.place.blocks ≡ Some x)
+    × Sweeps (IsSeen old new) old.place.process MAX_BUDGET ((e, x) ∷ []) left bytes log
+    × Becomes (record old.place { blocks = without e old.place.blocks ++ left }) log old new × (result ≡ reclaimed bytes (length left))

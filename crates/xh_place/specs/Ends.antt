@@ -1,19 +1,19 @@
 -- Endpoints of a place: what opening and handing over do.
-use Rattle.std.specs.Prelude.{◌≡◌, ◌≢◌, ◌⊎◌, ℕ, ◌*◌, ◌/◌, ◌≤◌, ◌==◌, ◌&&◌, Bool, true, false, cond, List, [], ◌∷◌, ◌++◌, length, Option}
-use Rattle.std.specs.Prelude.{Some, None, Result, Err, MatchOption, MatchResult, IfErr, IfOk, OnOk}
+use Rattle.std.specs.Prelude.{◌≡◌, ◌≢◌, ◌⊎◌, ℕ, ◌*◌, ◌/◌, ◌≤◌, ◌==◌, ◌&&◌, Bool, true, false, cond, List, [], ◌∷◌, ◌++◌, length}
+use Rattle.std.specs.Prelude.{Some, Result, Err, MatchOption, MatchResult, IfErr, IfOk, OnOk}
 use Rattle.xh_channel.specs.Endpoint.{EndpointOf}
 use Rattle.xh_core.specs.declared.block.Block.{Block}
 use Rattle.xh_core.specs.declared.refused.Refused.{Refused}
 use Rattle.xh_core.specs.declared.refused.Refused.TheVariants.{Ended}
 use Rattle.xh_core.specs.declared.status.Status.{Status}
 use Rattle.xh_core.specs.declared.status.Status.TheVariants as status
-use Rattle.xh_model.specs.declared.limits.TheConstants.{DIRECTIONS, END_BYTES, MAX_BUDGET, MAX_RECORDS}
+use Rattle.xh_model.specs.declared.limits.TheConstants.{END_BYTES, MAX_BUDGET, MAX_RECORDS}
 use Rattle.xh_core.specs.Refusing.{Tests, first_refusal}
 use Rattle.xh_core.specs.Statuses.{is_running}
 use Rattle.xh_model.specs.declared.event.Event.{Event}
 use Rattle.xh_model.specs.Keyed.{put, value_at}
 use Rattle.xh_records.specs.Seats.{IsRecord}
-use Rattle.xh_place.specs.Bodies.{away, endpoint, toward}
+use Rattle.xh_place.specs.Bodies.{endpoint}
 use Rattle.xh_arena.specs.Views.{TallyOf, VaultOf}
 use Rattle.xh_place.specs.Vaults.{BringsBack}
 use Rattle.xh_place.specs.declared.opening.Unopened.{Unopened}
@@ -26,15 +26,6 @@ use Rattle.xh_place.specs.Ending.{IsSwept}
 -- the call answers the first refusal whose test is true, and then these stay as they were; where none is, it does what is said
 abbrev pub RefusedOr : {A : Type 0} → Tests → Result A Refused → Type 0 → Type 0 → Type 0
 RefusedOr tests result same done = MatchOption (first_refusal tests) done (λ refused. (result ≡ Err refused) × same)
-
--- the direction toward an endpoint, and that toward its peer
-abbrev pub toward_in : Option Item → ℕ
-toward_in None = DIRECTIONS
-toward_in (Some x) = toward x.content
-
-abbrev pub away_in : Option Item → ℕ
-away_in None = DIRECTIONS
-away_in (Some x) = away x.content
 
 -- an endpoint's block
 abbrev pub end_block : EndpointOf → Item

@@ -12,13 +12,13 @@ use Rattle.xh_core.specs.declared.refused.Refused.TheVariants.{Protocol, PeerClo
 use Rattle.xh_core.specs.declared.status.Status.{Status}
 use Rattle.xh_model.specs.Keyed.{keys, put, value_at, without}
 use Rattle.xh_channel.specs.Calls.{EndpointPuts, EndpointTakes}
-use Rattle.xh_place.specs.Endpoints.{AreGot, record_of}
-use Rattle.xh_place.specs.Ends.{EndDoes, RefusedOr, away_in, toward_in}
+use Rattle.xh_place.specs.Bodies.{away, endpoint, toward}
+use Rattle.xh_place.specs.Endpoints.{AreFetched, AreGot, record_of}
+use Rattle.xh_place.specs.Ends.{EndDoes, RefusedOr}
 use Rattle.xh_place.specs.Events.{accepted_on, passed_on}
 use Rattle.xh_place.specs.declared.got.Taken.{Taken}
 use Rattle.xh_place.specs.Places.{Item, PlaceOf, found, picked}
 use Rattle.xh_place.specs.Seen.{Becomes, Did, IsSeen, IsSeenAfter, PlaceSeen, Stays}
-use Rattle.xh_place.specs.declared.got.Got.{Got}
 
 -- ---- give
 
@@ -42,10 +42,8 @@ pub record IsSent (e tag : ℕ) (given : List ℕ) (old new : PlaceSeen) (result
   pub back : List (ℕ × Item)
   pub made : EndDoes e old.place mid (EndpointPuts tag (record { items = given }) answered)
   pub moved : Becomes (record mid { blocks = settled given (λ r. value_at r back) mid.blocks })
-      (passed_on old.place.process (away_in (value_at e old.place.blocks)) (picked given mid.blocks)
-      ++ accepted_on old.place.process (away_in (value_at e old.place.blocks)) back) old new
-  pub seen : OnErr answered ((gots : List Got) × (map record_of gots ≡ given)
-      × AreGot (IsSeenAfter (away_in (value_at e old.place.blocks)) old.place.process old.place.shape old.front new.front) (away_in (value_at e old.place.blocks)) back gots)
+      (passed_on old.place.process (away (endpoint made.0)) (picked given mid.blocks) ++ accepted_on old.place.process (away (endpoint made.0)) back) old new
+  pub seen : OnErr answered (AreFetched (IsSeenAfter (away (endpoint made.0)) old.place.process old.place.shape old.front new.front) (away (endpoint made.0)) given back)
   pub answer : MatchResult answered (λ no. (result ≡ Ok no) × (keys back ≡ [])) (λ u. (named : ArrayVec ℕ) × (result ≡ Err (refusal named u)) × (named.items ≡ keys back))
 
 -- the endpoint put the blocks with the tag; they were passed on the direction away from it, and left the list, or came back from it, and are in their old places
@@ -63,8 +61,8 @@ pub record IsTaken (e : ℕ) (old new : PlaceSeen) (taken : Taken) : Type 0 wher
   pub gained : List (ℕ × Item)
   pub made : EndDoes e old.place mid (EndpointTakes (Ok m))
   pub told : (taken.no ≡ m.no) × (taken.tag ≡ m.tag) × (map record_of taken.blocks.items ≡ m.blocks.items)
-  pub list : Becomes (record mid { blocks = mid.blocks ++ gained }) (accepted_on old.place.process (toward_in (value_at e old.place.blocks)) gained) old new
-  pub got : AreGot (IsSeen old new) (toward_in (value_at e old.place.blocks)) gained taken.blocks.items
+  pub list : Becomes (record mid { blocks = mid.blocks ++ gained }) (accepted_on old.place.process (toward (endpoint made.0)) gained) old new
+  pub got : AreGot (IsSeen old new) (toward (endpoint made.0)) gained taken.blocks.items
 
 -- the endpoint took nothing, and the answer is that of the take
 abbrev pub IsUntaken : ℕ → PlaceOf → PlaceOf → Refused → Type 0

@@ -106,7 +106,7 @@ fn fill<R, V: Vaults, G>(
 
 // The bytes of the record's lot go back, and its body goes to the outlet. It answers the bytes.
 #[inline(always)]
-fn empty<R, V: Vaults, G, E: Outlet>(
+fn empty<R, V: Vaults, G, E: Outlet<V>>(
     desk: &mut Desk<'_, R, V, G>,
     seat: &mut Seat<Body>,
     r: u16,
@@ -135,8 +135,7 @@ fn empty<R, V: Vaults, G, E: Outlet>(
             ensures asked { Asks V.changes arena vaults.entry.now vaults.exit.now }
         {
             let len = lot.len();
-            vaults.give_back(arena, lot);
-            out.empty(lot.body_mut());
+            out.empty(vaults, arena, lot);
             len
         },
     )
@@ -201,7 +200,7 @@ pub(crate) fn make_block<R, V: Vaults, G: Gate>(
 
 // Gives a block's bytes back, and makes its record free. It answers the bytes, and what the block carried goes to the outlet.
 #[inline(always)]
-pub(crate) fn give_up<R, V: Vaults, G: Gate, E: Outlet>(
+pub(crate) fn give_up<R, V: Vaults, G: Gate, E: Outlet<V>>(
     desk: &mut Desk<'_, R, V, G>,
     seat: &mut Seat<Body>,
     r: u16,

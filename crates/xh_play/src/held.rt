@@ -20,7 +20,7 @@ const FIRST: u32 = 6;
 
 /// A place, and the code of a step of its process.
 #[derive(Clone, Copy, PartialEq, Eq)]
-struct Step {
+struct StepAt {
     place: u8,
     code: u32,
 }
@@ -28,8 +28,8 @@ struct Step {
 /// The first step waits until the second has come.
 #[derive(Drop)]
 struct Wait {
-    held: Step,
-    other: Step,
+    held: StepAt,
+    other: StepAt,
     came: AtomicBool,
 }
 
@@ -41,10 +41,10 @@ pub(crate) struct Holds {
 }
 
 // The step that a word says.
-fn read_step(word: &str) -> Option<Step> {
+fn read_step(word: &str) -> Option<StepAt> {
     let (place, step) = word.split_once('.')?;
     let code = STEPS.iter().position(|known| *known == step)?;
-    Some(Step {
+    Some(StepAt {
         place: place.parse::<u8>().ok()?,
         code: code as u32,
     })
@@ -102,7 +102,7 @@ impl Holds {
     }
 
     // A step came.
-    fn tell(&self, step: Step) {
+    fn tell(&self, step: StepAt) {
         for wait in &self.waits {
             if wait.other == step {
                 wait.came.store(true, Ordering::SeqCst);
@@ -111,7 +111,7 @@ impl Holds {
     }
 
     // Holds the step, if it is to wait.
-    fn hold(&self, step: Step) {
+    fn hold(&self, step: StepAt) {
         for wait in &self.waits {
             if wait.held == step && !wait.is_over() {
                 self.missed.store(true, Ordering::SeqCst);
@@ -121,9 +121,9 @@ impl Holds {
 }
 
 // A command, or its answer.
-fn of_command(place: u8, command: u32, answers: u32) -> Step {
+fn of_command(place: u8, command: u32, answers: u32) -> StepAt {
     let code = FIRST.saturating_add(command.saturating_mul(2));
-    Step {
+    StepAt {
         place,
         code: code.saturating_add(answers),
     }
@@ -161,7 +161,7 @@ impl Gate for Holds {
 
     fn between(&self, place: u8, point: Point) {
         let code = code_of(point);
-        let step = Step { place, code };
+        let step = StepAt { place, code };
         self.tell(step);
         self.hold(step);
     }

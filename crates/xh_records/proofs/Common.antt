@@ -18,7 +18,7 @@ pub use Rattle.xh_model.proofs.Keyed.{put_split, put_swap, put_twice, split_at_k
 pub use Rattle.xh_model.proofs.Words.{arena_of_number, index_back, number_back, number_inside, place_of_number, word_injective}
 pub use Rattle.xh_model.specs.Keyed.{Among, Distinct, keys, put, value_at, without}
 pub use Rattle.xh_model.specs.Slots.{AreOwners, index_of}
-pub use Rattle.xh_model.specs.Words.{IsDone, IsHeldBy, IsHolder, Ownership, from_of, generation_of, number_of, place_of, record_of, to_of, word_of}
+pub use Rattle.xh_model.specs.Words.{IsDone, IsHeldBy, IsHolder, Ownership, from_of, generation_of, number_of, place_of, process_of, record_of, to_of, word_of}
 pub use Rattle.xh_model.specs.declared.event.Event.{Event}
 pub use Rattle.xh_model.specs.declared.event.Event.TheVariants.{Accept, Carve, Claim, Cut, GiveBack, Pass, Vacate}
 pub use Rattle.xh_model.specs.declared.event.Holder.{Holder}
@@ -27,7 +27,7 @@ pub use Rattle.xh_model.specs.declared.limits.TheConstants.{GENERATIONS, MAX_REC
 pub use Rattle.xh_records.specs.After.{IsAfter, LeadsOnStores, Wants}
 pub use Rattle.xh_records.specs.Deeds.{Adds, Arrives, Deed, IsLast, IsLeft, deeds_by, events}
 pub use Rattle.xh_records.specs.Encoding.{holder_of}
-pub use Rattle.xh_records.specs.History.{IsOneLog, LeadsTo, StartsWith, TellsWord, process_of}
+pub use Rattle.xh_records.specs.History.{IsOneLog, LeadsTo, StartsWith, TellsWord}
 pub use Rattle.xh_records.specs.Seats.{Ends, EndsAs, HasDone, HasGained, HasLooked, HasLost, HasSeen, Held, IsRecord, IsSeatOf, Knows, RecordsOf, SawAt, SawTaken, lot_in, with_lots}
 pub use Rattle.xh_records.specs.Showing.{HomeFits, IsEmpty, IsHistory, IsLotAt, IsLotOf, IsSmall, Owns, Shown, Shows, Sits, ViewFits, ViewTells}
 pub use Rattle.xh_records.specs.declared.shape.Shape.{Shape}

@@ -4,8 +4,7 @@ use Rattle.xh_arena.specs.Views.{LotOf}
 use Rattle.xh_model.specs.declared.event.Event.{Event}
 use Rattle.xh_model.specs.declared.event.Event.TheVariants.{Pass, Accept}
 use Rattle.xh_model.specs.Keyed.{Among}
-use Rattle.xh_model.specs.Words.{place_of, record_of}
-use Rattle.xh_records.specs.History.{process_of}
+use Rattle.xh_model.specs.Words.{place_of, process_of, record_of}
 
 -- an event, and the lot of its record as it was then
 abbrev pub Deed : Type 0 → Type 0

@@ -1,7 +1,6 @@
 -- The events on the records of a table, in their order.
 use Rattle.std.specs.Prelude.{◌≡◌, ◌⊎◌, ℕ, ◌%◌, ◌<◌, List, [], ◌∷◌, ◌++◌, length, replicate, None, Option}
 use Rattle.xh_model.specs.declared.event.Event.{Event}
-use Rattle.xh_model.specs.declared.event.Event.TheVariants.{Claim, Carve, Cut, GiveBack, Vacate, Pass, Accept}
 use Rattle.xh_model.specs.declared.event.Holder.{Holder}
 use Rattle.xh_model.specs.declared.limits.TheConstants.{MAX_RECORDS}
 use Rattle.xh_model.specs.Words.{Ownership, IsDone, IsHeldBy, IsHolder, record_of, to_of, word_of}
@@ -11,16 +10,6 @@ use Rattle.xh_model.specs.Words.{Ownership, IsDone, IsHeldBy, IsHolder, record_o
 abbrev pub LeadsTo : ℕ → Ownership → List Event → Ownership → Type 0
 LeadsTo n o [] o' = o' ≡ o
 LeadsTo n o (e ∷ es) o' = (m : Ownership) × IsDone n o e m × ((record_of e % MAX_RECORDS < n) × IsHolder (to_of e)) × LeadsTo n m es o'
-
--- the process of an event
-abbrev pub process_of : Event → ℕ
-process_of (Claim p r) = p
-process_of (Carve p r n) = p
-process_of (Cut p r t k) = p
-process_of (GiveBack p r) = p
-process_of (Vacate p r) = p
-process_of (Pass p r d) = p
-process_of (Accept p r d) = p
 
 -- the front is a beginning of the log
 abbrev pub StartsWith : {X : Type 0} → List X → List X → Type 0

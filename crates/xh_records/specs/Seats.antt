@@ -7,12 +7,12 @@ use Rattle.xh_model.specs.declared.event.Holder.TheVariants.{Process, Direction}
 use Rattle.xh_model.specs.declared.event.Event.{Event}
 use Rattle.xh_model.specs.declared.limits.TheConstants.{MAX_RECORDS}
 use Rattle.xh_model.specs.Slots.{index_of}
-use Rattle.xh_model.specs.Words.{Ownership, IsHeldBy, IsHolder, IsWord, record_of, word_of, number_of, place_of}
+use Rattle.xh_model.specs.Words.{Ownership, IsHeldBy, IsHolder, IsWord, process_of, record_of, word_of, number_of, place_of}
 use Rattle.xh_model.specs.Keyed.{Among, keys, value_at, without}
 use Rattle.xh_records.specs.declared.shape.Shape.{Shape}
 use Rattle.xh_records.specs.Showing.{IsLotOf, IsLotAt, IsEmpty, IsFull}
 use Rattle.xh_records.specs.Deeds.{Adds, Arrives, Deed, IsLast, IsLeft, deeds_by, events}
-use Rattle.xh_records.specs.History.{LeadsTo, StartsWith, TellsWord, process_of}
+use Rattle.xh_records.specs.History.{LeadsTo, StartsWith, TellsWord}
 
 -- the table of all records
 pub record RecordsOf : Type 0 where

@@ -9,10 +9,10 @@ use Rattle.xh_model.specs.declared.event.Holder.{Holder}
 use Rattle.xh_model.specs.declared.event.Holder.TheVariants.{Process, Direction}
 use Rattle.xh_model.specs.declared.event.Event.{Event}
 use Rattle.xh_model.specs.declared.limits.TheConstants.{MAX_RECORDS, PLACES, PROCESSES}
-use Rattle.xh_model.specs.Words.{Ownership, IsHeldBy, IsHolder, word_of, place_of, number_of}
+use Rattle.xh_model.specs.Words.{Ownership, IsHeldBy, IsHolder, process_of, word_of, place_of, number_of}
 use Rattle.xh_model.specs.Keyed.{Among, Distinct}
 use Rattle.xh_records.specs.Deeds.{Arrives, Deed, IsLeft, deeds_by, events}
-use Rattle.xh_records.specs.History.{LeadsTo, StartsWith, process_of}
+use Rattle.xh_records.specs.History.{LeadsTo, StartsWith}
 use Rattle.xh_records.specs.declared.shape.Shape.{Shape}
 use Rattle.xh_records.specs.declared.view.View.{View}
 

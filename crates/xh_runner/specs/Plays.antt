@@ -1,5 +1,6 @@
 -- How the lines of a script are played on threads: the head, then the commands of each process by a machine of its own, and last those of processes without a place.
-use Rattle.std.specs.Prelude.{◌≡◌, ◌≢◌, ◌⊎◌, ◌==◌, ◌&&◌, ◌%◌, ℕ, suc, nat_le, nat_lt, not, Bool, true, false, List, [], ◌∷◌, map, replicate, slice_index_or, slice_set, if◌then◌else◌, Option, Some, None}
+use Rattle.std.specs.Prelude.{◌≡◌, ◌≢◌, ◌⊎◌, ◌==◌, ◌&&◌, ◌%◌, ℕ, suc, nat_le, nat_lt, not, Bool, true, false, List, [], ◌∷◌, map, replicate, slice_index_or}
+use Rattle.std.specs.Prelude.{slice_set, if◌then◌else◌, Option, Some, None}
 use Rattle.std.specs.List.{filter, list_any}
 use Rattle.xh_model.specs.declared.limits.TheConstants.{PLACES}
 use Rattle.xh_model.specs.declared.row.Row.{Row}

@@ -103,7 +103,8 @@ abbrev pub give_plan : Bindings → ℕ → ℕ → ℕ → List Word → Plan
 give_plan b p e tag xs = asks (ask.Give (number_at b.processes p) (record_at b.blocks p e) (min tag MAX_TAG) (records_of b.blocks p xs)) (given_plan b p (records_of b.blocks p xs))
 
 abbrev pub take_plan : Bool → Bindings → List Word → Plan
-take_plan waits b ws = asks (ask.Take (number_in b ws 0) (record_in b ws 1) waits) (replied taken_reply (λ message. record b { blocks = bound_each b.blocks (name ws 0) (drop 2 ws) message.blocks.items }) b)
+take_plan waits b ws = asks (ask.Take (number_in b ws 0) (record_in b ws 1) waits)
+    (replied taken_reply (λ message. record b { blocks = bound_each b.blocks (name ws 0) (drop 2 ws) message.blocks.items }) b)
 
 -- what a place shows, asked of the place of a process
 abbrev pub glance_at : ℕ → Question
@@ -113,7 +114,8 @@ glance_at n = ask.Glance (n % PLACES)
 -- and a sweep has the greatest budget where none is named
 unfoldable pub plan_by : Bindings → List (List Row) → Form → List Word → Plan
 plan_by b contracts Contract ws = says (done []) b
-plan_by b contracts Process ws = if has_place b.processes (name ws 0) then says (No Twice) b else asks ask.Spawn (replied Started (λ n. record b { processes = started b.processes (name ws 0) n }) b)
+plan_by b contracts Process ws = if has_place b.processes (name ws 0) then says (No Twice) b
+    else asks ask.Spawn (replied Started (λ n. record b { processes = started b.processes (name ws 0) n }) b)
 plan_by b contracts Wire ws = asks (ask.Wire (number_in b ws 0) (number_in b ws 2) (number ws 4) (contract_at contracts (contract ws 5)))
     (replied (λ _. done []) (λ ends. with_ends b (name ws 0) (name ws 1) (name ws 2) (name ws 3) ends) b)
 plan_by b contracts Open ws = asks (ask.Open (number_in b ws 0) (number ws 3) (contract_at contracts (contract ws 4)))

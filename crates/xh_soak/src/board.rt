@@ -7,8 +7,8 @@ use xh_model::limits::{PLACES, USUAL_GENERATIONS};
 /// So many places of blocks and of ends are known to all workers.
 pub(crate) const HINTS: u16 = 64;
 
-/// Where the words of each kind begin: the process that each worker started last, with which process and endpoint it waits for
-/// room, and whether the first worker is there.
+/// Where the words of each kind begin: the process that each worker started last, of which process it waits
+/// without end, and whether the first worker is there.
 pub(crate) const OWN: u16 = 0;
 
 pub(crate) const WAITS: u16 = 16;

@@ -26,13 +26,15 @@ pub(crate) enum Call<'a> {
 }
 
 /// A worker, by its calls, which answer what the kernel does. A take is at one endpoint, or at any of these, at once or until a
-/// time, and so is an alloc; a put is of so many bytes, all the same.
+/// time, and so is an alloc, or without end; a put is of so many bytes, all the same.
 pub(crate) trait Caller: Drop {
     fn call(&mut self, call: Call) -> Told<u64>;
 
     fn wire(&mut self, p: u16, q: u16, arena: u32) -> Told<(Block, Block)>;
 
     fn alloc(&mut self, p: u16, bytes: u32, arena: u32, by: Option<Instant>) -> Told<Block>;
+
+    fn alloc_wait(&mut self, p: u16, bytes: u32, arena: u32) -> Told<Block>;
 
     fn put(&mut self, p: u16, bytes: u32, arena: u32, byte: u8) -> Told<Block>;
 
@@ -101,6 +103,11 @@ impl<'a, N: Names, R: Wait + Clock> Caller for Hired<'a, N, R> {
             None => kernel.alloc(rt, alloc, p, bytes, arena, to, gate),
             Some(by) => kernel.alloc_wait_until(rt, alloc, p, bytes, arena, by, to, gate),
         })
+    }
+
+    fn alloc_wait(&mut self, p: u16, bytes: u32, arena: u32) -> Told<Block> {
+        let (rt, alloc, kernel, to, gate) = (self.0, self.1, self.2, &mut *self.3, &OpenGate);
+        told(kernel.alloc_wait(rt, alloc, p, bytes, arena, to, gate))
     }
 
     fn put(&mut self, p: u16, bytes: u32, arena: u32, byte: u8) -> Told<Block> {

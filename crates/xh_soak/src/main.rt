@@ -2,7 +2,7 @@
 //!
 //! `xh_soak SEED ROUNDS` plays so many rounds, the first by this seed and each by the next one. In a round 2 to 16 workers on
 //! threads do calls of any of the processes, several of one at once: they name processes and records that are another's or
-//! nobody's, write in place, take and take at several endpoints until a time, and give until a time or without end. Each refusal
+//! nobody's, write in place, take and take at several endpoints until a time, and give and alloc until a time or without end. Each refusal
 //! has to be one that may be; a message comes once, with its blocks; the bytes of a block are of its own group of processes; and
 //! at the end each block is one process's, and the ledger what was counted. The first round that goes wrong is the last, and the
 //! status is 1. With a third word, `scarce`, a growth of memory may be refused, as tools/refuse_growth.c does it.

@@ -59,7 +59,7 @@ impl<'a, C: Caller, R: Wait + Clock> Worker<'a, C, R> {
         }
     }
 
-    /// Does its commands, as long as nothing is wrong. At last the first worker ends the waits for room.
+    /// Does its commands, as long as nothing is wrong. At last the first worker ends the waits without end.
     pub(crate) fn work(mut self) -> Told<u64> {
         if self.number == 0 {
             self.board.set(IS_THERE, 0, 1);
@@ -91,6 +91,15 @@ impl<'a, C: Caller, R: Wait + Clock> Worker<'a, C, R> {
             board.set(AIMED_AT, p, 1);
             let _bytes = self.ask(p, Call::Exit(p, 4096), &[]);
         }
+    }
+
+    // Whether a wait without end begins, of the process: at times, and only as long as the first worker is there, which ends it.
+    fn begins_wait(&mut self, p: u16) -> bool {
+        if self.number == 0 || self.chance.one_in(2) {
+            return false;
+        }
+        self.board.see(WAITS, self.number, p, 0);
+        self.board.get(IS_THERE, 0) == 1
     }
 
     // The process that the worker keeps running starts, where it has ended.
@@ -225,16 +234,21 @@ impl<'a, C: Caller, R: Wait + Clock> Worker<'a, C, R> {
         let may = ["NoRecord", "NoSpace", "Worn", "OutOfMemory"];
         let is_put = self.chance.one_in(4);
         let until = self.until().filter(|_| !is_put);
+        let is_endless = until.is_some() && self.begins_wait(p);
         let told = if is_put {
             let byte = (self.mark(p) % 256) as u8;
             let whole = bytes.div_ceil(16).saturating_mul(16);
             self.caller.put(p, whole, arena, byte)
+        } else if is_endless {
+            self.caller.alloc_wait(p, bytes, arena)
         } else {
             self.caller.alloc(p, bytes, arena, until)
         };
+        self.board.set(WAITS, self.number, 0);
         if let Err("NoRecord" | "NoSpace") = told {
             let now = Instant::now(self.rt).ok();
-            self.claim(now.is_none() || now >= until, "refused before its time");
+            let is_past = now.is_none() || now >= until;
+            self.claim(is_past && !is_endless, "refused before its time");
         }
         if let Some(block) = self.judge(p, told, &may) {
             let is_so = block.len == bytes.div_ceil(16).saturating_mul(16);
@@ -293,8 +307,7 @@ impl<'a, C: Caller, R: Wait + Clock> Worker<'a, C, R> {
         }
     }
 
-    // A give: at once, until a time, or without end, as long as the first worker is there, which ends such waits. It is of
-    // blocks of the process, and at times an endpoint or any record. Where all processes are to end it is no endpoint, since
+    // A give: at once, until a time, or without end. It is of blocks of the process, and at times an endpoint or any record. Where all processes are to end it is no endpoint, since
     // one that is on its way to itself is never reclaimed.
     fn give(&mut self) {
         let board = self.board;
@@ -309,13 +322,10 @@ impl<'a, C: Caller, R: Wait + Clock> Worker<'a, C, R> {
         board.set(MESSAGES, self.tag, load.iter().fold(1, joined));
         let may = ["NotOwned", "NotEndpoint", "Full", "PeerClosed"];
         let until = self.until();
-        let is_endless = until.is_some() && self.number > 0 && self.chance.one_in(2);
-        if is_endless {
-            board.see(WAITS, self.number, p, e);
-        }
-        let call = match board.get(IS_THERE, 0) {
-            1 if is_endless => Call::GiveWait(p, e, self.tag, &load),
-            _ => Call::Give(p, e, self.tag, &load, until),
+        let call = if until.is_some() && self.begins_wait(p) {
+            Call::GiveWait(p, e, self.tag, &load)
+        } else {
+            Call::Give(p, e, self.tag, &load, until)
         };
         let sent = self.ask(p, call, &may);
         board.set(WAITS, self.number, 0);

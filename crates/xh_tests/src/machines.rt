@@ -55,7 +55,8 @@ impl<'a, N: Names, R: Wait, G: Gate> Booked for Worker<'a, N, R, G> {
     }
 
     fn held(&mut self, arena: u8) -> Option<(u32, u32)> {
-        let line = self.kernel.arena_line(self.rt, arena, &mut self.account)?;
+        let seen = self.kernel.overview(self.rt, &mut self.account);
+        let line = seen.arenas.get(usize::from(arena))?;
         Some((line.out, line.holes))
     }
 }

@@ -5,9 +5,9 @@ ghost use Rattle.xh_kernel.specs.Did.{DidAlloc};
 ghost use Rattle.xh_kernel.specs.Waits.{AtLastOf, IsNoMemory};
 
 use crate::account::Account;
-use crate::awaiting::Awaited;
 use crate::kernel::Kernel;
 use crate::looking::bell_of;
+use crate::overview::Awaited;
 use crate::until::{Never, Until};
 use std::alloc::Global;
 use std::sync::Wait;
@@ -100,11 +100,7 @@ impl<N: Names> Kernel<N> {
                 return answer;
             }
             if lack == lacking {
-                let shared = &self.shared;
-                let [arena, ..] = arena.to_le_bytes();
-                let word = shared.awaiting.begin(p, Awaited::Memory { arena });
-                until.sleep_at(rt, &shared.heap.channels, bell_of(p), seen);
-                shared.awaiting.end(p, word);
+                self.sleep(rt, until, p, Awaited::Memory { arena }, seen);
             }
             lack = Some(found);
         }

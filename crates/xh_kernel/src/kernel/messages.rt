@@ -5,14 +5,12 @@ ghost use Rattle.xh_kernel.specs.Did.{DidGive, DidTake, DidTakeAny};
 ghost use Rattle.xh_kernel.specs.Waits.{AtLast, no_room};
 
 use crate::account::Account;
-use crate::awaiting::Awaited;
 use crate::kernel::Kernel;
-use crate::looking::bell_of;
+use crate::overview::Awaited;
 use crate::until::{Never, Until};
 use std::sync::Wait;
 use std::time::{Clock, Instant};
 use xh_calls::{Answered, Names};
-use xh_channel::Spot;
 use xh_core::Refused;
 use xh_place::{Gate, Taken};
 
@@ -58,7 +56,9 @@ impl<N: Names> Kernel<N> {
         ensures { DidTake N.leads p e result account.old account.new }
     {
         let mut held = self.held(rt, p);
-        held.take(rt, &self.shared, p, e, account, gate)
+        let mut answer = Err(Refused::Empty);
+        held.take(rt, &self.shared, p, e, &mut answer, account, gate);
+        answer
     }
 
     /// As `take`; where no message waits and the peer is not closed, it waits for one, without a lock, and
@@ -209,10 +209,11 @@ impl<N: Names> Kernel<N> {
         ensures calls { AtLast (DidTake N.leads p e) (Err refused.Empty) result account.old account.new }
         ensures waits { U.never ≡ true → IfErr result (λ why. why ≢ refused.Empty) }
     {
+        let mut answer = Err(Refused::Empty);
         for _ in rt.forever() {
             let past = until.is_past(rt);
             let mut held = self.held(rt, p);
-            let (answer, turn) = held.look_for(rt, &self.shared, p, e, account, gate);
+            let turn = held.look_for(rt, &self.shared, p, e, &mut answer, account, gate);
             drop(held);
             let Some((spot, seen)) = turn else {
                 return answer;
@@ -220,11 +221,7 @@ impl<N: Names> Kernel<N> {
             if past {
                 return answer;
             }
-            let Spot { channel, side } = spot;
-            let awaited = Awaited::Message { channel, side };
-            let word = self.shared.awaiting.begin(p, awaited);
-            until.sleep(rt, &self.shared.heap.channels, spot, seen);
-            self.shared.awaiting.end(p, word);
+            self.sleep(rt, until, p, Awaited::Message(spot), seen);
         }
         unreachable!()
     }
@@ -253,9 +250,7 @@ impl<N: Names> Kernel<N> {
             if past {
                 return answer;
             }
-            let word = self.shared.awaiting.begin(p, Awaited::AnyMessage);
-            until.sleep_at(rt, &self.shared.heap.channels, bell_of(p), seen);
-            self.shared.awaiting.end(p, word);
+            self.sleep(rt, until, p, Awaited::AnyMessage, seen);
         }
         unreachable!()
     }
@@ -289,10 +284,8 @@ impl<N: Names> Kernel<N> {
             if past {
                 return answer;
             }
-            if let Some(Spot { channel, side }) = spot {
-                let word = shared.awaiting.begin(p, Awaited::Room { channel, side });
-                until.sleep_at(rt, &shared.heap.channels, bell_of(p), seen);
-                shared.awaiting.end(p, word);
+            if let Some(spot) = spot {
+                self.sleep(rt, until, p, Awaited::Room(spot), seen);
             }
             asks = !asks;
         }

@@ -125,7 +125,7 @@ impl Place {
 
     // A block's bytes go back, and its record is free. It answers the bytes, and what the block carried goes to the outlet.
     #[inline(always)]
-    pub(super) fn give_up<R, V: Vaults, G: Gate, E: Outlet>(
+    pub(super) fn give_up<R, V: Vaults, G: Gate, E: Outlet<V>>(
         &mut self,
         desk: &mut Desk<'_, R, V, G>,
         r: u16,
@@ -213,7 +213,7 @@ impl Place {
 
     // A data block's bytes go back, and its record is free. What it carried goes to the outlet.
     #[inline(always)]
-    fn release<R, V: Vaults, G: Gate, E: Outlet>(
+    fn release<R, V: Vaults, G: Gate, E: Outlet<V>>(
         &mut self,
         desk: &mut Desk<'_, R, V, G>,
         r: u16,

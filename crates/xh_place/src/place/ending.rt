@@ -7,9 +7,9 @@ ghost use Rattle.xh_model.specs.Keyed.{value_at};
 ghost use Rattle.xh_model.specs.declared.event.Event.{Event};
 ghost use Rattle.xh_model.specs.declared.limits.TheConstants.{DIRECTIONS};
 ghost use Rattle.xh_place.specs.Calls.{Stops};
-ghost use Rattle.xh_place.specs.Desk.{IsAt, IsSameDesk, StaysAt};
+ghost use Rattle.xh_place.specs.Desk.{IsAt, IsSameDesk};
 ghost use Rattle.xh_place.specs.Vaults.{BringsBack};
-ghost use Rattle.xh_place.specs.Ending.{IsSwept, ending};
+ghost use Rattle.xh_place.specs.Ending.{IsSwept};
 ghost use Rattle.xh_place.specs.Ends.{IsTooLate, ending_again};
 ghost use Rattle.xh_place.specs.Places.{Item};
 ghost use Rattle.xh_place.specs.Seen.{Becomes, IsElsewhere, IsSamePlace, IsSeen, SawWord, Stays};
@@ -20,6 +20,7 @@ ghost use Rattle.xh_core.specs.declared.status.Status.TheVariants as status;
 use crate::desk::Desk;
 use crate::gate::Gate;
 use crate::got::Got;
+use crate::outlet::Run;
 use crate::place::Place;
 use crate::vaults::Vaults;
 use std::sync::Wait;
@@ -39,7 +40,7 @@ pub(super) fn reclaimed(bytes: u64, left: u16) -> Result<u64, Refused>
 }
 
 fn ending(left: u16) -> Status
-    ensures { result ≡ ending left }
+    ensures { result ≡ ending_again status.Ended left }
 {
     if left == 0 {
         return Status::Ended;
@@ -89,6 +90,7 @@ impl Place {
         &mut self,
         desk: &mut Desk<'_, R, V, G>,
         from: usize,
+        run: &mut Run<V::Lock>,
     ) -> u32
         requires at { IsAt V.names desk.old self.old.place }
         requires alive { is_over self.old.place.state ≢ true }
@@ -99,8 +101,8 @@ impl Place {
         ensures back { BringsBack V.changes V.tallies result desk.old.vaults desk.new.vaults }
     {
         let r = self.at(from);
-        self.drain_end(desk, r);
-        self.give_up(desk, r, &mut ())
+        self.drain_end(desk, r, run);
+        self.give_up(desk, r, run)
     }
 
     /// The blocks of the list from `from` on go, as far as the budget goes; what waits for an endpoint
@@ -121,8 +123,9 @@ impl Place {
     {
         let mut bytes = 0;
         let mut used = 0;
+        let mut run = Run::new(desk.gate.is_open());
         while used < budget && self.left(from) > 0 {
-            bytes += u64::from(self.reclaim(desk, from));
+            bytes += u64::from(self.reclaim(desk, from, &mut run));
             used += 1;
         }
         (bytes, self.left(from))
@@ -136,7 +139,7 @@ impl Place {
         budget: u16,
     ) -> Result<u64, Refused>
         requires at { IsAt V.names desk.old self.old.place }
-        ensures same { StaysAt V.names V.extent desk.old desk.new self.old self.new }
+        ensures same { IsSameDesk V.names V.extent desk.old desk.new }
         ensures stopped { (bytes : ℕ) × Stops self.old.place.state budget bytes self.old self.new result × BringsBack V.changes V.tallies bytes desk.old.vaults desk.new.vaults }
         ensures untouched { IsSome (first_refusal (stop self.old.place.state)) → desk.new.vaults ≡ desk.old.vaults }
     {

@@ -9,8 +9,8 @@ ghost use Rattle.xh_model.specs.Keyed.{value_at, without};
 ghost use Rattle.xh_model.specs.declared.limits.TheConstants.{DIRECTIONS, END_BYTES};
 ghost use Rattle.xh_place.specs.Bodies.{IsEndAt, kind_of};
 ghost use Rattle.xh_place.specs.Calls.{Closes};
-ghost use Rattle.xh_place.specs.Desk.{IsAt, StaysAt};
-ghost use Rattle.xh_place.specs.Ends.{Accepts, EndDoes, IsUnopened, Opens, end_block, is_here, toward_in};
+ghost use Rattle.xh_place.specs.Desk.{IsAt, IsSameDesk, StaysAt};
+ghost use Rattle.xh_place.specs.Ends.{Accepts, EndDoes, IsUnopened, Opens, end_block, is_here};
 ghost use Rattle.xh_place.specs.Places.{Item, IsPlaceOf, alone, found};
 ghost use Rattle.xh_place.specs.Seen.{Becomes, Did, FindsFull, IsSeen, Stays};
 ghost use Rattle.xh_place.specs.Events.{accepted_on, passed_on};
@@ -18,7 +18,7 @@ ghost use Rattle.xh_place.specs.Vaults.{BringsBack, AsksEach, IsNoPair};
 ghost use Rattle.xh_records.specs.Seats.{IsRecord};
 ghost use Rattle.xh_channel.specs.Pairs.{IsPair};
 ghost use Rattle.xh_core.specs.Headers.{has_end};
-ghost use Rattle.xh_place.specs.inner.Reclaiming.{Clears, Drains};
+ghost use Rattle.xh_place.specs.inner.Reclaiming.{Clears, Drains, toward_in};
 ghost use Rattle.xh_core.specs.declared.status.Status.TheVariants as status;
 ghost use Rattle.xh_core.specs.declared.header.Kind.TheVariants as kind;
 
@@ -30,6 +30,7 @@ use crate::got::Got;
 use crate::list::remove;
 use crate::lots::{pass_block, place_of};
 use crate::opening::{Unopened, make_ends};
+use crate::outlet::Run;
 use crate::place::Place;
 use crate::place::ending::reclaimed;
 use crate::vaults::Vaults;
@@ -188,7 +189,7 @@ impl Place {
         e: u16,
     ) -> Result<u64, Refused>
         requires at { IsAt V.names desk.old self.old.place }
-        ensures same { StaysAt V.names V.extent desk.old desk.new self.old self.new }
+        ensures same { IsSameDesk V.names V.extent desk.old desk.new }
         ensures closed { (bytes : ℕ) × Closes self.old.place.state e bytes self.old self.new result × BringsBack V.changes V.tallies bytes desk.old.vaults desk.new.vaults }
         ensures untouched { IsSome (first_refusal (start self.old.place.state ++ end_tests (found self.old.place e))) → desk.new.vaults ≡ desk.old.vaults }
     {
@@ -234,8 +235,13 @@ impl Place {
         }
     }
 
-    // An endpoint is shut, and what waits for it comes to the end of the list. A data block stays.
-    pub(super) fn drain_end<R: Wait, V, G: Gate>(&mut self, desk: &Desk<'_, R, V, G>, r: u16)
+    // An endpoint is shut, and what waits for it comes to the end of the list. A data block stays. No lock of an arena is held as an endpoint is drained.
+    pub(super) fn drain_end<R: Wait, V: Vaults, G: Gate>(
+        &mut self,
+        desk: &Desk<'_, R, V, G>,
+        r: u16,
+        run: &mut Run<V::Lock>,
+    )
         requires own { IsPlaceOf desk.now.records.now self.old.place }
         requires alive { is_over self.old.place.state ≢ true }
         requires listed { (x : Item) × (value_at r self.old.place.blocks ≡ Some x) }
@@ -244,7 +250,7 @@ impl Place {
     {
         match self.look(desk.records, r).kind {
             Kind::Data => return,
-            Kind::End => {}
+            Kind::End => run.end(),
         }
         self.shut(desk, r);
         desk.gate.between(place_of(&self.seat), Point::Shut);

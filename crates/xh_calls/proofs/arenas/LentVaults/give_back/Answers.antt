@@ -11,7 +11,7 @@ bounds-tallies-from g c =
 
 pub give_back-requires-clause-ids : goal.give_back-requires-clause-ids
 give_back-requires-clause-ids g c = (
-  ap (slice_get g.N.Names.parts.records.shape.names) (ap (λ k. k.pen.number) c.deref_mut.ensures.value ∙ c.kept-kept.ensures) ∙ c.requires.ids,
+  ap (slice_get g.N.Names.parts.records.shape.names) (ap (λ k. k.pen.number) c.deref_mut.ensures.value ∙ c.requires.lock) ∙ c.requires.ids,
   tally_is c.as_mut_slice-tallies.result.now c.from.result c.index-tallies-from.result (ap ids_of c.as_mut_slice-tallies.ensures.value ∙ c.args.self.now.own.0) c.from.ensures
       (slice_get_within _ _ _ c.requires.ids) c.requires.ids,
 )
@@ -40,7 +40,7 @@ returns-clause-given_back g c =
     let end : new ≡ set ts i t = search (rules, places) in
     let lot = c.args.lot.now in
     let k = subst (λ (a : ℕ). DoesTo g.N.Names.parts a c.args.self.now.till.seen c.give_back.new.front (λ v w. IsVaultGivenBack v w lot c.give_back.new.lot (get_or ts i d) t))
-    (ap (λ k. k.pen.number) c.deref_mut.ensures.value ∙ c.kept-kept.ensures) c.give_back.ensures.entered in (
+    (ap (λ k. k.pen.number) c.deref_mut.ensures.value ∙ c.requires.lock) c.give_back.ensures.entered in (
       k.0,
       k.1,
       k.2,

@@ -1,3 +1,4 @@
+use Rattle.xh_place.proofs.Stayed.{closed_same}
 use Rattle.xh_calls.proofs.Common.{ap, ◌∙◌, Closes, Status, end_tests, found, places, refl, rules, start, status_at, stays_itself, subst, sym}
 use Rattle.xh_calls.proofs.Moved.{came, none_given}
 use Rattle.xh_calls.proofs.Started.{stopped_first}
@@ -19,3 +20,6 @@ returns-clause-closed g c =
       subst (λ (s : Status). Closes s c.args.e d.0 c.args.place.now c.close_end-answer.new.self c.close_end-answer.result) (sym c.in_ok-check_number.ensures.latest) d.1,
       came g.N.Names.parts c.desk-desk.result.vaults c.close_end-answer.new.desk.vaults (λ l. l.till) (ap (λ l. l.till) c.desk-desk.ensures.1 ∙ c.new-lent.ensures) c.end.ensures.0 d.2,
     )
+
+pub returns-clause-same : goal.returns-clause-same
+returns-clause-same g c = let d = c.close_end-answer.ensures.closed in (closed_same c.args.place.now.place.state c.args.e d.0 c.args.place.now c.close_end-answer.new.self c.close_end-answer.result d.1, search rules)

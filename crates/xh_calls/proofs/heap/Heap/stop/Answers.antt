@@ -1,3 +1,4 @@
+use Rattle.xh_place.proofs.Stayed.{stopped_same}
 use Rattle.xh_calls.proofs.Common.{ap, ◌∙◌, Status, Stops, places, refl, rules, stays_itself, subst, sym}
 use Rattle.xh_calls.proofs.Moved.{came, none_given}
 use Rattle.xh_calls.proofs.heap.Heap.stop.Goals as goal
@@ -12,3 +13,6 @@ returns-clause-stopped g c =
       subst (λ (s : Status). Stops s c.args.budget d.0 c.args.place.now c.stop-answer.new.self c.stop-answer.result) (sym c.in_ok-check_number.ensures.latest) d.1,
       came g.N.Names.parts c.desk-desk.result.vaults c.stop-answer.new.desk.vaults (λ l. l.till) (ap (λ l. l.till) c.desk-desk.ensures.1 ∙ c.new-lent.ensures) c.end.ensures.0 d.2,
     )
+
+pub returns-clause-same : goal.returns-clause-same
+returns-clause-same g c = let d = c.stop-answer.ensures.stopped in (stopped_same c.args.place.now.place.state c.args.budget d.0 c.args.place.now c.stop-answer.new.self c.stop-answer.result d.1, search rules)

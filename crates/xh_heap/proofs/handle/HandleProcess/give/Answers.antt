@@ -1,14 +1,5 @@
-use Rattle.std.proofs.Common.{ap, refl, sym, ◌∙◌}
-use Rattle.xh_heap.proofs.Named.{named}
-use Rattle.xh_heap.specs.Values.{recs_at}
-use Rattle.xh_kernel.specs.Did.{DidGive}
+use Rattle.std.proofs.Common.{refl}
 use Rattle.xh_heap.proofs.handle.HandleProcess.give.Goals as goal
 
 pub returns-clause-call : goal.returns-clause-call
-returns-clause-call g c =
-    let p = c.args.self.now.number in let old = c.args.self.now.account.now in
-    let recs = recs_at p c.args.items.items in
-    let are = c.as_slice-2.ensures.value ∙ (c.recs_at-recs.ensures ∙ ap (recs_at p) c.as_slice.ensures.value) in
-    let by_recs = named (λ xs. DidGive g.N.Names.leads p c.at-e.result c.args.tag xs)
-    old c.give-told.new.account are (sym c.given.ensures.call) c.give-told.ensures in
-    (refl, named (λ e. DidGive g.N.Names.leads p e c.args.tag recs) old c.give-told.new.account c.at-e.ensures refl by_recs)
+returns-clause-call g c = ((c.at.result, c.as_slice-blocks.result.now), cc, (refl, rw c.given.ensures.call c.give-told.ensures))

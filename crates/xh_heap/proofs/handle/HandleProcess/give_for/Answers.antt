@@ -1,19 +1,8 @@
-use Rattle.std.proofs.Common.{ap, refl, sym, zero, ◌∙◌}
-use Rattle.xh_heap.proofs.Named.{named}
-use Rattle.xh_heap.specs.Values.{recs_at}
-use Rattle.xh_kernel.specs.Did.{DidGive}
-use Rattle.xh_kernel.specs.Waits.{AtLast, no_room}
+use Rattle.std.proofs.Common.{refl, zero}
 use Rattle.xh_heap.proofs.handle.HandleProcess.give_for.Goals as goal
 
 pub returns-in_default-clause-call : goal.returns-in_default-clause-call
-returns-in_default-clause-call g c =
-    (c.give.ensures.call.0, (zero, c.args.self.now.account.now, refl, c.give.ensures.call.1))
+returns-in_default-clause-call g c = let e = c.give.ensures.call in (e.0, e.1, (e.2.0, (zero, c.args.self.now.account.now, refl, e.2.1)))
 
 pub returns-clause-call : goal.returns-clause-call
-returns-clause-call g c =
-    let p = c.args.self.now.number in let old = c.args.self.now.account.now in
-    let recs = recs_at p c.args.items.items in
-    let are = c.as_slice-blocks.ensures.value ∙ (c.recs_at-recs.ensures ∙ ap (recs_at p) c.as_slice.ensures.value) in
-    let by_recs = named (λ xs. AtLast (DidGive g.N.Names.leads p c.at-e.result c.args.tag xs) (no_room xs))
-    old c.give_wait_until-told.new.account are (sym c.given.ensures.call) c.give_wait_until-told.ensures in
-    (refl, named (λ e. AtLast (DidGive g.N.Names.leads p e c.args.tag recs) (no_room recs)) old c.give_wait_until-told.new.account c.at-e.ensures refl by_recs)
+returns-clause-call g c = ((c.at-e.result, c.as_slice-blocks.result.now), cc, (refl, rw c.given.ensures.call c.give_wait_until-told.ensures))

@@ -1,8 +1,6 @@
-use Rattle.std.proofs.Common.{refl}
-use Rattle.xh_heap.proofs.Named.{answers}
-use Rattle.xh_kernel.specs.Did.{DidTake}
+use Rattle.std.proofs.Common.{arith, refl, rules}
+use Rattle.std.proofs.lemmas.Grind.{common_steps}
 use Rattle.xh_heap.proofs.handle.HandleProcess.take.Goals as goal
 
 pub returns : goal.returns
-returns g c =
-    (refl, answers (DidTake g.N.Names.leads c.args.self.now.number) c.args.self.now.account.now c.take.new.account c.at-e.ensures c.show_message.ensures c.take.ensures)
+returns g c = (c.at.result, c.at.ensures, (refl, (c.take.result, first_of (search rules, grind (arith, common_steps)), c.take.ensures)))

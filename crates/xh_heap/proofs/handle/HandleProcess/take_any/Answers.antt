@@ -1,17 +1,11 @@
 use Rattle.std.proofs.Common.{refl, ◌∙◌}
-use Rattle.xh_heap.proofs.Named.{answers}
 use Rattle.xh_heap.proofs.Several.{at_of}
-use Rattle.xh_kernel.specs.Did.{DidTakeAny}
 use Rattle.xh_heap.proofs.handle.HandleProcess.take_any.Goals as goal
-
-pub returns-clause-call : goal.returns-clause-call
-returns-clause-call g c = (
-  refl,
-  answers (DidTakeAny g.N.Names.leads c.args.self.now.number)
-      c.args.self.now.account.now c.take_any-told.new.account (c.as_slice.ensures.value ∙ c.ends_at-recs.ensures) c.show_answered.ensures c.take_any-told.ensures,
-)
 
 pub returns-clause-at : goal.returns-clause-at
 returns-clause-at g c =
-    at_of c.args.self.now.number g.E.AsEnd.shows c.args.ends.now _ (c.as_slice.ensures.value ∙ c.ends_at-recs.ensures) g.N.Names.leads c.args.self.now.account.now
-    c.take_any-told.new.account c.take_any-told.result c.show_answered.result c.show_answered.ensures c.take_any-told.ensures
+    at_of g.N.Names.leads c.args.self.now.number g.E.AsEnd.shows c.args.ends.now _ (c.as_slice.ensures.value ∙ c.ends_at-recs.ensures) c.args.self.now.account.now c.take_any-told.new.account c.of.result
+    c.take_any-told.result c.of.ensures c.take_any-told.ensures
+
+pub returns-clause-call : goal.returns-clause-call
+returns-clause-call g c = (c.as_slice.result.now, c.as_slice.ensures.value ∙ c.ends_at-recs.ensures, (refl, (c.take_any-told.result, c.of.ensures, c.take_any-told.ensures)))

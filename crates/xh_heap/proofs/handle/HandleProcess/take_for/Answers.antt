@@ -1,15 +1,9 @@
-use Rattle.std.proofs.Common.{Err, refl, zero}
-use Rattle.xh_core.specs.declared.refused.Refused.TheVariants.{Empty}
-use Rattle.xh_heap.proofs.Named.{answers}
-use Rattle.xh_kernel.specs.Did.{DidTake}
-use Rattle.xh_kernel.specs.Waits.{AtLast}
+use Rattle.std.proofs.Common.{arith, refl, rules, zero}
+use Rattle.std.proofs.lemmas.Grind.{common_steps}
 use Rattle.xh_heap.proofs.handle.HandleProcess.take_for.Goals as goal
 
 pub returns-in_default : goal.returns-in_default
-returns-in_default g c =
-    (c.take.ensures.0, (c.take.ensures.1.0, c.take.ensures.1.1, (zero, c.args.self.now.account.now, refl, c.take.ensures.1.2)))
+returns-in_default g c = let e = c.take.ensures in (e.0, e.1, (e.2.0, (e.2.1.0, e.2.1.1, (zero, c.args.self.now.account.now, refl, e.2.1.2))))
 
 pub returns : goal.returns
-returns g c =
-    let p = c.args.self.now.number in let old = c.args.self.now.account.now in
-    (refl, answers (λ e. AtLast (DidTake g.N.Names.leads p e) (Err Empty)) old c.take_wait_until-told.new.account c.at-e.ensures c.show_message.ensures c.take_wait_until-told.ensures)
+returns g c = (c.at.result, c.at.ensures, (refl, (c.take_wait_until.result, first_of (search rules, grind (arith, common_steps)), c.take_wait_until.ensures)))

@@ -3,5 +3,5 @@ use Rattle.xh_kernel.proofs.kernel.Kernel.take_until.Goals as goal
 
 pub loop-preserved : goal.loop-preserved
 loop-preserved g c =
-    let did = c.look_for-answer.ensures in
-    in_vain (DidTake g.N.Names.leads c.args.p c.args.e) (λ a. a ≡ Err Empty) c.look_for-answer.result.0 _ _ _ (rw c.in-Some-turn.is at did.vain) c.loop.invariant did.call
+    let did = c.look_for-turn.ensures in
+    in_vain (DidTake g.N.Names.leads c.args.p c.args.e) (λ a. a ≡ Err Empty) _ _ _ _ (rw c.in-Some-turn.is at did.vain) c.loop.invariant did.call

@@ -1,6 +1,6 @@
 use Rattle.xh_place.proofs.Common.{◌≡◌, sym, ap, ◌∙◌, subst, refl, Some, value_at, put, put_at, end_block, Clears, header_of, option_map, with_blocks, IsSeen, drains_as, seen_wide, starts_same}
 use Rattle.xh_place.proofs.Common.{[], ℕ, Did, accepted_on, did_more, did_starts, same_since}
-use Rattle.xh_place.specs.Ends.{toward_in}
+use Rattle.xh_place.specs.inner.Reclaiming.{toward_in}
 use Rattle.xh_place.proofs.Drained.{cleared, cleared_bytes}
 use Rattle.xh_place.proofs.place.Place.drain_end.Goals as goal
 

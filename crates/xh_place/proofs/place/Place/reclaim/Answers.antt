@@ -1,6 +1,6 @@
 use Rattle.xh_place.proofs.Common.{arith, ℕ, ◌/◌, [], ◌∷◌, ◌++◌, ap, ◌∙◌, refl, subst, put, value_at, front_at, put_at, Did, IsSeen, accepted_on, clears_as, did_more, did_starts, seen_wide, starts_same}
 use Rattle.xh_place.proofs.Common.{sym, vacated, with_blocks, with_list}
-use Rattle.xh_place.specs.Ends.{toward_in}
+use Rattle.xh_place.specs.inner.Reclaiming.{toward_in}
 use Rattle.xh_place.proofs.Swept.{swept_clear}
 use Rattle.xh_place.proofs.place.Place.reclaim.Goals as goal
 

@@ -1,8 +1,10 @@
 use Rattle.xh_place.proofs.Common.{arith, ◌≡◌, ℕ, ◌+◌, ◌-◌, ◌≤◌, true, List, refl, sym, ap, ◌∙◌, subst, Some, ◌==◌, list_any, is_running, Among, put, value_at, ◌++◌}
-use Rattle.xh_place.proofs.Common.{away, away_in, end_block, keys, lens, less_all, Item, item_at, item_in, item_of, shown, with_blocks, settled, EndpointOf, AreGot, Did, Got, IsSeenAfter, OnErr}
+use Rattle.xh_place.proofs.Common.{away, end_block, keys, lens, less_all, Item, item_at, item_in, item_of, shown, with_blocks, settled, EndpointOf, AreGot, Did, Got, IsSeenAfter, OnErr}
 use Rattle.xh_place.proofs.Common.{EndpointPuts, accepted_on, map, passed_on, picked, record_of, shown_keys, list_distinct, over_running, total_bound, IsNow, place_did, placed, all_found, found, put_other}
 use Rattle.xh_place.proofs.Common.{shown_picked}
-use Rattle.xh_place.specs.Bodies.{IsEndAt}
+use Rattle.xh_place.proofs.Common.{fetched, on_err_weaker}
+use Rattle.xh_place.specs.Bodies.{IsEndAt, endpoint}
+use Rattle.xh_place.specs.Endpoints.{AreFetched}
 use Rattle.xh_place.specs.Seen.{PlaceSeen}
 use Rattle.xh_place.proofs.Ends.{item_now, item_was}
 use Rattle.xh_place.proofs.Givens.{answered, given_place, passed_below, settled_same, shown_look}
@@ -51,9 +53,9 @@ pub returns-clause-sent : goal.returns-clause-sent
 returns-clause-sent g c =
     let old = c.args.self.now in let seat = c.self.inside.seat in let given = c.args.given.now in let last = c.give_all-put.new.seat in let back = c.give_all-put.result.back.items in
     let a = c.give_all-put.ensures in let v = placed c.self.view_is in let f = found c.self.invariant v c.args.e c.requires.end.1 in let end = a.end f.lot f.held in
-    let d : ℕ = away (item_in (value_at c.args.e seat.lots)).content in let ways : ℕ = away_in (value_at c.args.e old.place.blocks) in
-    let way : d ≡ ways = ap (λ o. away (item_in o).content) f.held ∙ ap (λ x. away x.content) f.same ∙ sym (ap away_in c.requires.end.1) in
     let does : EndpointOf → EndpointOf → Type 0 = EndpointPuts c.args.tag (record { items = given }) c.give_all-put.result.put in
+    let d : ℕ = away (item_in (value_at c.args.e seat.lots)).content in let ways : ℕ = away (endpoint end.2.before) in
+    let way : d ≡ ways = ap (λ o. away (item_in o).content) f.held ∙ ap (λ x. away x.content) (item_was does f.block end.2) in
     let now : Item = end_block end.2.after in let xs' : List (ℕ × Item) = put c.args.e now old.place.blocks in let came : List (ℕ × Item) = shown last.lots back in
     let blocks : settled given (λ r. item_at (value_at r last.lots)) (put c.args.e (item_of end.0) old.place.blocks) ≡ settled given (λ r. value_at r came) xs' =
     ap (λ x. settled given (λ r. item_at (value_at r last.lots)) (put c.args.e x old.place.blocks)) (item_now does f.block end.2)
@@ -76,8 +78,9 @@ returns-clause-sent g c =
         subst (λ es. Did old.place.process es old.front last.front)
             (λ i. passed_on old.place.process (way i) (left i) ++ accepted_on old.place.process (way i) came) did,
       );
-      seen = subst (λ n. OnErr c.give_all-put.result.put ((gots : List Got) × (map record_of gots ≡ given)
-          × AreGot (IsSeenAfter n old.place.process old.place.shape old.front last.front) n came gots)) way saw;
+      seen = subst (λ n. OnErr c.give_all-put.result.put (AreFetched (IsSeenAfter n old.place.process old.place.shape old.front last.front) n given came)) way
+          (on_err_weaker c.give_all-put.result.put (λ h. subst (λ rs. AreFetched (IsSeenAfter d old.place.process old.place.shape old.front last.front) d rs came) h.1
+          (fetched (IsSeenAfter d old.place.process old.place.shape old.front last.front) d came h.0 h.2)) saw);
       answer = answered (keys came) c.give_all-put.result.back c.give_all-put.result.put c.answer.result (shown_keys last.lots back) a.sent c.answer.ensures;
     }
 

@@ -1,9 +1,8 @@
 use Rattle.xh_place.proofs.Common.{rules, ◌≡◌, ℕ, ap, sym, ◌∙◌, subst, None, Some, stop, first_refusal, Becomes, Did, IsSeen, IsSwept, refl, seen_wide, starts_same, stays_itself, swept_as}
 use Rattle.xh_place.proofs.Common.{unrefused, with_list}
-use Rattle.xh_place.proofs.Swept.{still, stopped}
+use Rattle.xh_place.proofs.Swept.{still, stopped, swept_all}
 use Rattle.xh_core.specs.declared.status.Status.TheVariants.{Ending}
 use Rattle.xh_place.specs.Seen.{PlaceSeen}
-use Rattle.xh_place.proofs.Common.{becomes_same, same_then}
 use Rattle.xh_place.proofs.place.Place.stop.Goals as goal
 
 pub returns-clause-stopped : goal.returns-clause-stopped
@@ -22,7 +21,7 @@ returns-clause-stopped g c =
     (ap (λ s. s.place) last ∙ ap (λ s. record swept.place { state = s }) c.ending.ensures) c.reclaimed.ensures in (
       bytes,
       unrefused (stop old.place.state) c.reclaimed.result _ _ passed
-          (t.0, done.0, (done.1, subst (λ f. Did old.place.process t.0 old.front f) (sym (ap (λ s. s.front) last)) list.1), done.2),
+          (t.0, swept_all (IsSeen old new) c.args.budget bytes t.0 old.place new.place done.0, (done.1, subst (λ f. Did old.place.process t.0 old.front f) (sym (ap (λ s. s.front) last)) list.1), done.2),
       c.sweep-bytes.ensures.back,
     )
 
@@ -30,14 +29,3 @@ pub returns-in_err-check_stop-clause-stopped : goal.returns-in_err-check_stop-cl
 returns-in_err-check_stop-clause-stopped g c =
     let first : first_refusal (stop c.args.self.now.place.state) ≡ Some c.in_err-check_stop.field-0.0 = search rules in
     (0, rw first (search rules, (stays_itself c.args.self.now, refl)), still g.V.Vaults.changes g.V.Vaults.tallies c.args.desk.now.vaults c.args.desk.now.vaults refl)
-
-pub returns-clause-same : goal.returns-clause-same
-returns-clause-same g c =
-    let old = c.args.self.now in let mid = c.set_state.new.self in let swept = c.sweep-bytes.new.self in let new = c.set_state-2.new.self in let t = c.sweep-bytes.ensures.swept in
-    let begun = c.set_state.ensures.state in let last = c.set_state-2.ensures.state in (
-      c.sweep-bytes.ensures.same,
-      same_then old swept new
-          (same_then old mid swept (ap (λ s. s.place.table) begun, ap (λ s. s.place.shape) begun, ap (λ s. s.place.process) begun, starts_same (ap (λ s. s.front) begun))
-          (becomes_same swept.place.blocks t.0 mid swept t.2))
-          (ap (λ s. s.place.table) last, ap (λ s. s.place.shape) last, ap (λ s. s.place.process) last, starts_same (ap (λ s. s.front) last)),
-    )

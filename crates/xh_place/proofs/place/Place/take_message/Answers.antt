@@ -3,6 +3,7 @@ use Rattle.xh_place.proofs.Common.{Body, List, is_over, popped, when_end}
 use Rattle.xh_records.specs.Deeds.{Deed}
 use Rattle.xh_channel.specs.Refusals.{same_refusal}
 use Rattle.xh_place.proofs.Common.{same_then}
+use Rattle.xh_place.specs.inner.Reclaiming.{toward_in}
 use Rattle.xh_place.proofs.place.Place.take_message.Goals as goal
 
 pub take_all-requires-clause-own : goal.take_all-requires-clause-own
@@ -17,7 +18,7 @@ take_all-requires-clause-alive g c = let w = popped c.args.e c.args.self.now.pla
 pub returns-clause-taken : goal.returns-clause-taken
 returns-clause-taken g c =
     let w = popped c.args.e c.args.self.now.place c.pop-taken.new.self.place (EndpointTakes c.pop-taken.result.0) c.pop-taken.result.1 c.in-Some.direction c.in-Some.is
-    c.pop-taken.ensures.took c.pop-taken.ensures.direction in let t = w.0 in let got = c.take_all.ensures.got in let d : ℕ = c.in-Some.direction in let way = w.2 in let mid = c.pop-taken.new.self in
+    c.pop-taken.ensures.took c.pop-taken.ensures.direction in let t = w.0 in let got = c.take_all.ensures.got in let d : ℕ = c.in-Some.direction in let way = w.2 ∙ ap toward_in t.2 in let mid = c.pop-taken.new.self in
     let old = c.args.self.now in let new = c.take_all.new.self in
     let whose : mid.place.process ≡ old.place.process = ap (λ p. p.process) t.3 in
     let wide = seen_wide mid new old new (ap (λ p. p.shape) t.3) whose (starts_same c.pop-taken.ensures.front) (starts_same refl) in

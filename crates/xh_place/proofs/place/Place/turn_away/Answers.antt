@@ -3,7 +3,8 @@ use Rattle.xh_place.proofs.Common.{SawWord, accepted_on, away_as}
 use Rattle.xh_place.proofs.Common.{ending_again, seen_wide, starts_same, swept_as, word_wide}
 use Rattle.xh_records.specs.Deeds.{Deed}
 use Rattle.xh_place.specs.Seen.{PlaceSeen, brings}
-use Rattle.xh_place.proofs.Swept.{turned, turned_none}
+use Rattle.xh_core.specs.Statuses.{is_over}
+use Rattle.xh_place.proofs.Swept.{again_over, turned, turned_none}
 use Rattle.xh_place.proofs.Common.{same_then}
 use Rattle.xh_place.proofs.place.Place.turn_away.Goals as goal
 
@@ -51,3 +52,7 @@ returns-clause-place g c =
     same_then old swept new
     (same_then old mid swept (ap (λ s. s.place.table) begun, ap (λ s. s.place.shape) begun, ap (λ s. s.place.process) begun, starts_same (ap (λ s. s.front) begun)) c.sweep_late.ensures.place)
     (ap (λ s. s.place.table) last, ap (λ s. s.place.shape) last, ap (λ s. s.place.process) last, starts_same (ap (λ s. s.front) last))
+
+pub set_state-requires-2 : goal.set_state-requires-2
+set_state-requires-2 g c = λ h. again_over c.args.self.now.place.state c.left.result c.sweep_late.new.self.place.blocks c.requires.taken c.left.ensures.left
+    (ap is_over (sym (c.ending_again.ensures ∙ ap (λ s. ending_again s c.left.result) c.state-state.ensures)) ∙ h)

@@ -1,7 +1,7 @@
 use Rattle.std.proofs.Common.{rules}
 use Rattle.arrayvec.proofs.ArrayVecLemmas.{filter-from_retain}
 use Rattle.xh_heap.specs.Values.{is_back, item_at}
-use Rattle.xh_heap.proofs.told.given.Goals as goal
+use Rattle.xh_heap.proofs.values.given.Goals as goal
 
 pub returns-in-Err-clause-returned : goal.returns-in-Err-clause-returned
 returns-in-Err-clause-returned c =

@@ -1,6 +1,0 @@
-use Rattle.std.proofs.Common.{map, take, ◌≡◌}
-use Rattle.xh_heap.specs.Values.{item_of}
-use Rattle.xh_heap.proofs.told.show_items.Given as goal
-
-abbrev pub invariant-loop-got : goal.invariant-loop-got
-invariant-loop-got l = l.all.items ≡ map (item_of l.p) (take l.got-index l.blocks)
