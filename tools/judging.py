@@ -221,14 +221,17 @@ def rt_ci(least: int) -> None:
 
 
 def does_not_compile(crate: str, error: str, old: str, new: str) -> None:
-    """With the one line in place of the other the crate's program is no edit that can be tried:
-    the compiler says this error of it. The edit stands in a copy, which goes with the room."""
+    """With the one text in place of the other the crate's program is refused, for this error of
+    the compiler, before any proof. It stands in a copy, which goes with the room."""
     copy = ROOM / "compiled"
     shutil.copytree(TOP, copy, ignore=shutil.ignore_patterns("out", ".git"))
-    edit = f"file: src/main.rt\nold: {old}\nnew: {new}\n"
-    write(copy / f"crates/{crate}/must-fail/compiled.edit", edit)
-    said = run(["env", "-C", copy, "rt", "must-fail", crate], limit=LONG).out
-    claim(b"BAD EDIT" in said and error.encode() in said, said.decode(errors="replace"))
+    main = copy / f"crates/{crate}/src/main.rt"
+    text = main.read_text(encoding="utf-8")
+    claim(text.count(old) == 1, f"{main} has no such text once: {old}")
+    main.write_text(text.replace(old, new), encoding="utf-8")
+    ran = run(["env", "-C", copy / "crates" / crate, "rt", "try"])
+    said = ran.out + ran.err
+    claim(ran.status == 1 and error.encode() in said, said.decode(errors="replace"))
 
 
 def claim_same(answer: Answer | Ended, wanted: Ended) -> None:
