@@ -16,9 +16,9 @@ pub use Rattle.std.specs.Prelude.{All, AllPairs, Contains, Err, count_by, is_non
 pub use Rattle.xh_arena.specs.Views.{AreLots, AreSummed, AreTallies, LotOf, Move, TallyOf, VaultOf}
 pub use Rattle.xh_arena.specs.declared.parts.Part.{Part}
 pub use Rattle.xh_arena.specs.declared.parts.Part.TheVariants.{Books, Length, Moved}
-pub use Rattle.xh_arena.specs.inner.Books.{Balanced, Booked, back_of, booked, moved, moves_of, vault_parts, workers_of}
+pub use Rattle.xh_arena.specs.inner.Books.{Balanced, Booked, back_of, booked, moved_part, moves_of, vault_parts, workers_of}
 pub use Rattle.xh_arena.specs.inner.Layout.{AreApart, AreDisjoint, IsKept, IsPlaced, cover_of, has_byte, hole_place, in_hole, join_above, join_run, owner_of, shrunk, within}
-pub use Rattle.xh_arena.specs.inner.Parts.{AreOfOneWhole, AreOneWhole, Changed, Keeps, Kept, below, books, first_parts, listed, lots_from, part_in, tallies_from, top, under, weigh, whole}
+pub use Rattle.xh_arena.specs.inner.Parts.{AreOfOneWhole, AreOneWhole, Changed, Keeps, Kept, below, books, first_parts, listed_parts, lots_from, part_in, tallies_from, top, under, weigh, whole}
 pub use Rattle.xh_arena.specs.inner.Parts.{with_back, with_length, with_taken}
 pub use Rattle.xh_model.proofs.Calls.{back_length, back_lengths, back_limit, back_others, back_wear, carved_length, carved_lengths, carved_limit, carved_others, carved_wear, cut_lengths}
 pub use Rattle.xh_model.proofs.Calls.{cut_limit, cut_others, cut_wear}

@@ -1,8 +1,8 @@
 -- What a look shows of a vault's books, and that each change keeps them.
 use Rattle.xh_arena.proofs.Common.{nat_tests, ◌++◌, ◌≡◌, ℕ, zero, suc, ◌+◌, ◌-◌, ◌≤◌, ◌<◌, List, [], ◌∷◌, length, map, set, Some, refl, sym, ap, ◌∙◌, subst, arith, slice_get, slice_set, Part}
 use Rattle.xh_arena.proofs.Common.{Books, Length, Moved, weigh, whole, AreOfOneWhole, part_in, below, under, with_length, with_taken, with_back, IsGoodCut, lengths_of, length_is, LotOf, VaultOf}
-use Rattle.xh_arena.proofs.Common.{Move, AreSummed, Booked, moved, moves_of, back_of, workers_of, vault_parts, booked, Balanced}
-use Rattle.xh_arena.specs.Sharing.{IsLotOf}
+use Rattle.xh_arena.proofs.Common.{Move, AreSummed, Booked, moved_part, moves_of, back_of, workers_of, vault_parts, booked, Balanced}
+use Rattle.xh_arena.specs.Sharing.{IsLotOfArena}
 use Rattle.xh_arena.proofs.Weights.{weigh-append, weigh-set, weigh-at, weigh-none, weigh_sum}
 use Rattle.xh_arena.proofs.Wholes.{weigh-whole, weigh-listed, listed-none, lot_stands, tally_stands, books_stand}
 
@@ -22,7 +22,7 @@ tally_shown j x y ls t b k rest f =
     let B : weigh (λ (u : ℕ × ℕ). u.1) f.1.1 ≡ b = cc in
     (omega (arith, weigh-at (λ (u : ℕ × ℕ). u.0) f.1.1 j (x, y) at), omega (arith, weigh-at (λ (u : ℕ × ℕ). u.1) f.1.1 j (x, y) at))
 
-moves_weigh : (h : Part → ℕ) (g : Move → ℕ) → ((m : Move) → h (moved m) ≡ g m) → (ms : List Move) → weigh h (map moved ms) ≡ weigh g ms
+moves_weigh : (h : Part → ℕ) (g : Move → ℕ) → ((m : Move) → h (moved_part m) ≡ g m) → (ms : List Move) → weigh h (map moved_part ms) ≡ weigh g ms
 moves_weigh h g e [] = refl
 moves_weigh h g e (m ∷ ms) = omega (arith, e m, moves_weigh h g e ms)
 
@@ -50,7 +50,7 @@ back_none p e = grind (arith, nat_tests)
 
 -- what a weight of tallies alone says of a whole, and of tallies that were collected
 module _ (h : Part → ℕ) (g : ℕ × ℕ → ℕ) (m : Move → ℕ) (zl : (r n : ℕ) → h (Length r n) ≡ 0) (zb : (ls : List ℕ) (t b k : ℕ) → h (Books ls t b k) ≡ 0)
-    (eg : (j : ℕ) (u : ℕ × ℕ) → h (Moved j u.0 u.1) ≡ g u) (em : (x : Move) → h (moved x) ≡ m x) where
+    (eg : (j : ℕ) (u : ℕ × ℕ) → h (Moved j u.0 u.1) ≡ g u) (em : (x : Move) → h (moved_part x) ≡ m x) where
   whole_weighs : (ls : List ℕ) (ts : List (ℕ × ℕ)) → weigh h (whole ls ts) ≡ weigh g ts
   whole_weighs ls ts = grind (arith, nat_tests, weigh-whole, listed-none, weigh-listed)
 
@@ -91,12 +91,12 @@ lot_known vs parts i x a e b f =
     lot_shown i x a.lengths a.wear _ _ _ (beside_share vs parts (Length i x) a.lengths a.wear (back_of parts) (workers_of parts) (moves_of parts) e b.0 f)
 
 -- a lot that the books have is a lot of the vault, as contracts see both
-pub lot_seen : {B : Type 0} {vault now : VaultOf} {lot seen : LotOf B} → vault ≡ now → lot ≡ seen → slice_get (lengths_of vault.arena) lot.index ≡ Some lot.len → IsLotOf now.arena seen
+pub lot_seen : {B : Type 0} {vault now : VaultOf} {lot seen : LotOf B} → vault ≡ now → lot ≡ seen → slice_get (lengths_of vault.arena) lot.index ≡ Some lot.len → IsLotOfArena now.arena seen
 lot_seen {vault = vault} {lot = lot} a l e = let is = length_is vault.arena lot.index lot.len e in rw (← a, ← l) (record { known = is.0; length = is.1 })
 
 -- so is one whose share is of one whole with the vault's parts
 pub lot_of : {B : Type 0} {vault now : VaultOf} {lot seen : LotOf B} {vs : List (List Part)} {parts : List Part} → vault ≡ now → lot ≡ seen → vs ≡ (Length lot.index lot.len ∷ []) ∷ []
-    → Balanced (booked vault.arena) parts → AreOfOneWhole (part_in vs ∷ parts) → IsLotOf now.arena seen
+    → Balanced (booked vault.arena) parts → AreOfOneWhole (part_in vs ∷ parts) → IsLotOfArena now.arena seen
 lot_of {vault = vault} {lot = lot} {vs = vs} {parts = parts} a l v b f = lot_seen a l (lot_known vs parts lot.index lot.len (booked vault.arena) v b f)
 
 -- of parts that are of one whole, the tallies taken in sum up
@@ -109,7 +109,7 @@ all_summed ls t b k ms f all =
 not_all : (t b k : ℕ) (ms : List Move) → length ms < k → AreSummed t b k ms
 not_all t b k ms l all = absurd (omega arith)
 
-moves_moved : (ms : List Move) → moves_of (map moved ms) ≡ ms
+moves_moved : (ms : List Move) → moves_of (map moved_part ms) ≡ ms
 moves_moved [] = refl
 moves_moved (m ∷ ms) = λ i. m ∷ moves_moved ms i
 
@@ -137,7 +137,7 @@ carve_shown a p p1 now vs ts i m n j x y b v t z f1 e1 f e2 =
     let left = one_shown j x y (slice_set a.lengths i n) a.wear bk wk ms tally in
     let total = weigh-set (λ (u : ℕ). u) a.lengths i 0 n at in
     record {
-      tally = (tally_shown j x y (slice_set a.lengths i n) a.wear bk wk (map moved ms) tally).0;
+      tally = (tally_shown j x y (slice_set a.lengths i n) a.wear bk wk (map moved_part ms) tally).0;
       kept = grind (arith, nat_tests, settled, not_all);
     }
 
@@ -162,7 +162,7 @@ back_shown a p p1 now vs ts i n j x y b v t f1 e1 f2 e2 =
     let total = weigh-set (λ (u : ℕ). u) a.lengths i n 0 at in
     record {
       lot = at;
-      tally = (tally_shown j x y (slice_set a.lengths i 0) a.wear bk wk (map moved ms) tally).1;
+      tally = (tally_shown j x y (slice_set a.lengths i 0) a.wear bk wk (map moved_part ms) tally).1;
       kept = grind (arith, nat_tests, settled, not_all);
     }
 
@@ -202,7 +202,7 @@ cut_shown a p p1 now vs ts i m j n k b v t z len good f1 e1 f2 e2 =
     let q1 = after_change vs p (Length i m) a.lengths a.wear bk wk ms v b.0 (with_length k) p1 e1 in
     let q2 = after_change ts p1 (Length j n) (slice_set a.lengths i k) a.wear bk wk ms t q1 (with_length (m - k)) now e2 in
     let there : slice_get (slice_set a.lengths i k) j ≡ Some 0 =
-    lot_shown j n (slice_set a.lengths i k) a.wear bk wk (map moved ms) (beside_share ts p1 (Length j n) (slice_set a.lengths i k) a.wear bk wk ms t q1 f2) ∙ ap Some z in
+    lot_shown j n (slice_set a.lengths i k) a.wear bk wk (map moved_part ms) (beside_share ts p1 (Length j n) (slice_set a.lengths i k) a.wear bk wk ms t q1 f2) ∙ ap Some z in
     let other : j ≡ i → ⊥ = apart a.lengths i j m k at there some in
     let total = weigh-set (λ (u : ℕ). u) a.lengths i m k at in
     let total' = weigh-set (λ (u : ℕ). u) (slice_set a.lengths i k) j 0 (m - k) there in

@@ -1,6 +1,6 @@
 -- A part that stands in a whole is the whole's, and a changed part makes another whole.
 use Rattle.xh_arena.proofs.Common.{nat_tests, ◌≡◌, ℕ, zero, suc, ◌+◌, ◌≤◌, Bool, true, false, ◌&&◌, cond, eqb, List, [], ◌∷◌, ◌++◌, length, set, Option, Some, None, refl, arith, slice_get}
-use Rattle.xh_arena.proofs.Common.{and_parts, Decides-eqb, Part, Books, Length, Moved, weigh, listed, lots_from, tallies_from, books, whole, AreOneWhole}
+use Rattle.xh_arena.proofs.Common.{and_parts, Decides-eqb, Part, Books, Length, Moved, weigh, listed_parts, lots_from, tallies_from, books, whole, AreOneWhole}
 use lib.Pointwise.{pointwise}
 use Rattle.std.proofs.lemmas.Slice.Eq.{slice_eq-Decides}
 use Rattle.xh_arena.proofs.Weights.{weigh-append}
@@ -9,16 +9,16 @@ pub weigh-whole : (h : Part → ℕ) (ls : List ℕ) (ts : List (ℕ × ℕ)) �
 weigh-whole h ls ts = omega (arith, weigh-append h (lots_from 0 ls) (tallies_from 0 ts ++ books ls ts ∷ []), weigh-append h (tallies_from 0 ts) (books ls ts ∷ []))
 
 module _ {X : Type 0} (part : ℕ → X → Part) (h : Part → ℕ) where
-  pub weigh-listed : (g : X → ℕ) → ((j : ℕ) (x : X) → h (part j x) ≡ g x) → (i : ℕ) (xs : List X) → weigh h (listed part i xs) ≡ weigh g xs
+  pub weigh-listed : (g : X → ℕ) → ((j : ℕ) (x : X) → h (part j x) ≡ g x) → (i : ℕ) (xs : List X) → weigh h (listed_parts part i xs) ≡ weigh g xs
   weigh-listed g e i [] = refl
   weigh-listed g e i (x ∷ xs) = omega (arith, e i x, weigh-listed g e (suc i) xs)
 
-  pub listed-none : (i : ℕ) (xs : List X) → ((k j : ℕ) (x : X) → j ≡ i + k → slice_get xs k ≡ Some x → h (part j x) ≡ 0) → weigh h (listed part i xs) ≡ 0
+  pub listed-none : (i : ℕ) (xs : List X) → ((k j : ℕ) (x : X) → j ≡ i + k → slice_get xs k ≡ Some x → h (part j x) ≡ 0) → weigh h (listed_parts part i xs) ≡ 0
   listed-none i [] z = refl
   listed-none i (x ∷ xs) z = omega (arith, z 0 i x (omega arith) refl, listed-none (suc i) xs (λ k j y q e. z (suc k) j y (omega arith) e))
 
   pub listed-set : (i : ℕ) (xs : List X) (r j : ℕ) (x y : X) → j ≡ i + r → slice_get xs r ≡ Some x
-      → weigh h (listed part i (set xs r y)) + h (part j x) ≡ weigh h (listed part i xs) + h (part j y)
+      → weigh h (listed_parts part i (set xs r y)) + h (part j x) ≡ weigh h (listed_parts part i xs) + h (part j y)
   listed-set i [] r j x y q e = absurd (cc)
   listed-set i (m ∷ ms) zero j x y q e = let a : m ≡ x = cc in let b : j ≡ i = omega arith in rw (a, b) (omega arith)
   listed-set i (m ∷ ms) (suc r) j x y q e = omega (arith, listed-set (suc i) ms r j x y (omega arith) e)

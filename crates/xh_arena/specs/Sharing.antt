@@ -5,7 +5,7 @@ use Rattle.xh_model.specs.Arena.{ArenaState, IsCarved, IsCut, IsGivenBack}
 use Rattle.xh_arena.specs.Views.{LotOf, TallyOf, VaultOf}
 
 -- the lot is of a record of the arena, and its length is that record's
-pub record IsLotOf {B : Type 0} (arena : ArenaState) (lot : LotOf B) : Type 0 where
+pub record IsLotOfArena {B : Type 0} (arena : ArenaState) (lot : LotOf B) : Type 0 where
   pub known : lot.index < arena.records
   pub length : length_of lot.index arena.cover ≡ lot.len
 

@@ -7,11 +7,11 @@ use std::marker::Model;
 
 /// Says which vault it is of, and no more: contracts see it as the id that the vault, its lots and its tallies share.
 #[derive(Drop)]
-pub struct Name {
+pub struct VaultName {
     share: Badge<View>,
 }
 
-impl Model for Name {
+impl Model for VaultName {
     ghost use Rattle.atomic_table.specs.Seated.{TableId};
 
     ghost Value = { TableId };
@@ -19,11 +19,11 @@ impl Model for Name {
     ghost view = { λ n. n.share.table_id };
 }
 
-impl Name {
+impl VaultName {
     /// The name in a share, which may be of nothing.
-    pub(crate) fn of(share: Badge<View>) -> Name
+    pub(crate) fn of(share: Badge<View>) -> VaultName
         ensures { result ≡ share.table_id }
     {
-        Name { share }
+        VaultName { share }
     }
 }

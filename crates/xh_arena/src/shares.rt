@@ -3,7 +3,7 @@ ghost use Rattle.std.specs.Prelude.{◌≡◌, [], ◌∷◌, ◌++◌, IfOk};
 ghost use Rattle.xh_arena.specs.inner.Holding.{view_in};
 ghost use Rattle.xh_arena.specs.inner.Parts.{first_parts, part_in, IsOne, under, top, below, AreOfOneWhole, with_length, with_taken, with_back};
 
-use crate::name::Name;
+use crate::name::VaultName;
 use crate::parts::{Change, Changes, Law, Nothing, OffTheTop, OnTop, Under, View};
 use atomic_table::{Badge, Seat, Table};
 use std::alloc::{AllocError, Global};
@@ -79,13 +79,13 @@ impl Shares {
 
     /// A share of nothing.
     #[tactic(auto, using(crate::proofs::Moves::splits_nothing))]
-    pub fn name(&mut self) -> Name
+    pub fn name(&mut self) -> VaultName
         ensures same { self.new ≡ self.old }
         ensures name { result ≡ self.old.id }
     {
         let table = &self.table;
         let seat = table.shared.split_seat::<Nothing>(&mut self.seat);
-        Name::of(seat.into_badge())
+        VaultName::of(seat.into_badge())
     }
 
     /// The part of a share that is taken in for good goes under the vault's own.

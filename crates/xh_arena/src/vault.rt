@@ -5,13 +5,13 @@ ghost use Rattle.xh_model.specs.Arena.{IsGoodCut, IsLawfulArena, lengths_of};
 ghost use Rattle.xh_arena.specs.declared.parts.Part.TheVariants.{Books};
 ghost use Rattle.xh_arena.specs.inner.Parts.{lots_from, tallies_from};
 ghost use Rattle.xh_arena.specs.Refusals.{RefusesCarve};
-ghost use Rattle.xh_arena.specs.Sharing.{IsLotOf, IsVaultCarved, IsVaultCut, IsVaultGivenBack};
+ghost use Rattle.xh_arena.specs.Sharing.{IsLotOfArena, IsVaultCarved, IsVaultCut, IsVaultGivenBack};
 ghost use Rattle.xh_arena.specs.Views.{AreLots, AreSummed, AreTallies, AreVaultLimits};
 
 use crate::arena::Arena;
 use crate::fits::Fits;
 use crate::lot::{Lot, lots};
-use crate::name::Name;
+use crate::name::VaultName;
 use crate::refused::Refused;
 use crate::shares::Shares;
 use crate::tally::{Tally, tallies};
@@ -102,7 +102,7 @@ impl Vault {
         requires empty { lot.old.len ≡ 0 }
         requires some { 0 < n }
         requires multiple { n % UNIT ≡ 0 }
-        ensures lot { IsLotOf self.old.arena lot.old }
+        ensures lot { IsLotOfArena self.old.arena lot.old }
         ensures done { IfOk result (λ at. IsVaultCarved n at self.old self.new lot.old lot.new tally.old tally.new) }
         ensures refused { IfErr result (λ e. RefusesCarve n self.old.arena e × (self.new ≡ self.old) × (lot.new ≡ lot.old) × (tally.new ≡ tally.old)) }
         ensures exact { (e : Refused) → RefusesCarve n self.old.arena e → result ≡ Err e }
@@ -127,7 +127,7 @@ impl Vault {
         requires ids { (head.old.id ≡ self.old.id) × (tail.old.id ≡ self.old.id) }
         requires empty { tail.old.len ≡ 0 }
         requires good { IsGoodCut k head.old.len }
-        ensures lots { IsLotOf self.old.arena head.old × IsLotOf self.old.arena tail.old }
+        ensures lots { IsLotOfArena self.old.arena head.old × IsLotOfArena self.old.arena tail.old }
         ensures done { IsVaultCut k self.old self.new head.old head.new tail.old tail.new }
         ensures lawful { IsLawfulArena self.new.arena }
     {
@@ -146,7 +146,7 @@ impl Vault {
     pub fn give_back<B>(&mut self, lot: &mut Lot<B>, tally: &mut Tally)
         requires ids { (lot.old.id ≡ self.old.id) × (tally.old.id ≡ self.old.id) }
         requires some { 0 < lot.old.len }
-        ensures lot { IsLotOf self.old.arena lot.old }
+        ensures lot { IsLotOfArena self.old.arena lot.old }
         ensures done { IsVaultGivenBack self.old self.new lot.old lot.new tally.old tally.new }
         ensures lawful { IsLawfulArena self.new.arena }
     {
@@ -161,7 +161,7 @@ impl Vault {
     pub fn audit<B>(&mut self, lot: &mut Lot<B>)
         requires { lot.old.id ≡ self.old.id }
         ensures same { (self.new ≡ self.old) × (lot.new ≡ lot.old) }
-        ensures lot { IsLotOf self.old.arena lot.old }
+        ensures lot { IsLotOfArena self.old.arena lot.old }
     {
         self.shares.look_at(&mut lot.share);
     }
@@ -184,7 +184,7 @@ impl Vault {
     }
 
     /// A value without bytes that says which vault this is: its lots and tallies have the same id.
-    pub fn name(&mut self) -> Name
+    pub fn name(&mut self) -> VaultName
         ensures same { self.new ≡ self.old }
         ensures name { result ≡ self.old.id }
     {

@@ -2,7 +2,7 @@
 ghost use Rattle.std.specs.Prelude.{◌≡◌, All};
 ghost use Rattle.xh_kernel.specs.Histories.{IsLaw};
 
-use crate::measures::Trial;
+use crate::measures::MeasureTrial;
 use crate::turns::{Runtime, Stepping, Times};
 use std::alloc::Global;
 use std::marker::Brand;
@@ -232,7 +232,7 @@ impl<'a, N: Names, R: Wait> Stepping for Player<'a, N, R> {
     }
 }
 
-impl<'a, R: Runtime> Trial<'a, R> {
+impl<'a, R: Runtime> MeasureTrial<'a, R> {
     // A process for each account; each two have a channel between them.
     fn on<N: Names + Send + Sync>(
         &self,

@@ -11,7 +11,7 @@ mod measures;
 mod parts;
 mod turns;
 
-use crate::measures::{MEASURES, Measure, Subject, Trial};
+use crate::measures::{MEASURES, Measure, MeasureTrial, Subject};
 use crate::turns::{Runtime, percent};
 use std::alloc::Global;
 use std::env;
@@ -25,7 +25,7 @@ fn tell<R: Runtime + Print>(
     rounds: Option<u64>,
 ) -> Option<()> {
     let (name, threads, whole, limit, beside) = *row;
-    let trial = Trial {
+    let trial = MeasureTrial {
         rt,
         alloc,
         threads,

@@ -3,7 +3,7 @@ use crate::calls::Work;
 use crate::calls::Work::{
     AllocFree, Carry, Give, GiveTake, Glance, Kill, PingPong, Read, Ship, Write,
 };
-use crate::parts::Piece::{
+use crate::parts::BenchPiece::{
     Carried, Copied, Exchange, Load, Lock, Pass, PushPop, PutTake, Script, Sent, ToAndFro, Zeroed,
 };
 use crate::parts::Pieces;
@@ -87,7 +87,7 @@ pub(crate) const MEASURES: &[Measure] = &[
 
 /// A measure that is tried: by turns with what stands beside it, or so many rounds of it and nothing else.
 #[derive(Drop)]
-pub(crate) struct Trial<'a, R> {
+pub(crate) struct MeasureTrial<'a, R> {
     pub(crate) rt: &'a R,
     pub(crate) alloc: Global,
     pub(crate) threads: u8,
@@ -95,7 +95,7 @@ pub(crate) struct Trial<'a, R> {
     pub(crate) rounds: Option<u64>,
 }
 
-impl<'a, R: Runtime> Trial<'a, R> {
+impl<'a, R: Runtime> MeasureTrial<'a, R> {
     /// The times of these; None where a call, the clock or a growth of memory was refused.
     pub(crate) fn of<S: Stepping + Send>(&self, own: &mut [S]) -> Option<Times> {
         if let Some(rounds) = self.rounds {

@@ -1,6 +1,6 @@
 //! What a call is made of, or what a user would take instead.
 use crate::calls::{CONFIG, glanced};
-use crate::measures::Trial;
+use crate::measures::MeasureTrial;
 use crate::turns::{Runtime, Stepping};
 use arrayvec::ArrayVec;
 use crossbeam_channel::{Receiver, Sender, bounded};
@@ -16,7 +16,7 @@ use xh_script::Watched;
 use xh_session::run_serial;
 
 #[derive(Clone, Copy, Debug)]
-pub(crate) enum Piece {
+pub(crate) enum BenchPiece {
     /// A lock that nobody else wants is taken and let go.
     Lock,
     /// A word is exchanged, by a locked instruction.
@@ -44,7 +44,7 @@ pub(crate) enum Piece {
 }
 
 /// What is done in a step, each part so often.
-pub(crate) type Pieces = &'static [(u32, Piece)];
+pub(crate) type Pieces = &'static [(u32, BenchPiece)];
 
 /// As many bytes as a message of the heap has.
 type Letter = [u64; 4];
@@ -83,14 +83,14 @@ pub(crate) struct Rig {
 // How many bytes a message has.
 fn bytes_of(parts: Pieces) -> usize {
     match parts.first() {
-        Some((_, Piece::Sent(bytes))) | Some((_, Piece::Carried(bytes))) => *bytes,
+        Some((_, BenchPiece::Sent(bytes))) | Some((_, BenchPiece::Carried(bytes))) => *bytes,
         _ => 0,
     }
 }
 
 fn script_of(alloc: Global, parts: Pieces) -> Option<String> {
     let mut text = String::new(alloc);
-    if let Some((_, Piece::Script(commands))) = parts.first() {
+    if let Some((_, BenchPiece::Script(commands))) = parts.first() {
         text.push_str(HEAD).ok()?;
         for _ in 0..commands.saturating_sub(3) / 8 {
             text.push_str(BODY).ok()?;
@@ -137,29 +137,29 @@ impl Rig {
         run_serial(self.alloc, &mut reader, &mut sink, config).ok()
     }
 
-    fn do_once<R: Wait>(&mut self, rt: &R, part: Piece) -> Option<()> {
+    fn do_once<R: Wait>(&mut self, rt: &R, part: BenchPiece) -> Option<()> {
         let first = self.is_first;
         match part {
-            Piece::Zeroed(bytes) => drop(vec![in self.alloc; 0u8; bytes].ok()?),
-            Piece::Copied(bytes) => {
+            BenchPiece::Zeroed(bytes) => drop(vec![in self.alloc; 0u8; bytes].ok()?),
+            BenchPiece::Copied(bytes) => {
                 let room = self.page.as_mut_slice().get_mut(..bytes)?;
                 room.copy_from_slice(PAGE.get(..bytes)?);
             }
-            Piece::PushPop => {
+            BenchPiece::PushPop => {
                 self.queue.push(rt, MESSAGE).ok()?;
                 self.queue.pop(rt)?;
             }
-            Piece::Pass => return self.pass(rt, first),
-            Piece::ToAndFro => return self.pass(rt, first).and(self.pass(rt, !first)),
-            Piece::PutTake => return self.put_take(rt),
-            Piece::Sent(_) if first => return self.ship(rt),
-            Piece::Sent(_) => return self.receive(rt),
-            Piece::Carried(_) => {
+            BenchPiece::Pass => return self.pass(rt, first),
+            BenchPiece::ToAndFro => return self.pass(rt, first).and(self.pass(rt, !first)),
+            BenchPiece::PutTake => return self.put_take(rt),
+            BenchPiece::Sent(_) if first => return self.ship(rt),
+            BenchPiece::Sent(_) => return self.receive(rt),
+            BenchPiece::Carried(_) => {
                 self.ship(rt)?;
                 return self.receive(rt);
             }
-            Piece::Script(_) => return self.run(),
-            Piece::Lock | Piece::Exchange | Piece::Load => return None,
+            BenchPiece::Script(_) => return self.run(),
+            BenchPiece::Lock | BenchPiece::Exchange | BenchPiece::Load => return None,
         }
         Some(())
     }
@@ -170,9 +170,9 @@ impl Stepping for Rig {
         for (times, part) in self.parts {
             // three take so little time that a look at which part it is would count
             match part {
-                Piece::Lock => (0..*times).for_each(|_| *self.count.lock(rt) = 1),
-                Piece::Exchange => (0..*times).for_each(|_| drop(self.word.swap(1, SeqCst))),
-                Piece::Load => (0..*times).for_each(|_| drop(self.word.load(SeqCst))),
+                BenchPiece::Lock => (0..*times).for_each(|_| *self.count.lock(rt) = 1),
+                BenchPiece::Exchange => (0..*times).for_each(|_| drop(self.word.swap(1, SeqCst))),
+                BenchPiece::Load => (0..*times).for_each(|_| drop(self.word.load(SeqCst))),
                 _ => (0..*times).try_for_each(|_| self.do_once(rt, *part))?,
             }
         }
@@ -180,7 +180,7 @@ impl Stepping for Rig {
     }
 }
 
-impl<'a, R: Runtime> Trial<'a, R> {
+impl<'a, R: Runtime> MeasureTrial<'a, R> {
     /// As many threads as the measure has; each two send to each other.
     pub(crate) fn rigs(&self, parts: Pieces) -> Option<Vec<Rig>> {
         let alloc = self.alloc;

@@ -26,7 +26,7 @@ pub use Rattle.xh_model.specs.{Arena.lengths_of, Cover.length_of, Keyed.Among, K
 pub use Rattle.xh_model.specs.{Words.IsHolder, Words.number_of, Words.place_of, Words.word_of, declared.event.Holder.TheVariants.Direction, declared.event.Holder.TheVariants.Process}
 pub use Rattle.xh_model.specs.{declared.limits.TheConstants.DIRECTIONS, declared.limits.TheConstants.PLACES}
 pub use Rattle.xh_place.specs.{Places.total_of}
-pub use Rattle.xh_place.specs.{Seen.PlaceSeen, Tallies.ids_of, declared.body.Body.Body, Places.IsPlaceOf, Places.Item, Places.Lists, Places.PlaceOf, Places.item_of, Places.line, Places.line_in}
+pub use Rattle.xh_place.specs.{Seen.PlaceSeen, Tallies.ids_of, declared.body.Body.Body, Places.IsPlaceOf, Places.Item, Places.Lists, Places.PlaceOf, Places.item_of, Places.place_line, Places.line_in}
 pub use Rattle.xh_records.proofs.{Elements.elem_slice, Elements.in_range, Elements.is_there, Elements.slice_elem, Keeps.never, Keeps.one_holder, Keeps.same_place}
 pub use Rattle.xh_records.specs.{Deeds.IsLeft, Deeds.Deed, Deeds.deeds_by, Deeds.events, History.StartsWith, Showing.IsLotAt, Showing.IsSmall, declared.shape.Shape.Shape, Seats.Ends}
 pub use Rattle.xh_records.specs.{Seats.Held, Seats.IsSeatOf, Seats.RecordsOf, Seats.lot_in}

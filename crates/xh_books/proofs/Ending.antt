@@ -1,6 +1,6 @@
 -- The places' seats and lines, one place after the other.
 use Rattle.xh_books.proofs.Common.{AreSeats, Body, Held, IsSeatOfPlace, Item, List, Lists, None, Option, PlaceLine, PlaceOf, PlaceSeen, Some, Status, [], all_zipped_more, ap, append_assoc}
-use Rattle.xh_books.proofs.Common.{arith, bytes_owned, common_steps, cons_option, filter_map-append, is_over, length, line, line_in, map-append, place_lines, places_of, refl, subst, sum_by}
+use Rattle.xh_books.proofs.Common.{arith, bytes_owned, common_steps, cons_option, filter_map-append, is_over, length, place_line, line_in, map-append, place_lines, places_of, refl, subst, sum_by}
 use Rattle.xh_books.proofs.Common.{sum_by-append, sum_by-cons, sym, total_of, true, value_at, value_here, ℕ, ◌++◌, ◌+◌, ◌∙◌, ◌∷◌, ◌≡◌, ◌≤◌}
 
 -- a seat that holds nothing is that of a place without blocks
@@ -11,7 +11,7 @@ no_blocks x (b ∷ bs) lists e =
     let f : None ≡ Some t.0 = sym (ap (value_at b.0) e) ∙ t.1 in absurd (cc)
 
 -- the line of a place has its bytes, and a place without a line has none
-line_bytes : (s : Status) (p : PlaceOf) → (is_over s ≡ true → p.blocks ≡ []) → sum_by (λ l. l.bytes) (cons_option (line_in s (line p)) []) ≡ total_of p.blocks
+line_bytes : (s : Status) (p : PlaceOf) → (is_over s ≡ true → p.blocks ≡ []) → sum_by (λ l. l.bytes) (cons_option (line_in s (place_line p)) []) ≡ total_of p.blocks
 line_bytes s p none = grind (arith, common_steps, none)
 
 -- of all places these are ended, and the rest not yet
@@ -24,9 +24,9 @@ pub record EndedSoFar (all rest : List PlaceSeen) (seats : List (Held Body)) (li
 
 pub one_ended : (all rest now_ : List PlaceSeen) (p : PlaceSeen) (seats seats' : List (Held Body)) (lines lines' : List PlaceLine) (x : Held Body) (o : Option PlaceLine)
     → EndedSoFar all now_ seats lines → now_ ≡ p ∷ rest → IsSeatOfPlace x p.place × (x.front ≡ p.front) → (is_over p.place.state ≡ true → x.lots ≡ [])
-    → o ≡ line_in p.place.state (line p.place) → seats' ≡ seats ++ x ∷ [] → lines' ≡ lines ++ cons_option o [] → EndedSoFar all rest seats' lines'
+    → o ≡ line_in p.place.state (place_line p.place) → seats' ≡ seats ++ x ∷ [] → lines' ≡ lines ++ cons_option o [] → EndedSoFar all rest seats' lines'
 one_ended all rest now_ p seats seats' lines lines' x o was next is none line_is more_seats more_lines =
-    let mine : List PlaceLine = cons_option (line_in p.place.state (line p.place)) [] in
+    let mine : List PlaceLine = cons_option (line_in p.place.state (place_line p.place)) [] in
     let lines_now : lines' ≡ lines ++ mine = more_lines ∙ ap (λ z. lines ++ cons_option z []) line_is in
     let places : places_of (was.done ++ p ∷ []) ≡ places_of was.done ++ p.place ∷ [] = map-append (λ (q : PlaceSeen). q.place) was.done (p ∷ []) in
     record {
@@ -34,7 +34,7 @@ one_ended all rest now_ p seats seats' lines lines' x o was next is none line_is
       split = was.split ∙ ap (λ l. was.done ++ l) next ∙ sym (append_assoc was.done (p ∷ []) rest);
       seats_are = subst (λ (xs : List (Held Body)). AreSeats xs (was.done ++ p ∷ [])) (sym more_seats)
           (all_zipped_more (λ (y : Held Body) (q : PlaceSeen). IsSeatOfPlace y q.place × (y.front ≡ q.front)) seats was.done x p was.seats_are is);
-      lines_are = lines_now ∙ ap (λ l. l ++ mine) was.lines_are ∙ sym (ap place_lines places ∙ filter_map-append (λ (q : PlaceOf). line_in q.state (line q)) (places_of was.done) (p.place ∷ []));
+      lines_are = lines_now ∙ ap (λ l. l ++ mine) was.lines_are ∙ sym (ap place_lines places ∙ filter_map-append (λ (q : PlaceOf). line_in q.state (place_line q)) (places_of was.done) (p.place ∷ []));
       owned =
           (let a = ap (λ (ls : List PlaceLine). sum_by (λ l. l.bytes) ls) lines_now in
           let b = sum_by-append (λ (l : PlaceLine). l.bytes) lines mine in

@@ -31,3 +31,7 @@ pub record AreClosed (parts : PartsOf) (accounts : List AccountOf) (looks : List
   pub flight : l.flight ≡ bytes_in_flight (places_of places) parts.records.shape.records 0 (all_lengths vaults)
   pub balanced : IsBalanced l
   pub in_flight : IsInFlight parts.records.shape places (all_lengths vaults) directions
+
+-- a ledger has a line for each arena of a kernel of these parts, each of the arenas' size
+abbrev pub HasArenasOf : PartsOf → Ledger → Type 0
+HasArenasOf parts l = (length l.arenas.items ≡ length parts.records.shape.names) × All (λ a. a.size ≡ parts.size) l.arenas.items

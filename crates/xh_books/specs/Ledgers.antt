@@ -9,7 +9,7 @@ use Rattle.xh_core.specs.declared.ledger.PlaceLine.{PlaceLine}
 use Rattle.xh_model.specs.Arena.{lengths_of}
 use Rattle.xh_model.specs.Keyed.{value_at}
 use Rattle.xh_model.specs.Words.{number_of}
-use Rattle.xh_place.specs.Places.{PlaceOf, line, line_in, total_of}
+use Rattle.xh_place.specs.Places.{PlaceOf, place_line, line_in, total_of}
 
 -- ---- arenas
 
@@ -29,7 +29,7 @@ all_lengths = flat_map (λ v. lengths_of v.arena)
 
 -- the lines of the places, in their order; one that nobody has had has none
 abbrev pub place_lines : List PlaceOf → List PlaceLine
-place_lines = filter_map (λ p. line_in p.state (line p))
+place_lines = filter_map (λ p. line_in p.state (place_line p))
 
 -- the sum of the places' totals
 abbrev pub bytes_owned : List PlaceOf → ℕ

@@ -1,15 +1,15 @@
 //! Closing the books.
-ghost use Rattle.std.specs.Prelude.{◌≡◌, ◌⊎◌, ◌+◌, ◌*◌, ◌<◌, ◌≤◌, All, Err, IfErr, IfOk, Ok, length, sum, vec_len};
+ghost use Rattle.std.specs.Prelude.{◌≡◌, ◌⊎◌, ◌+◌, ◌<◌, ◌≤◌, All, Err, IfErr, IfOk, Ok, length, vec_len};
 ghost use Rattle.std.specs.List.{sum_by};
 ghost use Rattle.xh_calls.specs.Parts.{IsOpen, vault_names};
 ghost use Rattle.xh_kernel.specs.Finished.{tallies_of};
 ghost use Rattle.xh_kernel.specs.Places.{places_of};
 ghost use Rattle.xh_model.specs.declared.limits.TheConstants.{MAX_ARENAS, PLACES};
 ghost use Rattle.xh_place.specs.Places.{IsPlaceOf};
-ghost use Rattle.xh_books.specs.Closing.{AreClosed};
+ghost use Rattle.xh_books.specs.Closing.{AreClosed, HasArenasOf};
 ghost use Rattle.xh_core.specs.Flight.{AreFlightLines};
 ghost use Rattle.xh_books.specs.Flight.{IsInFlight};
-ghost use Rattle.xh_books.specs.inner.Steps.{AreAt, TellFlight, lens_of};
+ghost use Rattle.xh_books.specs.inner.Steps.{AddUp, AreLotsOf, TellFlight, TellPlaces, lens_of};
 ghost use Rattle.xh_books.specs.Ledgers.{IsBalanced, all_lengths, arena_lines, bytes_in_flight, bytes_owned, place_lines};
 
 use crate::auditing::audit;
@@ -22,7 +22,7 @@ use xh_arena::{Lot, Vault};
 use xh_core::{
     ARENA_LINES, ArenaLine, FLIGHT_LINES, FlightLine, Ledger, PLACE_LINES, PlaceLine, Refused,
 };
-use xh_kernel::{Account, Finished, Kernel, Look, Names};
+use xh_kernel::{Account, Kernel, Look, Names, compare};
 use xh_place::{Body, Place};
 use xh_records::Records;
 
@@ -44,10 +44,10 @@ type Left = (
 fn close_table(alloc: Global, records: Records<Body>, places: Vec<Place>) -> Result<Left, Refused>
     requires few { length records.shape.names ≤ MAX_ARENAS }
     requires places { All (IsPlaceOf records) (places_of places.items) × (vec_len places ≡ records.shape.places) }
-    ensures lots { IfOk result (λ r. (length r.1.items ≡ length records.shape.names * records.shape.records) × AreAt records.shape.records records.shape.names r.1.items) }
-    ensures owned { IfOk result (λ r. sum (lens_of r.1.items) ≡ bytes_owned (places_of places.items) + bytes_in_flight (places_of places.items) records.shape.records 0 (lens_of r.1.items)) }
+    ensures lots { IfOk result (λ r. AreLotsOf records.shape r.1.items) }
+    ensures owned { IfOk result (λ r. AddUp (places_of places.items) records.shape.records (lens_of r.1.items)) }
     ensures flight { IfOk result (λ r. TellFlight records.shape places.items (lens_of r.1.items) r.0.items) }
-    ensures lines { IfOk result (λ r. (r.2.items ≡ place_lines (places_of places.items)) × (sum_by (λ l. l.bytes) r.2.items ≡ bytes_owned (places_of places.items))) }
+    ensures lines { IfOk result (λ r. TellPlaces (places_of places.items) r.2.items) }
     ensures refused { IfErr result (λ e. e ≡ Refused.OutOfMemory) }
 {
     let (seats, lines) = end_places(alloc, places)?;
@@ -97,7 +97,8 @@ pub fn close_books<N: Names>(
     records: Records<Body>,
     accounts: Vec<Account<N>>,
 ) -> Result<Books, Refused>
-    requires vaults { (vault_names vaults.items ≡ N.parts.records.shape.names) × All (IsOpen N.parts) vaults.items × (vec_len vaults ≤ MAX_ARENAS) }
+    requires vaults { (vault_names vaults.items ≡ N.parts.records.shape.names) × All (IsOpen N.parts) vaults.items }
+    requires few { vec_len vaults ≤ MAX_ARENAS }
     requires places { All (IsPlaceOf records) (places_of places.items) × (vec_len places ≡ records.shape.places) }
     requires records { records ≡ N.parts.records }
     requires accounts { vec_len accounts ≡ N.parts.workers }
@@ -132,27 +133,27 @@ pub fn close_kernel<N: Names, A: Drop, E: From<AllocError>>(
     requires accounts { IfOk done (λ d. vec_len d.1 ≡ N.parts.workers) }
     requires looks { IfOk done (λ d. All (λ l. l.table ≡ N.parts.histories) d.2.items) }
     ensures closed { IfOk result (λ r. (d : _) × (done ≡ Ok d) × (r.0 ≡ d.0) × AreClosed N.parts d.1.items d.2.items r.1.ledger r.1.flight.items) }
-    ensures arenas { IfOk result (λ r. (length r.1.ledger.arenas.items ≡ length N.parts.records.shape.names) × All (λ a. a.size ≡ N.parts.size) r.1.ledger.arenas.items) }
+    ensures arenas { IfOk result (λ r. HasArenasOf N.parts r.1.ledger) }
     ensures places { IfOk result (λ r. All (λ line. line.place < PLACES) r.1.ledger.places.items) }
     ensures balanced { IfOk result (λ r. IsBalanced r.1.ledger) }
     ensures lines { IfOk result (λ r. AreFlightLines r.1.ledger.flight r.1.flight.items) }
     ensures refused { IfErr result (λ e. (done ≡ Err e) ⊎ ((why : _) × E.from_gives why e)) }
 {
     match done {
-        Ok((answer, accounts, looks)) => match kernel.finish(alloc, accounts, looks) {
-            Ok(
-                Finished {
-                    vaults,
-                    places,
-                    records,
-                    accounts,
-                },
-            ) => match close_books(alloc, vaults, places, records, accounts) {
+        Ok((answer, accounts, looks)) => {
+            let Ok(settled) = kernel.settle(alloc) else {
+                return Err(E::from(AllocError));
+            };
+            let histories = settled.histories;
+            let Ok(accounts) = compare(&histories, settled.pens, accounts, looks) else {
+                return Err(E::from(AllocError));
+            };
+            let (vaults, places) = (settled.vaults, settled.places);
+            match close_books(alloc, vaults, places, settled.records, accounts) {
                 Ok(books) => Ok((answer, books)),
                 Err(_refused) => Err(E::from(AllocError)),
-            },
-            Err(_refused) => Err(E::from(AllocError)),
-        },
+            }
+        }
         Err(error) => {
             kernel.discard();
             Err(error)

@@ -1,9 +1,8 @@
 // The vaults take in the accounts.
-ghost use Rattle.std.specs.Prelude.{◌≡◌, ◌<◌, ℕ, All, length, slice_index_or, vec_len};
-ghost use Rattle.xh_arena.specs.Views.{TallyOf, VaultOf};
+ghost use Rattle.std.specs.Prelude.{◌≡◌, All, length, vec_len};
 ghost use Rattle.xh_calls.specs.Parts.{IsOpen, vault_names};
 ghost use Rattle.xh_place.specs.Tallies.{ids_of};
-ghost use Rattle.xh_books.specs.inner.Steps.{AreGathered, with_tally};
+ghost use Rattle.xh_books.specs.inner.Steps.{AreGathered, Collects};
 
 use xh_arena::{Tally, Vault};
 use xh_kernel::{Account, Names};
@@ -12,7 +11,7 @@ use xh_kernel::{Account, Names};
 fn collect_tallies(vaults: &mut [Vault], tallies: Vec<Tally>)
     requires { ids_of tallies.items ≡ vault_names vaults.old }
     ensures count { length vaults.new ≡ length vaults.old }
-    ensures each { (k : ℕ) (d : VaultOf) (t : TallyOf) → k < length vaults.old → slice_index_or vaults.new k d ≡ with_tally (slice_index_or vaults.old k d) (slice_index_or tallies.items k t) }
+    ensures each { Collects vaults.old tallies.items vaults.new }
 {
     let mut arena = 0usize;
     for tally in tallies {

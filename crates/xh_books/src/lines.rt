@@ -10,6 +10,7 @@ ghost use Rattle.xh_books.specs.Ledgers.{bytes_owned, place_lines};
 use arrayvec::ArrayVec;
 use std::alloc::{AllocError, Global};
 use xh_arena::Vault;
+use xh_calls::vault_line;
 use xh_core::{ARENA_LINES, ArenaLine, PLACE_LINES, PlaceLine};
 use xh_place::{Body, Place};
 use xh_records::Seat;
@@ -20,15 +21,9 @@ fn arena_line(vault: &Vault) -> ArenaLine
     ensures line { result ≡ closed_line vault.now }
     ensures books { AreBooks vault.now }
 {
-    let out = vault.handed_out();
-    let taken = vault.wear();
-    ArenaLine {
-        size: vault.size(),
-        out,
-        holes: vault.holes().len() as u32,
-        taken,
-        back: taken - u64::from(out),
-    }
+    // These show what the tallies say.
+    let (_out, _taken) = (vault.handed_out(), vault.wear());
+    vault_line(vault)
 }
 
 // The lines of all arenas.

@@ -1,6 +1,6 @@
 -- What the looks at several endpoints find, from one look to the next.
 use Rattle.xh_calls.proofs.Common.{AnswersAt, FindNone, AreEndsOf, AreReady, Bool, Empty, EndDoes, Err, HaveNone, IsUntaken, List, MatchResult, None, NotEndpoint, Ok, Option, PeerClosed, PlaceOf}
-use Rattle.xh_calls.proofs.Common.{PlaceSeen, EndpointOf, Refused, Result, Some, TakesFirst, [], ap, arith, closed, cond, end_tests, first_later, first_of, first_refusal, found, inl, inr, not, refl}
+use Rattle.xh_calls.proofs.Common.{PlaceSeen, EndpointOf, Refused, Result, Some, TakesFirst, [], ap, arith, peer_closed, cond, end_tests, first_later, first_of, first_refusal, found, inl, inr, not, refl}
 use Rattle.xh_calls.proofs.Common.{TakesAt, start, status_at, subst, suc, sym, true, ℕ, ⊎_elim, ◌++◌, ◌∙◌, ◌∷◌, ◌≡◌, ◌⊎◌}
 use Rattle.xh_channel.specs.declared.refused.Refused.{Refused as NoMessage}
 use Rattle.xh_channel.specs.declared.refused.Refused.TheVariants as none
@@ -10,7 +10,7 @@ use Rattle.xh_core.specs.declared.header.Header.{Header}
 use Rattle.xh_model.proofs.Keyed.{put_at, put_other}
 use Rattle.xh_place.specs.declared.got.Taken.{Taken}
 use Rattle.xh_channel.specs.Calls.{EndpointTakes}
-use Rattle.xh_calls.specs.declared.several.Answered.{Answered}
+use Rattle.xh_calls.specs.declared.several.AnsweredAt.{AnsweredAt}
 
 -- ---- endpoints stay
 
@@ -35,9 +35,9 @@ module _ (p e : ℕ) (s t : PlaceSeen) (why : Refused) (runs : first_refusal (st
   pub ready_after : (es : List ℕ) → AreEndsOf s.place es → AreReady p t.place es
   ready_after es h = (ap (λ (x : PlaceOf). first_refusal (start (status_at p x))) untaken.1.3 ∙ runs, all_stay e es s.place t.place (EndpointTakes (Err untaken.0)) untaken.1 h)
 
-  which : (why ≡ Empty) ⊎ (why ≡ closed)
+  which : (why ≡ Empty) ⊎ (why ≡ peer_closed)
   which = go untaken.0 untaken.1 untaken.2 where
-    go : (n : NoMessage) → EndDoes e s.place t.place (EndpointTakes (Err n)) → why ≡ same_refusal n → (why ≡ Empty) ⊎ (why ≡ closed)
+    go : (n : NoMessage) → EndDoes e s.place t.place (EndpointTakes (Err n)) → why ≡ same_refusal n → (why ≡ Empty) ⊎ (why ≡ peer_closed)
     go none.Empty d h = inl h
     go (none.PeerClosed back) d h = inr (h ∙ ap (λ (xs : List ℕ). PeerClosed (record { items = xs })) d.4.0.0)
     go n d h = absurd d.4.0
@@ -52,7 +52,7 @@ empties : (p : ℕ) (es : List ℕ) (s t : PlaceSeen) → FindNone p es s t → 
 empties p [] s t h = h
 empties p (e ∷ es) s t h = (h.0, Empty, h.1, empties p es h.0 t h.3)
 
-abbrev answered : ℕ → Result Taken Refused → Answered
+abbrev answered : ℕ → Result Taken Refused → AnsweredAt
 answered at answer = record { at = at; answer = answer }
 
 module _ (p : ℕ) (es : List ℕ) (s u : PlaceSeen) (at : ℕ) where
@@ -62,7 +62,7 @@ module _ (p : ℕ) (es : List ℕ) (s u : PlaceSeen) (at : ℕ) where
 
   -- one endpoint more before it
   later_by : (e : ℕ) (r : PlaceSeen) (answer : Result Taken Refused) (h : AnswersAt p es s u (answered at answer))
-      → MatchResult answer (λ _. HaveNone p (e ∷ h.before) r h.first × (u ≡ h.mid)) (λ why. (why ≡ closed) × FindNone p (e ∷ h.before) r h.first × HaveNone p h.after h.mid u)
+      → MatchResult answer (λ _. HaveNone p (e ∷ h.before) r h.first × (u ≡ h.mid)) (λ why. (why ≡ peer_closed) × FindNone p (e ∷ h.before) r h.first × HaveNone p h.after h.mid u)
       → AnswersAt p (e ∷ es) r u (answered (suc at) answer)
   later_by e r answer h looks = record {
     before = e ∷ h.before;
@@ -85,10 +85,10 @@ pub first_takes : (p e : ℕ) (es ends : List ℕ) (s t : PlaceSeen) (taken : Ta
 first_takes p e es ends s t taken is k = subst (λ (xs : List ℕ). AnswersAt p xs s t (answered 0 (Ok taken))) (sym is)
     (record { before = []; e = e; after = es; first = s; mid = t; ends_are = refl; index = refl; takes = k; looks = (refl, refl) })
 
-shut_first : (p e : ℕ) (es : List ℕ) (s t u : PlaceSeen) → TakesAt (status_at p s.place) e s t (Err closed) → HaveNone p es t u → AnswersAt p (e ∷ es) s u (answered 0 (Err closed))
+shut_first : (p e : ℕ) (es : List ℕ) (s t u : PlaceSeen) → TakesAt (status_at p s.place) e s t (Err peer_closed) → HaveNone p es t u → AnswersAt p (e ∷ es) s u (answered 0 (Err peer_closed))
 shut_first p e es s t u k h = record { before = []; e = e; after = es; first = s; mid = t; ends_are = refl; index = refl; takes = k; looks = (refl, refl, h) }
 
-over_empty : (p e : ℕ) (es : List ℕ) (r s u : PlaceSeen) (later : Result Answered Refused) → TakesAt (status_at p r.place) e r s (Err Empty) → s.place ≡ r.place → TakesFirst p es s u later
+over_empty : (p e : ℕ) (es : List ℕ) (r s u : PlaceSeen) (later : Result AnsweredAt Refused) → TakesAt (status_at p r.place) e r s (Err Empty) → s.place ≡ r.place → TakesFirst p es s u later
     → TakesFirst p (e ∷ es) r u (first_of Empty later)
 over_empty p e es r s u (Ok a) k same h = go a.answer h where
   go : (answer : Result Taken Refused) → AnswersAt p es s u (answered a.at answer) → TakesFirst p (e ∷ es) r u (first_of Empty (Ok (answered a.at answer)))
@@ -96,18 +96,18 @@ over_empty p e es r s u (Ok a) k same h = go a.answer h where
   go (Err why) g = later_by p es s u a.at e r (Err why) g (g.looks.0, (s, k, same, g.looks.1), g.looks.2)
 over_empty p e es r s u (Err why) k same h = (h.0, (s, k, same, h.1))
 
-over_closed : (p e : ℕ) (es : List ℕ) (s t u : PlaceSeen) (later : Result Answered Refused) → TakesAt (status_at p s.place) e s t (Err closed) → TakesFirst p es t u later
-    → TakesFirst p (e ∷ es) s u (first_of closed later)
+over_closed : (p e : ℕ) (es : List ℕ) (s t u : PlaceSeen) (later : Result AnsweredAt Refused) → TakesAt (status_at p s.place) e s t (Err peer_closed) → TakesFirst p es t u later
+    → TakesFirst p (e ∷ es) s u (first_of peer_closed later)
 over_closed p e es s t u (Ok a) k h = go a.answer h where
-  go : (answer : Result Taken Refused) → AnswersAt p es t u (answered a.at answer) → TakesFirst p (e ∷ es) s u (first_of closed (Ok (answered a.at answer)))
-  go (Ok taken) g = message p es t u a.at e s closed k taken g
+  go : (answer : Result Taken Refused) → AnswersAt p es t u (answered a.at answer) → TakesFirst p (e ∷ es) s u (first_of peer_closed (Ok (answered a.at answer)))
+  go (Ok taken) g = message p es t u a.at e s peer_closed k taken g
   go (Err why) g = shut_first p e es s t u k (looked p es t u a.at why g)
 over_closed p e es s t u (Err why) k h = shut_first p e es s t u k (empties p es t u h.1)
 
-pub took : (p e : ℕ) (es : List ℕ) (s t u : PlaceSeen) (why : Refused) (later : Result Answered Refused) → AreReady p s.place (e ∷ es) → TakesAt (status_at p s.place) e s t (Err why)
+pub took : (p e : ℕ) (es : List ℕ) (s t u : PlaceSeen) (why : Refused) (later : Result AnsweredAt Refused) → AreReady p s.place (e ∷ es) → TakesAt (status_at p s.place) e s t (Err why)
     → (why ≡ Empty → t.place ≡ s.place)
     → TakesFirst p es t u later → TakesFirst p (e ∷ es) s u (first_of why later)
 took p e es s t u why later r k same h = ⊎_elim
     (λ (w : why ≡ Empty). rw w (over_empty p e es s t u later (rw w at k) (same w) h))
-    (λ (w : why ≡ closed). rw w (over_closed p e es s t u later (rw w at k) h))
+    (λ (w : why ≡ peer_closed). rw w (over_closed p e es s t u later (rw w at k) h))
     (which p e s t why r.0 r.1.0 k)

@@ -1,9 +1,9 @@
 -- What a place's calls say of the tallies that they were lent.
-use Rattle.xh_calls.proofs.Common.{Accepts, Block, Err, FrontOf, HasGivenBack, History, Leaves, List, Ok, PartsOf, PlaceSeen, ReceivesOr, Refused, Result, TallyOf, VaultOf, [], ap, arith, inl, inr}
+use Rattle.xh_calls.proofs.Common.{Accepts, Block, Err, FrontOf, HasGivenBack, History, Leaves, List, MatchResult, Ok, OnOk, PartsOf, PlaceSeen, ReceivesOr, Refused, Result, TallyOf, VaultOf, [], ap, arith, inl, inr}
 use Rattle.xh_calls.proofs.Common.{none_back, refl, subst, sym, ℕ, ⊎_elim, ◌∙◌, ◌∷◌, ◌≡◌}
 use Rattle.xh_calls.specs.Vaults.{Entered, EntersEach}
 use Rattle.xh_place.proofs.Swept.{still}
-use Rattle.xh_place.specs.Vaults.{AsksEach, BringsBack}
+use Rattle.xh_place.specs.Vaults.{Asks, AsksEach, BringsBack}
 use Rattle.xh_calls.specs.Places.{GivesBack}
 use Rattle.xh_calls.specs.declared.heap.Till.{Till}
 
@@ -37,6 +37,18 @@ module _ {V : Type 0} (parts : PartsOf) where
       → Entered arenas f.seen g.seen
   entered arenas {f} {g} x y till start end h = subst (λ (z : Till). Entered arenas z.seen g.seen) start
       (subst (λ (z : Till). Entered arenas (till x).seen z.seen) (sym end) (entered_each arenas x y (λ v. (till v).seen) h))
+
+  -- one arena was asked where the call went well
+  pub entered_once : {A : Type 0} (a : ℕ) {f g : Till} (x y : V) (till : V → Till) → till x ≡ f → g ≡ till y → (result : Result A Refused)
+      → OnOk result (Asks (λ v w. Leaves parts (till v).seen (till w).seen) a x y) → OnOk result (Entered (a ∷ []) f.seen g.seen)
+  entered_once a x y till start end (Ok b) h = entered (a ∷ []) x y till start end (y, h, refl)
+  entered_once a x y till start end (Err e) h = tt
+
+  -- and else none
+  pub entered_or : {A : Type 0} (a : ℕ) {f g : Till} (x y : V) (till : V → Till) → till x ≡ f → g ≡ till y → (result : Result A Refused)
+      → MatchResult result (λ _. Asks (λ v w. Leaves parts (till v).seen (till w).seen) a x y) (λ _. y ≡ x) → MatchResult result (λ _. Entered (a ∷ []) f.seen g.seen) (λ _. g.seen ≡ f.seen)
+  entered_or a x y till start end (Ok b) h = entered (a ∷ []) x y till start end (y, h, refl)
+  entered_or a x y till start end (Err e) h = ap (λ (t : Till). t.seen) (end ∙ ap till h ∙ start)
 
   pub came : {n : ℕ} {f g : Till} (x y : V) (till : V → Till) → till x ≡ f → g ≡ till y → BringsBack (λ v w. Leaves parts (till v).seen (till w).seen) (λ v. (till v).tallies.items) n x y
       → GivesBack n f g

@@ -1,7 +1,7 @@
 -- The tally of an arena among a worker's.
 use Rattle.std.proofs.Common.{drop, set, take}
 use Rattle.std.proofs.lemmas.List.{set-get_or}
-use Rattle.std.proofs.lemmas.Option.{slice_get-get_or}
+use Rattle.std.proofs.lemmas.Option.{slice_get-get_or, slice_get_within}
 use Rattle.xh_place.specs.Vaults.{ByTally}
 use Rattle.xh_place.specs.Tallies.{took}
 use Rattle.xh_calls.proofs.Common.{◌≡◌, ℕ, zero, suc, ◌+◌, ◌++◌, ◌<◌, places, rules, List, [], ◌∷◌, length, get_or, sym, ap}
@@ -20,10 +20,10 @@ ids_at (t ∷ ts) (suc i) d h = ids_at ts i d (omega arith)
 pub tallied : (ts : List TallyOf) {names : List TableId} (i : ℕ) {arena : ℕ} → ids_of ts ≡ names → i ≡ arena → arena < length names → i < length ts
 tallied ts {names} i {arena} same is h = subst (λ (n : ℕ). n < length ts) (sym is) (subst (λ (n : ℕ). arena < n) (ap length (sym same) ∙ ids_long ts) h)
 
-pub tally_is : (ts : List TallyOf) {names : List TableId} (i : ℕ) (d : TallyOf) {arena : ℕ} {id : TableId} → ids_of ts ≡ names → i ≡ arena → arena < length names
-    → slice_get names arena ≡ Some id → (get_or ts i d).id ≡ id
-tally_is ts {names} i d {arena} {id} same is h at =
-    let both : Some (get_or ts i d).id ≡ Some id = sym (ids_at ts i d (tallied ts i same is h)) ∙ (λ k. slice_get (same k) (is k)) ∙ at in
+pub tally_is : (ts : List TallyOf) {names : List TableId} (i : ℕ) (d : TallyOf) {arena : ℕ} {id : TableId} → ids_of ts ≡ names → i ≡ arena → slice_get names arena ≡ Some id
+    → (get_or ts i d).id ≡ id
+tally_is ts {names} i d {arena} {id} same is at =
+    let both : Some (get_or ts i d).id ≡ Some id = sym (ids_at ts i d (tallied ts i same is (slice_get_within names arena id at))) ∙ (λ k. slice_get (same k) (is k)) ∙ at in
     let one : (get_or ts i d).id ≡ id = cc in one
 
 took_set : (ts : List TallyOf) (i n : ℕ) (d t : TallyOf) → i < length ts → t ≡ record (get_or ts i d) { taken = (get_or ts i d).taken + n } → set ts i t ≡ took i n ts
@@ -46,15 +46,17 @@ set_at [] i t h = absurd (omega arith)
 set_at (x ∷ ts) zero t h = refl
 set_at (x ∷ ts) (suc i) t h = set_at ts i t (omega arith)
 
--- a slice of all of them that goes back
-pub whole : (all ts : List TallyOf) (len i : ℕ) (t : TallyOf) → ts ≡ all → length ts ≡ len → take len (set ts i t ++ drop (length (set ts i t)) all) ≡ set ts i t
-whole all ts len i t lent long = search (rules, places)
+-- that of the arena became t in a slice of all tallies, which goes back
+module _ (all ts : List TallyOf) (len : ℕ) {names : List TableId} (i : ℕ) {arena : ℕ} {id : TableId} (d t : TallyOf) (lent : ts ≡ all) (long : length ts ≡ len) (same : ids_of all ≡ names)
+    (is : i ≡ arena) (at : slice_get names arena ≡ Some id) where
+  abbrev new : List TallyOf
+  new = take len (set ts i t ++ drop (length (set ts i t)) all)
 
--- where that of the arena became t; the tallies are in a slice, and stand in `all` again as `new` says
-module _ (all ts new : List TallyOf) {names : List TableId} (i : ℕ) {arena : ℕ} (d t : TallyOf) (lent : ts ≡ all) (end : new ≡ set ts i t) (same : ids_of all ≡ names) (is : i ≡ arena)
-    (there : arena < length names) where
+  end : new ≡ set ts i t
+  end = search (rules, places)
+
   inside : i < length ts
-  inside = tallied ts i (ap ids_of lent ∙ same) is there
+  inside = tallied ts i (ap ids_of lent ∙ same) is (slice_get_within names arena id at)
 
   pub by_tally : (does : TallyOf → TallyOf → Type 0) → does (get_or ts i d) t → ByTally all new arena does
   by_tally does done = (

@@ -1,5 +1,5 @@
 -- The vault of an arena's lock stays one of that arena under each call, and its history ends in it.
-use Rattle.xh_calls.proofs.Common.{DoesTo, EndsIn, Enters, Err, FrontOf, HasSeen, History, IfErr, IfOk, IsKept, IsRefusedBy, IsVaultOf, LotOf, Ok, PartsOf, PenOf, Result}
+use Rattle.xh_calls.proofs.Common.{DoesTo, EndsIn, Enters, Err, FrontOf, HasSeen, History, IfErr, IfOk, IsKeptVault, IsRefusedBy, IsVaultOf, LotOf, Ok, PartsOf, PenOf, Result}
 use Rattle.xh_calls.proofs.Common.{TallyOf, VaultOf, [], ap, at, length, refl, slice_set, subst, sym, ℕ, ◌++◌, ◌∙◌, ◌∷◌, ◌≡◌}
 use Rattle.xh_calls.specs.Vaults.{KeptOf}
 use Rattle.xh_arena.specs.declared.refused.Refused.{Refused}
@@ -14,11 +14,11 @@ ends_push v (c ∷ []) k = refl
 ends_push v (c ∷ d ∷ h) k = ends_push v (d ∷ h) k
 
 -- once a worker has entered what the vault is now
-module _ (p : PartsOf) (v w : VaultOf) (pen pen' : PenOf VaultOf) (front front' : FrontOf VaultOf) (was : IsKept p (record { vault = v; pen = pen })) (is : IsVaultOf p pen.number w)
+module _ (p : PartsOf) (v w : VaultOf) (pen pen' : PenOf VaultOf) (front front' : FrontOf VaultOf) (was : IsKeptVault p (record { vault = v; pen = pen })) (is : IsVaultOf p pen.number w)
     (pen_is : pen' ≡ record pen { history = pen.history ++ (front.number, w) ∷ [] }) (front_is : front' ≡ record front { fronts = slice_set front.fronts pen.number pen'.history })
     (seen : HasSeen front.number (at front.fronts pen.number) pen.history) where
-  pub entered : IsKept p (record { vault = w; pen = pen' })
-  entered = subst (λ (z : PenOf VaultOf). IsKept p (record { vault = w; pen = z })) (sym pen_is) (was.0, is, ends_push w pen.history front.number)
+  pub entered : IsKeptVault p (record { vault = w; pen = pen' })
+  entered = subst (λ (z : PenOf VaultOf). IsKeptVault p (record { vault = w; pen = z })) (sym pen_is) (was.0, is, ends_push w pen.history front.number)
 
   entry : Enters pen.number v w front front'
   entry = record { others = seen.0; not_its_own = seen.2; found = subst (EndsIn v) seen.1 was.2; seen = (let history = seen.1 in cc) }

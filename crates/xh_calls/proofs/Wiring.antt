@@ -1,8 +1,8 @@
 -- What the steps of wiring say of side 0 of a channel.
-use Rattle.xh_calls.proofs.Common.{AreBlocks, Closes, ClosesAgain, Content, END_BYTES, Err, Fits, HasLow, IsClosed, IsEndAt, IsSeen, Item, List, MatchOption, None}
-use Rattle.xh_calls.proofs.Common.{Option, PlaceSeen, Refused, Result, Some, [], alone, ap, arith, bytes, end_tests, endpoint, option_map, header_of, first_later, first_refusal, found, inr}
+use Rattle.xh_calls.proofs.Common.{AreBlocks, Closes, ClosesAgain, Content, END_BYTES, Err, FitsLength, HasLow, IsClosed, IsEndAt, IsSeen, Item, MatchOption, None}
+use Rattle.xh_calls.proofs.Common.{Option, PlaceSeen, Refused, Result, Some, alone, ap, arith, bytes, end_tests, endpoint, option_map, header_of, first_later, first_refusal, found, inr}
 use Rattle.xh_calls.proofs.Common.{kind_of}
-use Rattle.xh_calls.proofs.Common.{refl, start, status_at, subst, ℕ, ◌++◌, ◌+◌, ◌∙◌, ◌∷◌, ◌≡◌, ◌≤◌}
+use Rattle.xh_calls.proofs.Common.{refl, start, status_at, subst, ℕ, ◌∙◌, ◌≡◌, ◌≤◌}
 use Rattle.xh_calls.proofs.Common.{sym, Becomes, PlaceOf, Stays}
 use Rattle.xh_model.specs.Keyed.{value_at, without}
 use Rattle.xh_place.proofs.Events.{stays_then}
@@ -19,7 +19,7 @@ passed_since d r old mid new same h =
     stays_then (record old.place { blocks = without r old.place.blocks }) (passed_on old.place.process d (alone r (value_at r old.place.blocks))) old mid new same
     (subst (λ (q : PlaceOf). Becomes (record q { blocks = without r q.blocks }) (passed_on q.process d (alone r (value_at r q.blocks))) mid new) same.0 h)
 
-is_end : (n : ℕ) (c : Content) (channel side : ℕ) → IsEndAt c channel side → Fits c n → (first_refusal (end_tests (Some (record { len = n; kind = kind_of c }))) ≡ None) × (n ≡ END_BYTES)
+is_end : (n : ℕ) (c : Content) (channel side : ℕ) → IsEndAt c channel side → FitsLength c n → (first_refusal (end_tests (Some (record { len = n; kind = kind_of c }))) ≡ None) × (n ≡ END_BYTES)
 is_end n (bytes xs) channel side at fits = absurd at
 is_end n (endpoint e) channel side at fits = (refl, fits)
 

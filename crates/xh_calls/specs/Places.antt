@@ -1,12 +1,16 @@
 -- A place and a till that a call works on, and how far the process has come that calls.
-use Rattle.std.specs.Prelude.{◌≡◌, ℕ, ◌==◌, cond}
+use Rattle.std.specs.Prelude.{◌≡◌, ℕ, ◌==◌, cond, List, Result, MatchResult}
+use Rattle.xh_arena.specs.Views.{TallyOf}
+use Rattle.xh_core.specs.declared.refused.Refused.{Refused}
 use Rattle.xh_core.specs.declared.status.Status.{Status}
 use Rattle.xh_core.specs.declared.status.Status.TheVariants.{Ended}
 use Rattle.xh_core.specs.Statuses.{status_of}
 use Rattle.xh_model.specs.Words.{generation_of}
 use Rattle.xh_place.specs.Ending.{HasGivenBack}
 use Rattle.xh_place.specs.Places.{IsPlaceOf, PlaceOf}
+use Rattle.xh_place.specs.Seen.{PlaceSeen, Stays}
 use Rattle.xh_place.specs.Tallies.{ids_of}
+use Rattle.xh_records.specs.History.{StartsWith}
 use Rattle.xh_calls.specs.declared.heap.Till.{Till}
 use Rattle.xh_calls.specs.Parts.{PartsOf}
 use Rattle.xh_calls.specs.Vaults.{EntersSome}
@@ -18,6 +22,18 @@ IsTillOf parts t = (ids_of t.tallies.items ≡ parts.records.shape.names) × (t.
 -- so many bytes were given back by the tallies of the till, and no arena was asked more often than that
 abbrev pub GivesBack : ℕ → Till → Till → Type 0
 GivesBack bytes old new = HasGivenBack bytes old.tallies.items new.tallies.items × EntersSome bytes old.seen new.seen
+
+-- so many bytes came back to the till, of which this is so
+abbrev pub ComesBack : Till → Till → (ℕ → Type 0) → Type 0
+ComesBack old new does = (bytes : ℕ) × does bytes × GivesBack bytes old new
+
+-- the till's tallies are what the answer of a call that went well makes of them; else they are as they were
+abbrev pub TalliesBecome : {A : Type 0} → (A → List TallyOf → List TallyOf) → Till → Till → Result A Refused → Type 0
+TalliesBecome does old new result = MatchResult result (λ a. new.tallies.items ≡ does a old.tallies.items) (λ _. new.tallies.items ≡ old.tallies.items)
+
+-- the place's words were looked at, and then this was done
+abbrev pub AfterLooks : PlaceSeen → PlaceSeen → (PlaceSeen → Type 0) → Type 0
+AfterLooks old new does = (from : PlaceSeen) × Stays old from × StartsWith new.front from.front × does from
 
 -- the place is of these parts, and so is the till
 abbrev pub IsServed : PartsOf → PlaceOf → Till → Type 0

@@ -8,7 +8,7 @@ use Rattle.xh_core.specs.declared.refused.Refused.TheVariants.{Empty, PeerClosed
 use Rattle.xh_place.specs.Ends.{RefusedOr}
 use Rattle.xh_place.specs.Places.{PlaceOf, found}
 use Rattle.xh_place.specs.Seen.{PlaceSeen, Stays}
-use Rattle.xh_calls.specs.declared.several.Answered.{Answered}
+use Rattle.xh_calls.specs.declared.several.AnsweredAt.{AnsweredAt}
 use Rattle.xh_calls.specs.declared.several.TheConstants.{MAX_ENDS}
 use Rattle.xh_calls.specs.Places.{status_at}
 use Rattle.xh_place.specs.Messages.{TakesAt}
@@ -36,11 +36,11 @@ FindNone p [] old new = new ≡ old
 FindNone p (e ∷ es) old new = (mid : PlaceSeen) × TakesAt (status_at p old.place) e old mid (Err Empty) × (mid.place ≡ old.place) × FindNone p es mid new
 
 -- what the take of an endpoint answers whose peer is closed and which has no message
-abbrev pub closed : Refused
-closed = PeerClosed (record { items = [] })
+abbrev pub peer_closed : Refused
+peer_closed = PeerClosed (record { items = [] })
 
 -- The endpoint of the index took a message, and those before it had none; or its peer is closed, those before it are open, and none of all had a message.
-pub record AnswersAt (p : ℕ) (ends : List ℕ) (old new : PlaceSeen) (a : Answered) : Type 0 where
+pub record AnswersAt (p : ℕ) (ends : List ℕ) (old new : PlaceSeen) (a : AnsweredAt) : Type 0 where
   pub before : List ℕ
   pub e : ℕ
   pub after : List ℕ
@@ -50,12 +50,12 @@ pub record AnswersAt (p : ℕ) (ends : List ℕ) (old new : PlaceSeen) (a : Answ
   pub index : a.at ≡ length before
   pub takes : TakesAt (status_at p first.place) e first mid a.answer
   pub looks : MatchResult a.answer (λ _. HaveNone p before old first × (new ≡ mid))
-      (λ why. (why ≡ closed) × FindNone p before old first × HaveNone p after mid new)
+      (λ why. (why ≡ peer_closed) × FindNone p before old first × HaveNone p after mid new)
 
 -- one of the endpoints answers, or each of them was looked at and was empty
-abbrev pub TakesFirst : ℕ → List ℕ → PlaceSeen → PlaceSeen → Result Answered Refused → Type 0
+abbrev pub TakesFirst : ℕ → List ℕ → PlaceSeen → PlaceSeen → Result AnsweredAt Refused → Type 0
 TakesFirst p ends old new result = MatchResult result (AnswersAt p ends old new) (λ why. (why ≡ Empty) × FindNone p ends old new)
 
 -- the first test that refuses is the answer, and then nothing changed; else the first message is taken
-abbrev pub TakesAny : ℕ → List ℕ → PlaceSeen → PlaceSeen → Result Answered Refused → Type 0
+abbrev pub TakesAny : ℕ → List ℕ → PlaceSeen → PlaceSeen → Result AnsweredAt Refused → Type 0
 TakesAny p ends old new result = RefusedOr (several_tests p old.place ends) result (Stays old new) (TakesFirst p ends old new result)

@@ -26,8 +26,8 @@ pub record KeptOf : Type 0 where
   pub pen : PenOf VaultOf
 
 -- the pen writes a history of these parts, the vault is that of the pen's arena, and the history ends in it
-abbrev pub IsKept : PartsOf → KeptOf → Type 0
-IsKept parts k = (k.pen.table ≡ parts.vaults) × IsVaultOf parts k.pen.number k.vault × EndsIn k.vault k.pen.history
+abbrev pub IsKeptVault : PartsOf → KeptOf → Type 0
+IsKeptVault parts k = (k.pen.table ≡ parts.vaults) × IsVaultOf parts k.pen.number k.vault × EndsIn k.vault k.pen.history
 
 -- ---- one call
 

@@ -13,7 +13,7 @@ use Rattle.xh_place.specs.Bodies.{IsEndAt}
 use Rattle.xh_place.specs.Ending.{IsClosed}
 use Rattle.xh_place.specs.Ends.{is_here, IsTooLate}
 use Rattle.xh_place.specs.Events.{passed_on}
-use Rattle.xh_place.specs.Places.{IsWhole, Item, PlaceOf, alone}
+use Rattle.xh_place.specs.Places.{IsWholeItem, Item, PlaceOf, alone}
 use Rattle.xh_place.specs.Seen.{Stays, Becomes, Gains, IsElsewhere, IsSeen, PlaceSeen, SawWord, brings}
 use Rattle.xh_calls.specs.declared.wired.Wired.{Wired}
 use Rattle.xh_calls.specs.Channels.{OpensChannel}
@@ -43,7 +43,7 @@ OpensToward parts p arena contract old new result = MatchResult result
 -- it came to the end of q's list as it was passed, and is the block that is answered
 abbrev pub Receives : ℕ → ℕ → ℕ → PlaceSeen → PlaceSeen → Block → Type 0
 Receives q d r old new b = (is_here old.place q ≡ true) × (b.rec ≡ r)
-    × ((x : Item) × (x.len ≡ b.len) × Gains d ((r, x) ∷ []) old new × IsWhole x × IsSeen old new r (brings d x))
+    × ((x : Item) × (x.len ≡ b.len) × Gains d ((r, x) ∷ []) old new × IsWholeItem x × IsSeen old new r (brings d x))
 
 -- nobody has q's place; or another word was seen than "in flight on the direction"; or q doesn't run there, and it was swept: no fewer bytes came back than it has
 abbrev pub TurnsAway : ℕ → ℕ → ℕ → PlaceSeen → PlaceSeen → ℕ → Type 0

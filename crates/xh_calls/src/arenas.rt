@@ -2,6 +2,7 @@
 ghost use Rattle.std.specs.Prelude.{◌≡◌, ◌<◌, ◌≤◌, ◌%◌, All, IfOk, Some, length, slice_get, vec_len};
 ghost use Rattle.std.specs.Sync.Mutex.{mutex_guard_value};
 ghost use Rattle.atomic_table.specs.Seated.{TableId};
+ghost use Rattle.xh_core.specs.ArenaLines.{arena_line};
 ghost use Rattle.xh_model.specs.declared.limits.TheConstants.{MAX_ARENAS, MAX_BYTES, UNIT};
 ghost use Rattle.xh_calls.specs.Parts.{IsOpen, vault_names};
 ghost use Rattle.xh_calls.specs.Places.{IsTillOf};
@@ -13,19 +14,32 @@ use crate::kept::Kept;
 use crate::names::Names;
 use crossbeam_utils::CachePadded;
 use std::alloc::{AllocError, Global};
-use std::mem;
 use std::sync::{Mutex, MutexGuard, Wait};
 use xh_arena::{Lot, Refused, Vault};
 use xh_core::ArenaLine;
-use xh_history::{Front, Histories, Nothing, Pen};
+use xh_history::{Front, Histories, NobodyLooks, Pen};
 use xh_place::{Body, Vaults};
+
+/// What the ledger says of an arena.
+pub fn vault_line(vault: &Vault) -> ArenaLine
+    ensures { result ≡ arena_line vault.now.arena }
+{
+    let (out, taken) = (vault.handed_out(), vault.wear());
+    ArenaLine {
+        size: vault.size(),
+        out,
+        holes: vault.holes().len() as u32,
+        taken,
+        back: taken - u64::from(out),
+    }
+}
 
 /// One lock for each arena, on cache lines of its own, how many bytes each arena has, and the histories of the arenas.
 #[derive(Drop)]
 pub struct Arenas<N: Names> {
     locks: Vec<CachePadded<Mutex<Kept<N>>>>,
     size: u32,
-    histories: Histories<Vault, Nothing>,
+    histories: Histories<Vault, NobodyLooks>,
     ghost counted: { (vec_len locks ≡ length N.parts.records.shape.names) × (vec_len locks ≤ MAX_ARENAS) },
     ghost recorded: { histories ≡ N.parts.vaults },
     ghost sized: { (size ≡ N.parts.size) × (size % UNIT ≡ 0) × (size ≤ MAX_BYTES) },
@@ -37,7 +51,7 @@ impl<N: Names> Arenas<N> {
         alloc: Global,
         vaults: Vec<Vault>,
         size: u32,
-        histories: Histories<Vault, Nothing>,
+        histories: Histories<Vault, NobodyLooks>,
         pens: Vec<Pen<Vault>>,
     ) -> Result<Arenas<N>, AllocError>
         requires sized { (size ≡ N.parts.size) × (size % UNIT ≡ 0) × (size ≤ MAX_BYTES) }
@@ -89,7 +103,10 @@ impl<N: Names> Arenas<N> {
         requires table { seen.old.table ≡ N.parts.vaults }
         ensures { Tells N.parts seen.old arena result seen.new }
     {
-        self.kept(rt, arena).line(&self.histories, seen)
+        let mut guard = self.kept(rt, arena);
+        let kept: &mut Kept<N> = &mut guard;
+        self.histories.add(&mut kept.pen, seen, None, &kept.vault);
+        vault_line(&kept.vault)
     }
 
     /// The vaults, by arena, out of their locks, each of which knows its arena's number. An error where memory was refused.
@@ -121,22 +138,6 @@ pub(crate) struct Lent<'a, N: Names, R: Wait> {
 }
 
 impl<'a, N: Names, R: Wait> Lent<'a, N, R> {
-    // With what lies in the till, until the end of the call.
-    pub(crate) fn new(rt: &'a R, arenas: &'a Arenas<N>, till: &mut Till) -> Lent<'a, N, R>
-        requires { IsTillOf N.parts till.old }
-        ensures { result.till ≡ till.old }
-    {
-        let blank = Till {
-            tallies: Vec::new(*till.tallies.allocator()),
-            seen: Front::blank(),
-        };
-        Lent {
-            rt,
-            arenas,
-            till: mem::replace(till, blank),
-        }
-    }
-
     // What lies in the till now.
     pub(crate) fn end(self, till: &mut Till)
         ensures { (till.new ≡ self.entry.till) × IsTillOf N.parts till.new }

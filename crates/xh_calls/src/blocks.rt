@@ -7,10 +7,9 @@ ghost use Rattle.xh_place.specs.Calls.{Allocates, FreesBlock, Lends, LendsMut, R
 ghost use Rattle.xh_place.specs.Seen.{IsSamePlace};
 ghost use Rattle.xh_place.specs.Tallies.{gave, took};
 ghost use Rattle.xh_calls.specs.Calls.{space_of};
-ghost use Rattle.xh_calls.specs.Places.{IsServed, IsTillOf, status_at};
+ghost use Rattle.xh_calls.specs.Places.{IsServed, IsTillOf, TalliesBecome, status_at};
 ghost use Rattle.xh_calls.specs.Vaults.{AsksVault, Entered};
 
-use crate::arenas::Lent;
 use crate::heap::{Heap, Till};
 use crate::names::Names;
 use crate::starting::check_number;
@@ -35,14 +34,13 @@ impl<N: Names> Heap<N> {
     ) -> Result<Block, Refused>
         requires { IsServed N.parts place.old.place till.old }
         ensures same { IsSamePlace place.old place.new × IsTillOf N.parts till.new }
-        ensures tallies { MatchResult result (λ b. till.new.tallies.items ≡ took arena b.len till.old.tallies.items) (λ _. till.new.tallies.items ≡ till.old.tallies.items) }
+        ensures tallies { TalliesBecome (λ b. took arena b.len) till.old till.new result }
         ensures made { Allocates (status_at p place.old.place) (space_of N.parts) n arena place.old place.new result }
         ensures asked { OnOk result (Entered (arena ∷ []) till.old.seen till.new.seen) }
         ensures refused { IfErr result (AsksVault N.parts arena (rounded n) till.old.seen till.new.seen) }
     {
         check_number(place, p)?;
-        let lent = Lent::new(rt, &self.arenas, till);
-        let mut desk = self.desk(rt, lent, gate);
+        let mut desk = self.lend(rt, till, gate);
         let answer = place.alloc(alloc, &mut desk, n, arena);
         desk.vaults.end(till);
         self.tell_in_vain(rt, arena, &answer);
@@ -68,8 +66,7 @@ impl<N: Names> Heap<N> {
         ensures cut { Splits (status_at p place.old.place) r k place.old place.new result }
     {
         check_number(place, p)?;
-        let lent = Lent::new(rt, &self.arenas, till);
-        let mut desk = self.desk(rt, lent, gate);
+        let mut desk = self.lend(rt, till, gate);
         let answer = place.split(alloc, &mut desk, r, k);
         desk.vaults.end(till);
         self.tell_in_vain(rt, u32::from(r / MAX_RECORDS), &answer);
@@ -157,14 +154,13 @@ impl<N: Names> Heap<N> {
     ) -> Result<u32, Refused>
         requires { IsServed N.parts place.old.place till.old }
         ensures same { IsSamePlace place.old place.new × IsTillOf N.parts till.new }
-        ensures tallies { MatchResult result (λ n. till.new.tallies.items ≡ gave (r / MAX_RECORDS) n till.old.tallies.items) (λ _. till.new.tallies.items ≡ till.old.tallies.items) }
+        ensures tallies { TalliesBecome (gave (r / MAX_RECORDS)) till.old till.new result }
         ensures asked { MatchResult result (λ _. Entered (r / MAX_RECORDS ∷ []) till.old.seen till.new.seen) (λ _. till.new.seen ≡ till.old.seen) }
         ensures arena { OnOk result (r / MAX_RECORDS < length N.parts.records.shape.names) }
         ensures freed { FreesBlock (status_at p place.old.place) r place.old place.new result }
     {
         check_number(place, p)?;
-        let lent = Lent::new(rt, &self.arenas, till);
-        let mut desk = self.desk(rt, lent, gate);
+        let mut desk = self.lend(rt, till, gate);
         let answer = place.free(&mut desk, r);
         desk.vaults.end(till);
         self.tell_freed(rt, r, &answer);

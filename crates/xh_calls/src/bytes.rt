@@ -6,10 +6,9 @@ ghost use Rattle.xh_place.specs.Calls.{GivesUp, HasBytes, Makes};
 ghost use Rattle.xh_place.specs.Seen.{IsSamePlace};
 ghost use Rattle.xh_place.specs.Tallies.{gave, took};
 ghost use Rattle.xh_calls.specs.Calls.{space_of};
-ghost use Rattle.xh_calls.specs.Places.{IsServed, IsTillOf, status_at};
+ghost use Rattle.xh_calls.specs.Places.{IsServed, IsTillOf, TalliesBecome, status_at};
 ghost use Rattle.xh_calls.specs.Vaults.{AsksVault, Entered};
 
-use crate::arenas::Lent;
 use crate::heap::{Heap, Till};
 use crate::names::Names;
 use crate::starting::check_number;
@@ -31,15 +30,14 @@ impl<N: Names> Heap<N> {
     ) -> Result<Block, Refused>
         requires { IsServed N.parts place.old.place till.old }
         ensures same { IsSamePlace place.old place.new × IsTillOf N.parts till.new }
-        ensures tallies { MatchResult result (λ b. till.new.tallies.items ≡ took arena b.len till.old.tallies.items) (λ _. till.new.tallies.items ≡ till.old.tallies.items) }
+        ensures tallies { TalliesBecome (λ b. took arena b.len) till.old till.new result }
         ensures made { Makes (status_at p place.old.place) (space_of N.parts) (length bytes.old.items) bytes.old.items arena place.old place.new result }
         ensures bytes { MatchResult result (λ _. bytes.new.items ≡ []) (λ _. bytes.new.items ≡ bytes.old.items) }
         ensures asked { OnOk result (Entered (arena ∷ []) till.old.seen till.new.seen) }
         ensures refused { IfErr result (AsksVault N.parts arena (rounded (length bytes.old.items)) till.old.seen till.new.seen) }
     {
         check_number(place, p)?;
-        let lent = Lent::new(rt, &self.arenas, till);
-        let mut desk = self.desk(rt, lent, gate);
+        let mut desk = self.lend(rt, till, gate);
         let answer = place.put(&mut desk, bytes, arena);
         desk.vaults.end(till);
         self.tell_in_vain(rt, arena, &answer);
@@ -58,14 +56,13 @@ impl<N: Names> Heap<N> {
     ) -> Result<Vec<u8>, Refused>
         requires { IsServed N.parts place.old.place till.old }
         ensures same { IsSamePlace place.old place.new × IsTillOf N.parts till.new }
-        ensures tallies { MatchResult result (λ v. till.new.tallies.items ≡ gave (r / MAX_RECORDS) (length v.items) till.old.tallies.items) (λ _. till.new.tallies.items ≡ till.old.tallies.items) }
+        ensures tallies { TalliesBecome (λ v. gave (r / MAX_RECORDS) (length v.items)) till.old till.new result }
         ensures arena { OnOk result (r / MAX_RECORDS < length N.parts.records.shape.names) }
         ensures asked { MatchResult result (λ _. Entered (r / MAX_RECORDS ∷ []) till.old.seen till.new.seen) (λ _. till.new.seen ≡ till.old.seen) }
         ensures freed { GivesUp (λ v. HasBytes r place.old.place v.items) (status_at p place.old.place) r place.old place.new result }
     {
         check_number(place, p)?;
-        let lent = Lent::new(rt, &self.arenas, till);
-        let mut desk = self.desk(rt, lent, gate);
+        let mut desk = self.lend(rt, till, gate);
         let answer = place.into_bytes(&mut desk, r);
         desk.vaults.end(till);
         self.tell_freed(rt, r, &answer);

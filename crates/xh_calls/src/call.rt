@@ -1,5 +1,5 @@
 //! The calls of a place, and what its history has of each.
-use crate::several::Answered;
+use crate::several::AnsweredAt;
 use crate::wired::Wired;
 use std::collections::LinkedList;
 use xh_core::{Block, Contract, Glance, Refused};
@@ -31,7 +31,7 @@ pub enum Call {
     CloseAgain(u16, u16, u8, u64),
     Give(u16, u16, u16, LinkedList<u16>, Result<u64, Refused>),
     Take(u16, u16, Result<Taken, Refused>),
-    TakeAny(u16, LinkedList<u16>, Result<Answered, Refused>),
+    TakeAny(u16, LinkedList<u16>, Result<AnsweredAt, Refused>),
     /// With the bytes that came back.
     Close(u16, u16, u64, Result<u64, Refused>),
     /// An exit or a kill: the process, the budget, and the bytes that came back.

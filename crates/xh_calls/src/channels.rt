@@ -1,23 +1,21 @@
 //! Channels are opened, for one process or toward another.
-ghost use Rattle.std.specs.Prelude.{◌≡◌, ◌⊎◌, ℕ, ◌+◌, ◌*◌, ◌<◌, ◌++◌, ◌∷◌, [], Err, IfErr, IfOk, MatchResult, None, Ok, OnOk, false, length, true};
+ghost use Rattle.std.specs.Prelude.{◌≡◌, ◌⊎◌, ◌+◌, ◌*◌, ◌<◌, ◌++◌, ◌∷◌, [], IfErr, IfOk, OnOk, false, length, true};
 ghost use Rattle.xh_channel.specs.Pairs.{IsPair};
 ghost use Rattle.xh_channel.specs.Endpoint.{EndpointOf};
 ghost use Rattle.xh_core.specs.declared.status.Status.TheVariants as status;
 ghost use Rattle.xh_core.specs.Calls.{arena_tests, start};
-ghost use Rattle.xh_core.specs.Refusing.{Tested, first_refusal};
+ghost use Rattle.xh_core.specs.Refusing.{Tested};
 ghost use Rattle.xh_model.specs.declared.limits.TheConstants.{CHANNELS, END_BYTES};
-ghost use Rattle.xh_place.specs.Ends.{AreListed, Opens};
+ghost use Rattle.xh_place.specs.Ends.{AreListed};
 ghost use Rattle.xh_place.specs.Places.{IsPlaceOf};
-ghost use Rattle.xh_place.specs.Seen.{FindsFull, IsSamePlace, PlaceSeen, Stays};
-ghost use Rattle.xh_records.specs.History.{StartsWith};
+ghost use Rattle.xh_place.specs.Seen.{IsSamePlace, Stays};
 ghost use Rattle.xh_place.specs.Tallies.{took};
 ghost use Rattle.xh_records.specs.Seats.{IsRecord};
-ghost use Rattle.xh_calls.specs.Channels.{GoesBy, IsNoChannel, OpensChannel};
-ghost use Rattle.xh_calls.specs.Places.{GivesBack, IsServed, IsTillOf, status_at};
+ghost use Rattle.xh_calls.specs.Channels.{GoesBy, OpensChannel};
+ghost use Rattle.xh_calls.specs.Places.{AfterLooks, ComesBack, IsServed, IsTillOf, TalliesBecome, status_at};
 ghost use Rattle.xh_calls.specs.Vaults.{AsksVault, Entered};
 ghost use Rattle.xh_calls.specs.Wires.{ClosesAgain, HasLow, OpensToward, ReceivesOr, toward_high};
 
-use crate::arenas::Lent;
 use crate::heap::{Heap, Till};
 use crate::names::Names;
 use crate::starting::check_start;
@@ -47,47 +45,15 @@ fn open_channel<N: Names, R: Wait>(
 impl<N: Names> Heap<N> {
     // The tests of an open that come before the channel's.
     fn test_open(&self, place: &Place, p: u16, arena: u32) -> Result<(), Refused>
-        ensures { Tested (start (status_at p place.now.place) ++ arena_tests arena (length N.parts.records.shape.names)) result (λ _. place.now.place.state ≡ status.Running) }
+        ensures tested { Tested (start (status_at p place.now.place) ++ arena_tests arena (length N.parts.records.shape.names)) result (λ _. Unit {0}) }
+        ensures running { OnOk result (place.now.place.state ≡ status.Running) }
+        ensures there { OnOk result (arena < length N.parts.records.shape.names) }
     {
         check_start(place, p)?;
         if arena >= u32::from(self.arenas.count()) {
             return Err(Refused::NoArena);
         }
         Ok(())
-    }
-
-    // Both ends of a channel that was opened come to the process; or the channel is free again.
-    fn open_ends<R: Wait, G: Gate>(
-        &self,
-        rt: &R,
-        place: &mut Place,
-        low: Endpoint,
-        high: Endpoint,
-        arena: u32,
-        till: &mut Till,
-        gate: &G,
-    ) -> Result<(Block, Block), Refused>
-        requires served { IsServed N.parts place.old.place till.old }
-        requires fresh { IsPair low high }
-        requires passed { first_refusal (start place.old.place.state ++ arena_tests arena (length place.old.place.shape.names)) ≡ None }
-        ensures same { IsSamePlace place.old place.new × IsTillOf N.parts till.new }
-        ensures opened { MatchResult result (λ ends. Opens arena low high place.old place.new till.old.tallies.items till.new.tallies.items (Ok ends))
-            (λ why. Opens arena low high place.old place.new till.old.tallies.items till.new.tallies.items (Err (record { why = why; low = low; high = high }))) }
-        ensures asked { OnOk result (Entered (arena ∷ arena ∷ []) till.old.seen till.new.seen) }
-        ensures why { IfErr result (λ e. IsNoChannel N.parts ⊥ (FindsFull 1 place.old place.new arena) arena e × AsksVault N.parts arena (2 * END_BYTES) till.old.seen till.new.seen e) }
-    {
-        let lent = Lent::new(rt, &self.arenas, till);
-        let mut desk = self.desk(rt, lent, gate);
-        let answer = place.open(&mut desk, low, high, arena);
-        desk.vaults.end(till);
-        match answer {
-            Ok(ends) => Ok(ends),
-            Err(unopened) => {
-                self.channels.cancel(rt, unopened.low, unopened.high);
-                self.tell(rt, arena, FOR_RECORDS);
-                Err(unopened.why)
-            }
-        }
     }
 
     /// As `Kernel::open`, by whoever has the place's lock; the channel goes by the contract, or by none. OutOfMemory in
@@ -104,15 +70,26 @@ impl<N: Names> Heap<N> {
     ) -> Result<(Block, Block), Refused>
         requires { IsServed N.parts place.old.place till.old }
         ensures same { IsSamePlace place.old place.new × IsTillOf N.parts till.new }
-        ensures tallies { MatchResult result (λ _. till.new.tallies.items ≡ took arena (2 * END_BYTES) till.old.tallies.items) (λ _. till.new.tallies.items ≡ till.old.tallies.items) }
+        ensures tallies { TalliesBecome (λ _. took arena (2 * END_BYTES)) till.old till.new result }
         ensures opened { OpensChannel N.parts p arena contract place.old place.new result }
         ensures asked { OnOk result (Entered (arena ∷ arena ∷ []) till.old.seen till.new.seen) }
         ensures refused { IfErr result (AsksVault N.parts arena (2 * END_BYTES) till.old.seen till.new.seen) }
-        ensures ends { IfOk result (λ ends. (place.new.place.state ≡ status.Running) × ((low : EndpointOf) × (high : EndpointOf) × IsPair low high × AreListed low high place.new.place ends)) }
+        ensures running { OnOk result (place.new.place.state ≡ status.Running) }
+        ensures ends { IfOk result (λ ends. (low : EndpointOf) × (high : EndpointOf) × IsPair low high × AreListed low high place.new.place ends) }
     {
         self.test_open(place, p, arena)?;
         let (low, high) = open_channel(rt, self, contract)?;
-        self.open_ends(rt, place, low, high, arena, till, gate)
+        let mut desk = self.lend(rt, till, gate);
+        let answer = place.open(&mut desk, low, high, arena);
+        desk.vaults.end(till);
+        match answer {
+            Ok(ends) => Ok(ends),
+            Err(unopened) => {
+                self.channels.cancel(rt, unopened.low, unopened.high);
+                self.tell(rt, arena, FOR_RECORDS);
+                Err(unopened.why)
+            }
+        }
     }
 
     /// As `open`; then side 1 is passed on the direction toward it, and leaves the process.
@@ -128,7 +105,7 @@ impl<N: Names> Heap<N> {
     ) -> Result<Wired, Refused>
         requires { IsServed N.parts place.old.place till.old }
         ensures same { IsSamePlace place.old place.new × IsTillOf N.parts till.new }
-        ensures tallies { MatchResult result (λ _. till.new.tallies.items ≡ took arena (2 * END_BYTES) till.old.tallies.items) (λ _. till.new.tallies.items ≡ till.old.tallies.items) }
+        ensures tallies { TalliesBecome (λ _. took arena (2 * END_BYTES)) till.old till.new result }
         ensures opened { OpensToward N.parts p arena contract place.old place.new result }
         ensures asked { OnOk result (Entered (arena ∷ arena ∷ []) till.old.seen till.new.seen) }
         ensures refused { IfErr result (AsksVault N.parts arena (2 * END_BYTES) till.old.seen till.new.seen) }
@@ -164,11 +141,10 @@ impl<N: Names> Heap<N> {
         requires served { IsServed N.parts place.old.place till.old }
         requires there { IsRecord N.parts.records.shape r × (channel < CHANNELS) }
         ensures same { IsSamePlace place.old place.new × IsTillOf N.parts till.new }
-        ensures received { (bytes : ℕ) × ReceivesOr q (toward_high channel) r bytes place.old place.new result × GivesBack bytes till.old till.new }
+        ensures received { ComesBack till.old till.new (λ bytes. ReceivesOr q (toward_high channel) r bytes place.old place.new result) }
     {
         let toward = 2 * channel + 1;
-        let lent = Lent::new(rt, &self.arenas, till);
-        let mut desk = self.desk(rt, lent, gate);
+        let mut desk = self.lend(rt, till, gate);
         let answer = place.accept_end(&mut desk, q, r, toward);
         desk.vaults.end(till);
         self.tell_swept(rt);
@@ -201,8 +177,7 @@ impl<N: Names> Heap<N> {
     )
         requires { IsServed N.parts place.old.place till.old }
         ensures same { IsSamePlace place.old place.new × IsTillOf N.parts till.new }
-        ensures closed { (from : PlaceSeen) × Stays place.old from × StartsWith place.new.front from.front × (bytes : ℕ)
-            × ClosesAgain p wired.now.channel wired.now.low.rec from place.new bytes × GivesBack bytes till.old till.new }
+        ensures closed { AfterLooks place.old place.new (λ from. ComesBack till.old till.new (ClosesAgain p wired.now.channel wired.now.low.rec from place.new)) }
     {
         if let Err(_refused) = check_start(place, p) {
             return;

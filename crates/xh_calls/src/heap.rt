@@ -1,10 +1,13 @@
 //! What the calls of all places share.
 ghost use Rattle.std.specs.Prelude.{◌≡◌, ◌≤◌, is_some};
+ghost use Rattle.xh_calls.specs.Places.{IsTillOf};
 ghost use Rattle.xh_model.specs.declared.limits.TheConstants.{GENERATIONS, PLACES};
 
-use crate::arenas::Arenas;
+use crate::arenas::{Arenas, Lent};
 use crate::names::Names;
 use crate::waiters::Waiters;
+use std::mem;
+use std::sync::Wait;
 use xh_arena::{Tally, Vault};
 use xh_channel::Channels;
 use xh_history::Front;
@@ -50,5 +53,27 @@ impl<N: Names> Heap<N> {
             vaults,
             gate,
         }
+    }
+
+    // What a call works on that asks the vaults, with what lies in the till until the end of the call.
+    pub(crate) fn lend<'a, R: Wait, G>(
+        &'a self,
+        rt: &'a R,
+        till: &mut Till,
+        gate: &'a G,
+    ) -> Desk<'a, R, Lent<'a, N, R>, G>
+        requires { IsTillOf N.parts till.old }
+        ensures { (result.records.now ≡ N.parts.records) × (result.vaults.till ≡ till.old) }
+    {
+        let blank = Till {
+            tallies: Vec::new(*till.tallies.allocator()),
+            seen: Front::blank(),
+        };
+        let vaults = Lent {
+            rt,
+            arenas: &self.arenas,
+            till: mem::replace(till, blank),
+        };
+        self.desk(rt, vaults, gate)
     }
 }

@@ -2,7 +2,7 @@
 ghost use Rattle.std.specs.Prelude.{◌≡◌, ◌⊎◌, ◌+◌, ◌-◌, ◌%◌, ◌<◌, ◌≤◌, slice_get, Some, IfErr, IfOk, OnErr, OnOk};
 ghost use Rattle.xh_arena.specs.Sharing.{IsVaultCarved, IsVaultCut, IsVaultGivenBack};
 ghost use Rattle.xh_calls.specs.Parts.{IsVaultOf};
-ghost use Rattle.xh_calls.specs.Vaults.{DoesTo, IsRefusedBy, Tells};
+ghost use Rattle.xh_calls.specs.Vaults.{DoesTo, IsRefusedBy};
 ghost use Rattle.xh_history.specs.Histories.{fresh_pen};
 ghost use Rattle.xh_model.specs.Arena.{IsGoodCut};
 ghost use Rattle.xh_model.specs.declared.limits.TheConstants.{UNIT};
@@ -10,26 +10,25 @@ ghost use Rattle.xh_model.specs.declared.limits.TheConstants.{UNIT};
 use crate::names::Names;
 use std::marker::{Model, PhantomData};
 use xh_arena::{Lot, Refused, Tally, Vault};
-use xh_core::ArenaLine;
-use xh_history::{Front, Histories, Nothing, Pen};
+use xh_history::{Front, Histories, NobodyLooks, Pen};
 use xh_place::Body;
 
 /// The vault of an arena, and the pen of the arena's history, which knows its number.
 #[derive(Drop)]
 pub struct Kept<N: Names> {
-    vault: Vault,
-    pen: Pen<Vault>,
+    pub(crate) vault: Vault,
+    pub(crate) pen: Pen<Vault>,
     of: PhantomData<N>,
 }
 
 impl<N: Names> Model for Kept<N> {
-    ghost use Rattle.xh_calls.specs.Vaults.{IsKept, KeptOf};
+    ghost use Rattle.xh_calls.specs.Vaults.{IsKeptVault, KeptOf};
 
     ghost Value = { KeptOf };
 
     ghost view = { λ k. record { vault = k.vault; pen = k.pen } };
 
-    ghost invariant = { λ k. IsKept N.parts (record { vault = k.vault; pen = k.pen }) };
+    ghost invariant = { λ k. IsKeptVault N.parts (record { vault = k.vault; pen = k.pen }) };
 }
 
 impl<N: Names> Kept<N> {
@@ -61,7 +60,7 @@ impl<N: Names> Kept<N> {
     // As `Vault::carve`, of the lock's arena. The worker enters it in the arena's history.
     pub(crate) fn carve(
         &mut self,
-        histories: &Histories<Vault, Nothing>,
+        histories: &Histories<Vault, NobodyLooks>,
         front: &mut Front<Vault>,
         lot: &mut Lot<Body>,
         tally: &mut Tally,
@@ -76,7 +75,7 @@ impl<N: Names> Kept<N> {
         ensures refused { OnErr result ((lot.new ≡ lot.old) × (tally.new ≡ tally.old)) }
         ensures reason { IfErr result (λ e. (e ≡ Refused.NoSpace) ⊎ (e ≡ Refused.Worn)) }
         ensures front { front.new.table ≡ front.old.table }
-        ensures entered { IfOk result (λ at. DoesTo N.parts self.old.pen.number front.old front.new (λ v w. IsVaultCarved n at v w lot.old lot.new tally.old tally.new)) }
+        ensures done { IfOk result (λ at. DoesTo N.parts self.old.pen.number front.old front.new (λ v w. IsVaultCarved n at v w lot.old lot.new tally.old tally.new)) }
         ensures why { IfErr result (IsRefusedBy N.parts self.old.pen.number n front.old front.new) }
     {
         let answer = self.vault.carve(lot, tally, n);
@@ -87,7 +86,7 @@ impl<N: Names> Kept<N> {
     // As `Vault::cut`, of the lock's arena. The worker enters it in the arena's history.
     pub(crate) fn cut(
         &mut self,
-        histories: &Histories<Vault, Nothing>,
+        histories: &Histories<Vault, NobodyLooks>,
         front: &mut Front<Vault>,
         head: &mut Lot<Body>,
         tail: &mut Lot<Body>,
@@ -109,7 +108,7 @@ impl<N: Names> Kept<N> {
     // As `Vault::give_back`, of the lock's arena. The worker enters it in the arena's history.
     pub(crate) fn give_back(
         &mut self,
-        histories: &Histories<Vault, Nothing>,
+        histories: &Histories<Vault, NobodyLooks>,
         front: &mut Front<Vault>,
         lot: &mut Lot<Body>,
         tally: &mut Tally,
@@ -124,25 +123,5 @@ impl<N: Names> Kept<N> {
     {
         self.vault.give_back(lot, tally);
         histories.add(&mut self.pen, front, None, &self.vault);
-    }
-
-    // What the ledger says of the arena as it is. The worker enters its look in the arena's history.
-    pub(crate) fn line(
-        &mut self,
-        histories: &Histories<Vault, Nothing>,
-        front: &mut Front<Vault>,
-    ) -> ArenaLine
-        requires tables { (histories.now ≡ N.parts.vaults) × (front.old.table ≡ N.parts.vaults) }
-        ensures { Tells N.parts front.old self.old.pen.number result front.new }
-    {
-        histories.add(&mut self.pen, front, None, &self.vault);
-        let (out, taken) = (self.vault.handed_out(), self.vault.wear());
-        ArenaLine {
-            size: self.vault.size(),
-            out,
-            holes: self.vault.holes().len() as u32,
-            taken,
-            back: taken - u64::from(out),
-        }
     }
 }

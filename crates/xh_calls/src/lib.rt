@@ -17,12 +17,12 @@ mod starting;
 mod waiters;
 mod wired;
 
-pub use arenas::Arenas;
+pub use arenas::{Arenas, vault_line};
 pub use call::{Call, Entry};
 pub use heap::{Heap, Till};
 pub use making::{Bundle, Makings, make_vaults};
 pub use names::Names;
-pub use several::{Answered, MAX_ENDS};
+pub use several::{AnsweredAt, MAX_ENDS};
 pub use starting::check_start;
 pub use waiters::{Lack, Waiters};
 pub use wired::Wired;

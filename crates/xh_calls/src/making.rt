@@ -5,7 +5,7 @@ ghost use Rattle.xh_calls.specs.inner.Making.{AreBundles, AreMakings};
 
 use std::alloc::{AllocError, Global};
 use std::collections::LinkedList;
-use xh_arena::{Lot, Name, Tally, Vault};
+use xh_arena::{Lot, Tally, Vault, VaultName};
 use xh_core::{Config, Refused};
 use xh_place::Body;
 
@@ -21,7 +21,7 @@ pub struct Bundle {
 pub struct Makings {
     pub vaults: Vec<Vault>,
     pub lots: Vec<Lot<Body>>,
-    pub names: LinkedList<Name>,
+    pub names: LinkedList<VaultName>,
     pub bundles: Vec<Bundle>,
 }
 
@@ -44,7 +44,7 @@ fn empty_bundles(alloc: Global, workers: u8, arenas: u8) -> Result<Vec<Bundle>, 
 
 // Each worker's bundle gets its tally of one more vault.
 fn deal_tallies(
-    names: &LinkedList<Name>,
+    names: &LinkedList<VaultName>,
     vault: &Vault,
     bundles: &mut [Bundle],
     tallies: Vec<Tally>,

@@ -1,12 +1,11 @@
 //! Messages of a process, and the ends of its endpoints and of itself.
-ghost use Rattle.std.specs.Prelude.{◌≡◌, ℕ, IfErr};
+ghost use Rattle.std.specs.Prelude.{◌≡◌, IfErr};
 ghost use Rattle.xh_place.specs.Calls.{Closes, Stops};
 ghost use Rattle.xh_place.specs.Places.{IsPlaceOf};
 ghost use Rattle.xh_place.specs.Seen.{IsSamePlace};
 ghost use Rattle.xh_place.specs.Messages.{Gives, TakesAt};
-ghost use Rattle.xh_calls.specs.Places.{GivesBack, IsServed, IsTillOf, status_at};
+ghost use Rattle.xh_calls.specs.Places.{ComesBack, IsServed, IsTillOf, status_at};
 
-use crate::arenas::Lent;
 use crate::heap::{Heap, Till};
 use crate::names::Names;
 use crate::starting::check_number;
@@ -64,11 +63,10 @@ impl<N: Names> Heap<N> {
     ) -> Result<u64, Refused>
         requires { IsServed N.parts place.old.place till.old }
         ensures same { IsSamePlace place.old place.new × IsTillOf N.parts till.new }
-        ensures closed { (bytes : ℕ) × Closes (status_at p place.old.place) e bytes place.old place.new result × GivesBack bytes till.old till.new }
+        ensures closed { ComesBack till.old till.new (λ bytes. Closes (status_at p place.old.place) e bytes place.old place.new result) }
     {
         check_number(place, p)?;
-        let lent = Lent::new(rt, &self.arenas, till);
-        let mut desk = self.desk(rt, lent, gate);
+        let mut desk = self.lend(rt, till, gate);
         let answer = place.close_end(&mut desk, e);
         desk.vaults.end(till);
         self.tell_swept(rt);
@@ -87,11 +85,10 @@ impl<N: Names> Heap<N> {
     ) -> Result<u64, Refused>
         requires { IsServed N.parts place.old.place till.old }
         ensures same { IsSamePlace place.old place.new × IsTillOf N.parts till.new }
-        ensures stopped { (bytes : ℕ) × Stops (status_at p place.old.place) budget bytes place.old place.new result × GivesBack bytes till.old till.new }
+        ensures stopped { ComesBack till.old till.new (λ bytes. Stops (status_at p place.old.place) budget bytes place.old place.new result) }
     {
         check_number(place, p)?;
-        let lent = Lent::new(rt, &self.arenas, till);
-        let mut desk = self.desk(rt, lent, gate);
+        let mut desk = self.lend(rt, till, gate);
         let answer = place.stop(&mut desk, budget);
         desk.vaults.end(till);
         self.tell_swept(rt);

@@ -3,8 +3,8 @@ ghost use Rattle.std.specs.Prelude.{◌≡◌, ◌<◌, ◌-◌, ◌^◌, IfOk, 
 ghost use Rattle.xh_core.specs.declared.refused.Refused.TheVariants as refused;
 ghost use Rattle.xh_core.specs.Refusing.{Tested};
 ghost use Rattle.xh_place.specs.Places.{IsPlaceOf};
-ghost use Rattle.xh_place.specs.Seen.{IsSamePlace, PlaceSeen, Stays};
-ghost use Rattle.xh_records.specs.History.{StartsWith};
+ghost use Rattle.xh_place.specs.Seen.{IsSamePlace, Stays};
+ghost use Rattle.xh_calls.specs.Places.{AfterLooks};
 ghost use Rattle.xh_calls.specs.inner.Looking.{AreEndsOf, AreReady, first_of};
 ghost use Rattle.xh_calls.specs.Several.{TakesAny, TakesFirst, each_end, several_tests};
 
@@ -21,23 +21,23 @@ pub const MAX_ENDS: usize = 64;
 
 /// What the take of one of several endpoints answered, and the endpoint's index: a message, or that its peer is closed.
 #[derive(Drop, Debug)]
-pub struct Answered {
+pub struct AnsweredAt {
     pub at: usize,
     pub answer: Result<Taken, Refused>,
 }
 
 // What those behind an endpoint without a message answered is the answer, unless the endpoint's peer is closed and they have none.
-fn first_of(why: Refused, later: Result<Answered, Refused>) -> Result<Answered, Refused>
+fn first_of(why: Refused, later: Result<AnsweredAt, Refused>) -> Result<AnsweredAt, Refused>
     requires { IfOk later (λ a. a.at < 2 ^ 64 - 1) }
     ensures { result ≡ first_of why later }
 {
     let is_closed = !matches!(why, Refused::Empty);
     match later {
-        Ok(Answered { at, answer }) if answer.is_ok() || !is_closed => Ok(Answered {
+        Ok(AnsweredAt { at, answer }) if answer.is_ok() || !is_closed => Ok(AnsweredAt {
             at: at + 1,
             answer,
         }),
-        _ if is_closed => Ok(Answered {
+        _ if is_closed => Ok(AnsweredAt {
             at: 0,
             answer: Err(why),
         }),
@@ -97,7 +97,7 @@ impl<N: Names> Heap<N> {
         p: u16,
         ends: &[u16],
         gate: &G,
-    ) -> Result<Answered, Refused>
+    ) -> Result<AnsweredAt, Refused>
         requires own { IsPlaceOf N.parts.records place.old.place }
         requires ready { AreReady p place.old.place ends.now }
         ensures same { IsSamePlace place.old place.new }
@@ -108,7 +108,7 @@ impl<N: Names> Heap<N> {
             return Err(Refused::Empty);
         };
         match self.take(rt, place, p, *e, gate) {
-            Ok(taken) => Ok(Answered {
+            Ok(taken) => Ok(AnsweredAt {
                 at: 0,
                 answer: Ok(taken),
             }),
@@ -124,10 +124,10 @@ impl<N: Names> Heap<N> {
         p: u16,
         ends: &[u16],
         gate: &G,
-    ) -> Result<Answered, Refused>
+    ) -> Result<AnsweredAt, Refused>
         requires { IsPlaceOf N.parts.records place.old.place }
         ensures same { IsSamePlace place.old place.new }
-        ensures taken { (from : PlaceSeen) × Stays place.old from × StartsWith place.new.front from.front × TakesAny p ends.now from place.new result }
+        ensures taken { AfterLooks place.old place.new (λ from. TakesAny p ends.now from place.new result) }
     {
         test_several(&self.records, place, p, ends)?;
         self.take_first(rt, place, p, ends, gate)

@@ -18,7 +18,8 @@ use xh_place::Place;
 // The process is the place's latest, whose state the place's calls test. NoProcess, and Ended of one before it.
 pub(crate) fn check_number(place: &Place, p: u16) -> Result<(), Refused>
     ensures latest { OnOk result (status_at p place.now.place ≡ place.now.place.state) }
-    ensures other { IfErr result (λ e. (first_refusal (start (status_at p place.now.place)) ≡ Some e) × (first_refusal (stop (status_at p place.now.place)) ≡ Some e)) }
+    ensures unstarted { IfErr result (λ e. first_refusal (start (status_at p place.now.place)) ≡ Some e) }
+    ensures unstopped { IfErr result (λ e. first_refusal (stop (status_at p place.now.place)) ≡ Some e) }
 {
     let latest = place.process();
     if latest == p && p < PROCESSES {
@@ -44,7 +45,9 @@ impl<N: Names> Heap<N> {
     #[tactic(auto, using(crate::proofs::Started::starts, xh_place::proofs::Events::stays_itself))]
     pub fn spawn(&self, place: &mut Place) -> Option<u16>
         requires { IsPlaceOf N.parts.records place.old.place }
-        ensures same { IsPlaceOf N.parts.records place.new.place × StartsWith place.new.front place.old.front × (place_of place.new.place.process ≡ place_of place.old.place.process) }
+        ensures own { IsPlaceOf N.parts.records place.new.place }
+        ensures longer { StartsWith place.new.front place.old.front }
+        ensures same { place_of place.new.place.process ≡ place_of place.old.place.process }
         ensures spawns { Spawns N.parts.generations place.old place.new result }
     {
         let again = place.process() / u16::from(PLACES) + 1 < self.generations;

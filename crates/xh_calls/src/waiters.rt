@@ -1,5 +1,6 @@
 //! Who waits for memory of an arena, and who wakes them. No step takes a lock.
 ghost use Rattle.std.specs.Prelude.{◌≡◌, ◌≢◌, ◌⊎◌, ◌<◌, Err, IfErr, MatchOption};
+ghost use Rattle.xh_core.specs.declared.refused.Refused.TheVariants.{NoRecord, NoSpace};
 ghost use Rattle.xh_model.specs.declared.limits.TheConstants.{PLACES};
 
 use crate::heap::Heap;
@@ -21,8 +22,8 @@ pub enum Lack {
 impl Lack {
     /// What was lacking to a call that was refused so; None of any other answer.
     pub fn of<A>(answer: &Result<A, Refused>) -> Option<Lack>
-        ensures { MatchOption result (IfErr answer.now (λ why. (why ≢ Refused.NoRecord) × (why ≢ Refused.NoSpace)))
-            (λ _. (answer.now ≡ Err Refused.NoRecord) ⊎ (answer.now ≡ Err Refused.NoSpace)) }
+        ensures { MatchOption result (IfErr answer.now (λ why. (why ≢ NoRecord) × (why ≢ NoSpace)))
+            (λ _. (answer.now ≡ Err NoRecord) ⊎ (answer.now ≡ Err NoSpace)) }
     {
         match answer {
             Err(Refused::NoRecord) => Some(Lack::Record),

@@ -11,13 +11,13 @@ pub use Rattle.std.proofs.lemmas.List.{length-replicate, length_push, map-append
 pub use Rattle.xh_channel.specs.Calls.{EndpointPuts, EndpointShuts, EndpointTakes, OnlySaw, next_state}
 pub use Rattle.xh_channel.specs.Endpoint.{EndpointOf}
 pub use Rattle.xh_channel.specs.LineSeats.{LineView, SeatDoes, on_line, told_across}
-pub use Rattle.xh_channel.specs.Lines.{LinePuts, LineShuts, LineTakes, Lined, end_of, no_counts, now_shut, one_put, one_taken, waiting}
+pub use Rattle.xh_channel.specs.Lines.{LinePuts, LineShuts, LineTakes, Lined, line_end_of, no_counts, now_shut, one_put, one_taken, waiting}
 pub use Rattle.xh_channel.specs.Agreement.{AgreesWith}
 pub use Rattle.xh_channel.specs.Queues.{QueueView}
 pub use Rattle.xh_channel.specs.declared.counts.Counts.{Counts}
 pub use Rattle.xh_channel.specs.declared.line_end.LineEnd.{LineEnd}
-pub use Rattle.xh_channel.specs.declared.line_rule.Account.{Account}
-pub use Rattle.xh_channel.specs.declared.line_rule.Part.{Part}
+pub use Rattle.xh_channel.specs.declared.line_rule.LineAccount.{LineAccount}
+pub use Rattle.xh_channel.specs.declared.line_rule.LinePart.{LinePart}
 pub use Rattle.xh_channel.specs.declared.message.Message.{Message}
 pub use Rattle.xh_channel.specs.inner.Ends.{IsUnsent, endpoint_of}
 pub use Rattle.xh_channel.specs.inner.FreeNumbers.{StandAtTheirNumbers, at_place, has_depth}

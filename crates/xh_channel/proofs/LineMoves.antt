@@ -1,8 +1,8 @@
 -- What a put, a take and a shut of the line that a seat holds make of its account, and what contracts see of that.
-use Rattle.xh_channel.proofs.Common.{Account, Bool, Counts, EndpointOf, EndpointPuts, EndpointShuts, EndpointTakes, Err, Grows, IfOk, IsEndBy, IsSettled, IsSome, LiesFor, LineEnd}
+use Rattle.xh_channel.proofs.Common.{LineAccount, Bool, Counts, EndpointOf, EndpointPuts, EndpointShuts, EndpointTakes, Err, Grows, IfOk, IsEndBy, IsSettled, IsSome, LiesFor, LineEnd}
 use Rattle.xh_channel.proofs.Common.{LinePuts, LineShuts, LineTakes, LineView, SeatDoes, Lined, List, Me, Message, None, Ok}
-use Rattle.xh_channel.proofs.Common.{OnErr, OnlySaw, Option, Part, Result, Some, TableId, [], ap, append_assoc, arith}
-use Rattle.xh_channel.proofs.Common.{end_of, false, false_from_ne_true, holding, inl, inr, length, length-append, length_push, line_view, on_line}
+use Rattle.xh_channel.proofs.Common.{OnErr, OnlySaw, Option, LinePart, Result, Some, TableId, [], ap, append_assoc, arith}
+use Rattle.xh_channel.proofs.Common.{line_end_of, false, false_from_ne_true, holding, inl, inr, length, length-append, length_push, line_view, on_line}
 use Rattle.xh_channel.proofs.Common.{now_shut, numbers_before, numbers_join, one_put, one_taken, refl, rest, subst, suc, sym, take, take-append_seam, true, true≢false, unwrap_or, waiting}
 use Rattle.xh_channel.proofs.Common.{zero, ℕ, ⊎_elim, ◌++◌, ◌+◌, ◌-◌, ◌<◌, ◌||◌, ◌∙◌, ◌∷◌, ◌≡◌, ◌≤◌}
 use Rattle.arrayvec.specs.ArrayVec.{ArrayVec}
@@ -14,9 +14,9 @@ use Rattle.xh_channel.specs.declared.refused.Refused.{Refused}
 use Rattle.xh_channel.specs.declared.refused.Refused.TheVariants as refused
 use Rattle.xh_channel.specs.declared.unsent.Unsent.{Unsent}
 use Rattle.xh_channel.specs.declared.unsent.Unsent.TheVariants.{Full, PeerClosed, Protocol}
-use Rattle.xh_channel.specs.inner.LineRule.{Found, IsTold, counts_in, own_by, peer_by, settled, settled_by}
+use Rattle.xh_channel.specs.inner.LineRule.{Found, IsTold, counts_in, own_by, peer_by, settled_part, settled_by}
 use Rattle.xh_model.specs.declared.limits.TheConstants.{MAX_MESSAGES}
-use Rattle.xh_channel.specs.Directions.{number}
+use Rattle.xh_channel.specs.Directions.{message_number}
 
 -- what was seen of the peer leaves what was pushed
 none_pushed : (old new : EndpointOf) (m : Message) → OnlySaw old new
@@ -30,30 +30,30 @@ or_right true b e = refl
 or_right false b e = e
 
 -- a line lies where the seat's side has a depth
-pub has_line : (k : ℕ) (l : Option Lined) (own peer : Account) → LiesFor k l own peer → 1 ≤ own.depth → (line : Lined) × (l ≡ Some line)
+pub has_line : (k : ℕ) (l : Option Lined) (own peer : LineAccount) → LiesFor k l own peer → 1 ≤ own.depth → (line : Lined) × (l ≡ Some line)
 has_line k (Some line) own peer lies begun = (line, refl)
-has_line zero None own peer lies begun = let none = ap (λ (a : Account). a.depth) lies.0 in absurd (omega arith)
-has_line (suc k) None own peer lies begun = let none = ap (λ (a : Account). a.depth) lies.1 in absurd (omega arith)
+has_line zero None own peer lies begun = let none = ap (λ (a : LineAccount). a.depth) lies.0 in absurd (omega arith)
+has_line (suc k) None own peer lies begun = let none = ap (λ (a : LineAccount). a.depth) lies.1 in absurd (omega arith)
 
-abbrev Ends : ℕ → Lined → Account → Account → Type 0
-Ends k line own peer = IsEndBy line (end_of line k) own peer × IsEndBy line (end_of line (1 - k)) peer own
+abbrev Ends : ℕ → Lined → LineAccount → LineAccount → Type 0
+Ends k line own peer = IsEndBy line (line_end_of line k) own peer × IsEndBy line (line_end_of line (1 - k)) peer own
 
-ends : (k : ℕ) (line : Lined) (own peer : Account) → k ≤ 1 → LiesFor k (Some line) own peer → Ends k line own peer
+ends : (k : ℕ) (line : Lined) (own peer : LineAccount) → k ≤ 1 → LiesFor k (Some line) own peer → Ends k line own peer
 ends zero line own peer few lies = lies
 ends (suc zero) line own peer few lies = (lies.1, lies.0)
 ends (suc (suc k)) line own peer few lies = absurd (omega arith)
 
-lies : (k : ℕ) (line : Lined) (own peer : Account) → k ≤ 1 → Ends k line own peer → LiesFor k (Some line) own peer
+lies : (k : ℕ) (line : Lined) (own peer : LineAccount) → k ≤ 1 → Ends k line own peer → LiesFor k (Some line) own peer
 lies zero line own peer few e = e
 lies (suc zero) line own peer few e = (e.1, e.0)
 lies (suc (suc k)) line own peer few e = absurd (omega arith)
 
 -- the account as a part of the line
-abbrev placed : Account → List Row → ℕ → ℕ → Account
+abbrev placed : LineAccount → List Row → ℕ → ℕ → LineAccount
 placed a rows depth state = record a { rows = rows; depth = depth; state = state }
 
 -- the accounts that the seat has by the line are those of which it is true
-pub accounts : (v : Part) (peer own : Account) (rows : List Row) (depth state : ℕ) (line : Lined) → Ends v.side line own (placed peer rows depth state)
+pub accounts : (v : LinePart) (peer own : LineAccount) (rows : List Row) (depth state : ℕ) (line : Lined) → Ends v.side line own (placed peer rows depth state)
     → (own_by (holding v peer) line ≡ own) × (peer_by (holding v peer) line ≡ placed peer rows depth state)
 accounts v peer own rows depth state line e =
     let counts = e.0.counts in (
@@ -62,17 +62,17 @@ accounts v peer own rows depth state line e =
         depth = e.0.depth i;
         state = e.0.state i;
         sent = sym e.1.waits.0 i;
-        got = (ap (λ (c : Counts). take c.taken peer.sent) counts ∙ ap (take (length own.got)) e.0.waits.0 ∙ take-append_seam own.got (waiting (end_of line v.side))) i;
+        got = (ap (λ (c : Counts). take c.taken peer.sent) counts ∙ ap (take (length own.got)) e.0.waits.0 ∙ take-append_seam own.got (waiting (line_end_of line v.side))) i;
         shut = (counts i).shut;
       }),
       (λ i. record peer { rows = e.1.rows i; depth = e.1.depth i; state = e.1.state i }),
     )
 
-settled_so : (v : Part) (peer own : Account) (line : Lined) → v.side ≤ 1 → Ends v.side line own peer → Grows v.own own → IsTold v.told peer
+settled_so : (v : LinePart) (peer own : LineAccount) (line : Lined) → v.side ≤ 1 → Ends v.side line own peer → Grows v.own own → IsTold v.told peer
     → IsSettled (holding v peer) line × (own_by (holding v peer) line ≡ own)
 settled_so v peer own line few e grows told = let a = accounts v peer own peer.rows peer.depth peer.state line e in (
   (
-    subst (λ (x : Account × Account). LiesFor v.side (Some line) x.0 x.1) (λ i. (sym a.0 i, sym a.1 i)) (lies v.side line own peer few e),
+    subst (λ (x : LineAccount × LineAccount). LiesFor v.side (Some line) x.0 x.1) (λ i. (sym a.0 i, sym a.1 i)) (lies v.side line own peer few e),
     subst (Grows v.own) (sym a.0) grows,
     inl a.1,
     told,
@@ -80,18 +80,18 @@ settled_so v peer own line few e grows told = let a = accounts v peer own peer.r
   a.0,
 )
 
-module _ (table : TableId) (v : Part) (peer : Account) (line line' : Lined) (found : Found v peer line) where
+module _ (table : TableId) (v : LinePart) (peer : LineAccount) (line line' : Lined) (found : Found v peer line) where
   abbrev k : ℕ
   k = v.side
 
-  abbrev own : Account
+  abbrev own : LineAccount
   own = v.own
 
   abbrev was : Ends k line own peer
   was = ends k line own peer found.few found.lies
 
   -- the peer's end stays, and what this side sent
-  peer_same : line'.rows ≡ line.rows → line'.depth ≡ line.depth → end_of line' (1 - k) ≡ end_of line (1 - k) → (own' : Account) → own.sent ≡ own'.sent → IsEndBy line' (end_of line' (1 - k)) peer own'
+  peer_same : line'.rows ≡ line.rows → line'.depth ≡ line.depth → line_end_of line' (1 - k) ≡ line_end_of line (1 - k) → (own' : LineAccount) → own.sent ≡ own'.sent → IsEndBy line' (line_end_of line' (1 - k)) peer own'
   peer_same rows depth same own' sent = record {
     rows = rows ∙ was.1.rows;
     depth = depth ∙ was.1.depth;
@@ -107,16 +107,16 @@ module _ (table : TableId) (v : Part) (peer : Account) (line line' : Lined) (fou
   abbrev saw : Bool
   saw = v.told.shut || peer.shut
 
-  seen_is : (own' : Account) → own_by (holding v peer) line' ≡ own' → seen ≡ record (line_view table (record v { own = own' })) { peer_shut = saw }
-  seen_is own' is = ap (λ (a : Account). record (line_view table (record v { own = a })) { peer_shut = saw }) is
+  seen_is : (own' : LineAccount) → own_by (holding v peer) line' ≡ own' → seen ≡ record (line_view table (record v { own = own' })) { peer_shut = saw }
+  seen_is own' is = ap (λ (a : LineAccount). record (line_view table (record v { own = a })) { peer_shut = saw }) is
 
   saw_no_less : v.told.shut ≡ true → saw ≡ true
   saw_no_less e = ap (λ b. b || peer.shut) e
 
-  saw_shut : (end_of line (1 - k)).counts.shut ≡ true → saw ≡ true
+  saw_shut : (line_end_of line (1 - k)).counts.shut ≡ true → saw ≡ true
   saw_shut e = or_right v.told.shut peer.shut (ap (λ (c : Counts). c.shut) (sym was.1.counts) ∙ e)
 
-  saw_open : (end_of line (1 - k)).counts.shut ≡ false → (v.told.shut ≡ false) × (saw ≡ false)
+  saw_open : (line_end_of line (1 - k)).counts.shut ≡ false → (v.told.shut ≡ false) × (saw ≡ false)
   saw_open e =
       let closed : peer.shut ≡ false = ap (λ (c : Counts). c.shut) (sym was.1.counts) ∙ e in
       let told = false_from_ne_true v.told.shut (λ p. true≢false (sym (found.told.2 p) ∙ closed)) in
@@ -130,18 +130,18 @@ module _ (table : TableId) (v : Part) (peer : Account) (line line' : Lined) (fou
   only_saw same e = (ap (on_line e) (seen_is own (kept same).1), saw_no_less)
 
   -- what the contract allows by the line it allows by the account
-  step_by : (tag side : ℕ) (next : Option ℕ) → allowed line.rows (end_of line k).state tag side ≡ next → allowed own.rows own.state tag side ≡ next
+  step_by : (tag side : ℕ) (next : Option ℕ) → allowed line.rows (line_end_of line k).state tag side ≡ next → allowed own.rows own.state tag side ≡ next
   step_by tag side next e = (λ i. allowed (sym was.0.rows i) (sym was.0.state i) tag side) ∙ e
 
   module _ (tag : ℕ) (blocks : ArrayVec ℕ) where
     abbrev next_message : Message
     next_message = record { no = suc (length own.sent); tag = tag; blocks = blocks }
 
-    next_at : (e : EndpointOf) → e.spot.side ≡ k → (next : Option ℕ) → allowed line.rows (end_of line k).state tag k ≡ next → allowed own.rows own.state tag e.spot.side ≡ next
+    next_at : (e : EndpointOf) → e.spot.side ≡ k → (next : Option ℕ) → allowed line.rows (line_end_of line k).state tag k ≡ next → allowed own.rows own.state tag e.spot.side ≡ next
     next_at e at next is = ap (allowed own.rows own.state tag) at ∙ step_by tag k next is
 
-    full : length (waiting (end_of line (1 - k))) ≡ line.depth → v.told.taken + own.depth ≤ length own.sent
-    full e = let sent = ap length was.1.waits.0 in let deep = was.0.depth in let told = found.told.1 in omega (arith, length-append peer.got (waiting (end_of line (1 - k))))
+    full : length (waiting (line_end_of line (1 - k))) ≡ line.depth → v.told.taken + own.depth ≤ length own.sent
+    full e = let sent = ap length was.1.waits.0 in let deep = was.0.depth in let told = found.told.1 in omega (arith, length-append peer.got (waiting (line_end_of line (1 - k))))
 
     pub put_done : (r : Result ℕ Unsent) → LinePuts line line' k tag blocks r → OnErr r (line' ≡ line)
         → IsSettled (holding v peer) line' × SeatDoes (line_view table v) seen (EndpointPuts tag blocks r)
@@ -152,8 +152,8 @@ module _ (table : TableId) (v : Part) (peer : Account) (line line' : Lined) (fou
         let r = p.put in
         let is_next : n ≡ suc (length own.sent) = r.0 ∙ ap (λ (c : Counts). suc c.put) o.counts in
         let longer : length (own.sent ++ m ∷ []) ≡ suc (length own.sent) = omega (arith, length_push own.sent m) in
-        let numbered = numbers_join number 0 own.sent m e.waits.1 (is_next ∙ ap suc (omega arith)) in
-        let own' : Account = record own { sent = own.sent ++ m ∷ []; state = (end_of line' k).state } in
+        let numbered = numbers_join message_number 0 own.sent m e.waits.1 (is_next ∙ ap suc (omega arith)) in
+        let own' : LineAccount = record own { sent = own.sent ++ m ∷ []; state = (line_end_of line' k).state } in
         let counts : counts_in own' ≡ one_put (counts_in own) = λ i. record { put = longer i; taken = length own.got; shut = own.shut } in
         let ends' : Ends k line' own' peer = (
           record {
@@ -168,7 +168,7 @@ module _ (table : TableId) (v : Part) (peer : Account) (line line' : Lined) (fou
             depth = p.rules.1 ∙ e.depth;
             state = p.state ∙ e.state;
             counts = p.counts ∙ e.counts;
-            waits = (ap (λ l. l ++ m ∷ []) e.waits.0 ∙ append_assoc peer.got (waiting (end_of line (1 - k))) (m ∷ []) ∙ ap (λ l. peer.got ++ l) (sym r.3), numbered);
+            waits = (ap (λ l. l ++ m ∷ []) e.waits.0 ∙ append_assoc peer.got (waiting (line_end_of line (1 - k))) (m ∷ []) ∙ ap (λ l. peer.got ++ l) (sym r.3), numbered);
           },
         ) in
         let s = settled_so v peer own' line' found.few ends' (omega arith, omega arith, λ q. q) found.told in
@@ -190,24 +190,24 @@ module _ (table : TableId) (v : Part) (peer : Account) (line line' : Lined) (fou
         let far = ⊎_elim (λ e. inl (full e)) (λ e. inr (ap (λ (c : Counts). c.put) (sym was.0.counts) ∙ e)) p.put.2 in
         ((kept same).0, λ e at. ((subst IsSome (sym (next_at e at _ refl)) p.put.0, unshut.0, unshut.1, far), (more e).0, (more e).1))
 
-  emptied : waiting (end_of line k) ≡ [] → v.told.put ≤ length own.got
-  emptied e = let sent = ap length was.0.waits.0 in let none = ap length e in let told = found.told.0 in omega (arith, length-append own.got (waiting (end_of line k)))
+  emptied : waiting (line_end_of line k) ≡ [] → v.told.put ≤ length own.got
+  emptied e = let sent = ap length was.0.waits.0 in let none = ap length e in let told = found.told.0 in omega (arith, length-append own.got (waiting (line_end_of line k)))
 
   pub take_done : (r : Result Message Refused) → LineTakes line line' k r → OnErr r (line' ≡ line) → IfOk r (λ m. m.no ≤ MAX_MESSAGES)
       → IsSettled (holding v peer) line' × SeatDoes (line_view table v) seen (EndpointTakes r)
   take_done (Ok m) t _ few =
       let o = was.0 in
       let r = t.taken in
-      let own' : Account = record own { got = own.got ++ m ∷ []; state = (end_of line' k).state } in
+      let own' : LineAccount = record own { got = own.got ++ m ∷ []; state = (line_end_of line' k).state } in
       let longer : length (own.got ++ m ∷ []) ≡ suc (length own.got) = omega (arith, length_push own.got m) in
       let counts : counts_in own' ≡ one_taken (counts_in own) = λ i. record { put = length own.sent; taken = longer i; shut = own.shut } in
-      let split : peer.sent ≡ (own.got ++ m ∷ []) ++ waiting (end_of line' k) = o.waits.0 ∙ ap (λ l. own.got ++ l) r.2 ∙ sym (append_assoc own.got (m ∷ []) (waiting (end_of line' k))) in
+      let split : peer.sent ≡ (own.got ++ m ∷ []) ++ waiting (line_end_of line' k) = o.waits.0 ∙ ap (λ l. own.got ++ l) r.2 ∙ sym (append_assoc own.got (m ∷ []) (waiting (line_end_of line' k))) in
       let ends' : Ends k line' own' peer = (
         record { rows = t.rules.0 ∙ o.rows; depth = t.rules.1 ∙ o.depth; state = refl; counts = r.1 ∙ ap one_taken o.counts ∙ sym counts; waits = (split, o.waits.1) },
         peer_same t.rules.0 t.rules.1 t.peer own' refl,
       ) in
       let s = settled_so v peer own' line' found.few ends' (omega arith, omega arith, λ q. q) found.told in
-      let numbered = numbers_before number 0 (own.got ++ m ∷ []) (waiting (end_of line' k)) (subst (AreNumberedFrom number 0) split o.waits.1) in
+      let numbered = numbers_before message_number 0 (own.got ++ m ∷ []) (waiting (line_end_of line' k)) (subst (AreNumberedFrom message_number 0) split o.waits.1) in
       let so : SeatDoes (line_view table v) (record (line_view table (record v { own = own' })) { peer_shut = saw }) (EndpointTakes (Ok m)) =
       λ e at. (
         r.0 ∙ ap (λ (c : Counts). suc c.taken) o.counts,
@@ -226,7 +226,7 @@ module _ (table : TableId) (v : Part) (peer : Account) (line line' : Lined) (fou
   pub shut_done : LineShuts line line' k → IsSettled (holding v peer) line' × SeatDoes (line_view table v) seen EndpointShuts
   shut_done t =
       let o = was.0 in
-      let own' : Account = record own { shut = true } in
+      let own' : LineAccount = record own { shut = true } in
       let ends' : Ends k line' own' peer = (
         record {
           rows = t.rules.0 ∙ o.rows;
@@ -251,18 +251,18 @@ line_of line [] = line
 line_of line (x ∷ xs) = unwrap_or x.1 line
 
 -- what was done to what lies in the slot was done to the line that the seat found
-module _ (v : Part) (peer : Account) (line : Lined) (me : Me (Option Lined) Part) (held : me ≡ (holding v peer, (0, Some line) ∷ [])) where
+module _ (v : LinePart) (peer : LineAccount) (line : Lined) (me : Me (Option Lined) LinePart) (held : me ≡ (holding v peer, (0, Some line) ∷ [])) where
   pub done_here : (side : ℕ) (slot : Option Lined) (line1 line2 : Lined) (P : Lined → Lined → ℕ → Type 0) → v.side ≡ side → me.1 ≡ (0, slot) ∷ rest me.1 → slot ≡ Some line1 → P line1 line2 side
       → P line line2 v.side
   done_here side slot line1 line2 P is front some p =
-      let same : line1 ≡ line = ap (λ (x : Option Lined). unwrap_or x line1) (sym some) ∙ ap (line_of line1) (sym front) ∙ ap (λ (m : Me (Option Lined) Part). line_of line1 m.1) held in
+      let same : line1 ≡ line = ap (λ (x : Option Lined). unwrap_or x line1) (sym some) ∙ ap (line_of line1) (sym front) ∙ ap (λ (m : Me (Option Lined) LinePart). line_of line1 m.1) held in
       subst (λ (x : Lined × ℕ). P x.0 line2 x.1) (λ j. (same j, sym is j)) p
 
-  pub still_held : (line2 : Lined) → ◌≡◌ {A = Me (Option Lined) Part} (me.0, (0, Some line2) ∷ rest me.1) (holding v peer, (0, Some line2) ∷ [])
-  still_held line2 = ap (λ (m : Me (Option Lined) Part). (m.0, (0, Some line2) ∷ rest m.1)) held
+  pub still_held : (line2 : Lined) → ◌≡◌ {A = Me (Option Lined) LinePart} (me.0, (0, Some line2) ∷ rest me.1) (holding v peer, (0, Some line2) ∷ [])
+  still_held line2 = ap (λ (m : Me (Option Lined) LinePart). (m.0, (0, Some line2) ∷ rest m.1)) held
 
 -- the seat that gave the line back
-pub view_after : (table : TableId) (v : Part) (peer : Account) (line : Lined) (before after : Me (Option Lined) Part) → before ≡ (holding v peer, (0, Some line) ∷ [])
-    → after ≡ (settled before.0 before.1, [])
+pub view_after : (table : TableId) (v : LinePart) (peer : LineAccount) (line : Lined) (before after : Me (Option Lined) LinePart) → before ≡ (holding v peer, (0, Some line) ∷ [])
+    → after ≡ (settled_part before.0 before.1, [])
     → line_view table after.0 ≡ line_view table (settled_by (holding v peer) (Some line))
-view_after table v peer line before after held gone = ap (λ m. line_view table m.0) gone ∙ ap (λ m. line_view table (settled m.0 m.1)) held
+view_after table v peer line before after held gone = ap (λ m. line_view table m.0) gone ∙ ap (λ m. line_view table (settled_part m.0 m.1)) held

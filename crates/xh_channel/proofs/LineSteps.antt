@@ -1,26 +1,26 @@
 -- Each step on a line's word keeps the rule.
-use Rattle.xh_channel.proofs.Common.{Account, Allows, Counts, Grows, IsEndBy, IsSettled, LiesFor, LineEnd, Lined, List, Me, None, Option, Part, Some, [], ap}
+use Rattle.xh_channel.proofs.Common.{LineAccount, Allows, Counts, Grows, IsEndBy, IsSettled, LiesFor, LineEnd, Lined, List, Me, None, Option, LinePart, Some, [], ap}
 use Rattle.xh_channel.proofs.Common.{arith, carried_after, either, eq-eqb, eqb, eqb-true, exchanged, false, get_elem?, gives, holding, inl, inr, keeps, ne_eqb}
 use Rattle.xh_channel.proofs.Common.{no_counts, none, or_cases, put_back, refl, set, slice_index, some, step, subst, suc, sym, takes, true, true≢false, waiting, zero, ℕ, ⊎_elim}
 use Rattle.xh_channel.proofs.Common.{◌||◌, ◌∙◌, ◌∷◌, ◌≡◌, ◌≢◌, ◌⊎◌}
 use mathlib.Core.Option as maybe
-use Rattle.xh_channel.specs.inner.LineRule.{Compared, IsTrueOf, IsHome, IsOut, IsTaken, IsTold, Kept, Lies, Locked, Owns, Settled, Truth, by, counts_in, no_account, no_part, own_by, peer_by, settled}
+use Rattle.xh_channel.specs.inner.LineRule.{Compared, IsTrueOf, IsHome, IsOut, WasTaken, IsTold, IsKeptLine, Lies, Locked, OwnsSide, Settled, Truth, by, counts_in, no_account, no_part, own_by, peer_by, settled_part}
 use Rattle.xh_channel.proofs.Views.{every_set}
 use Rattle.std.proofs.Common.{length}
 use Rattle.std.proofs.Common.{replicate}
 use Rattle.atomic_table.specs.Table.{Splits, Joins, opening}
 use Rattle.atomic_table.proofs.Lists.{at_set}
-use Rattle.xh_channel.specs.inner.LineRule.{both_sides, low_side, high_side, joined}
+use Rattle.xh_channel.specs.inner.LineRule.{both_sides, low_side, high_side, joined_sides}
 use Rattle.xh_channel.proofs.Views.{every_two, every_snoc, one_view}
 
 abbrev S : Type 0
 S = Option Lined
 
 abbrev M : Type 0
-M = Me S Part
+M = Me S LinePart
 
 -- by a side's own account and its peer's, each side has its own
-lies_turned : (k : ℕ) (line : S) (low high : Account) → Lies line low high → LiesFor k line (by k low high) (by k high low)
+lies_turned : (k : ℕ) (line : S) (low high : LineAccount) → Lies line low high → LiesFor k line (by k low high) (by k high low)
 lies_turned zero line low high l = l
 lies_turned (suc k) line low high l = l
 
@@ -43,20 +43,20 @@ no_holder : (j : ℕ) → eqb 0 (suc j) ≡ false
 no_holder j = ne_eqb 0 (suc j) (λ e. omega arith)
 
 pub locks : (slots id : ℕ) (me : M) (f : ℕ → ℕ) (a b : ℕ) → ((n : ℕ) → f n ≢ 0) → me.0.owns ≡ true
-    → Allows Kept slots id me 0 f (Locked (step slots 0 a b none) me)
+    → Allows IsKeptLine slots id me 0 f (Locked (step slots 0 a b none) me)
 locks slots id me f a b out owns s h long at small =
-    let v : Part = me.0 in
+    let v : LinePart = me.0 in
     let t : Truth = h.0 in
-    let o : Owns t id v = (h.2 id v at).0 owns in
+    let o : OwnsSide t id v = (h.2 id v at).0 owns in
     let next : ℕ = f (slice_index s.words 0) in
     let m = predecessor next (out (slice_index s.words 0)) in
     ⊎_elim
     (λ (home : IsHome t s.words s.homes).
     let others : List ℕ = home.0 in let line : S = home.1 in let words = home.2 in let homes = home.3 in let free = home.4 in
-    let peer : Account = by v.side t.high t.low in
-    let w : Part = holding v peer in
+    let peer : LineAccount = by v.side t.high t.low in
+    let w : LinePart = holding v peer in
     let t' : Truth = held_by t (suc id) in
-    let none_holds : (j : ℕ) (u : Part) → Owns t j u → u.holds ≡ false = λ j u x. x.holds ∙ ap (λ n. eqb n (suc j)) free ∙ no_holder j in (
+    let none_holds : (j : ℕ) (u : LinePart) → OwnsSide t j u → u.holds ≡ false = λ j u x. x.holds ∙ ap (λ n. eqb n (suc j)) free ∙ no_holder j in (
       w,
       takes 0 line,
       ap (λ l. get_elem? l 0) homes,
@@ -94,29 +94,29 @@ locks slots id me f a b out owns s h long at small =
     ))
     h.1
 
-told_more : (c : Counts) (a b : Account) → Grows a b → IsTold c a → IsTold c b
+told_more : (c : Counts) (a b : LineAccount) → Grows a b → IsTold c a → IsTold c b
 told_more c a b g t = let put = t.0 in let taken = t.1 in let p = g.0 in let q = g.1 in (omega arith, omega arith, λ e. g.2 (t.2 e))
 
 -- the accounts of a side and of its peer, by side
-own_back : (k : ℕ) (own peer : Account) → by k (by k own peer) (by k peer own) ≡ own
+own_back : (k : ℕ) (own peer : LineAccount) → by k (by k own peer) (by k peer own) ≡ own
 own_back zero own peer = refl
 own_back (suc k) own peer = refl
 
-peer_back : (k : ℕ) (own peer : Account) → by k (by k peer own) (by k own peer) ≡ peer
+peer_back : (k : ℕ) (own peer : LineAccount) → by k (by k peer own) (by k own peer) ≡ peer
 peer_back zero own peer = refl
 peer_back (suc k) own peer = refl
 
 -- each side goes on, where a side and its peer do
-both_grow : (k : ℕ) (low high own peer : Account) → Grows (by k low high) own → Grows (by k high low) peer → Grows low (by k own peer) × Grows high (by k peer own)
+both_grow : (k : ℕ) (low high own peer : LineAccount) → Grows (by k low high) own → Grows (by k high low) peer → Grows low (by k own peer) × Grows high (by k peer own)
 both_grow zero low high own peer a b = (a, b)
 both_grow (suc k) low high own peer a b = (b, a)
 
-told_by_side : (k : ℕ) (c : Counts) (low high low' high' : Account) → Grows low low' → Grows high high' → IsTold c (by k low high) → IsTold c (by k low' high')
+told_by_side : (k : ℕ) (c : Counts) (low high low' high' : LineAccount) → Grows low low' → Grows high high' → IsTold c (by k low high) → IsTold c (by k low' high')
 told_by_side zero c low high low' high' a b t = told_more c low low' a t
 told_by_side (suc k) c low high low' high' a b t = told_more c high high' b t
 
 -- a seat of a side has another account than the seat of the other side: that of the other stays, where its peer's does, or where one seat has both
-elsewhere : (k j low high : ℕ) (a b own peer : Account) → by j low high ≢ by k low high → (peer ≡ by k b a) ⊎ (by k high low ≡ by k low high) → by j (by k own peer) (by k peer own) ≡ by j a b
+elsewhere : (k j low high : ℕ) (a b own peer : LineAccount) → by j low high ≢ by k low high → (peer ≡ by k b a) ⊎ (by k high low ≡ by k low high) → by j (by k own peer) (by k peer own) ≡ by j a b
 elsewhere zero zero low high a b own peer n p = absurd (n refl)
 elsewhere (suc k) (suc j) low high a b own peer n p = absurd (n refl)
 elsewhere zero (suc j) low high a b own peer n p = ⊎_elim (λ e. e) (λ e. absurd (n e)) p
@@ -130,24 +130,24 @@ one_seat (suc k) (suc j) low high id p q = p
 
 -- the line goes back as it is now, by the seat that holds it, which has seen whether its peer is shut: its own account goes on, its peer's stays or is its own as well
 pub settles : (slots id : ℕ) (me : M) (line : Lined) → me.1 ≡ (0, Some line) ∷ [] → me.0.owns ≡ true → me.0.holds ≡ true → IsSettled me.0 line
-    → Allows Kept slots id me 0 (λ _. 0) (Settled (step slots 0 0 0 none) me)
+    → Allows IsKeptLine slots id me 0 (λ _. 0) (Settled (step slots 0 0 0 none) me)
 settles slots id me line front owns holds is s h long at small =
-    let v : Part = me.0 in
-    let own : Account = own_by v line in
-    let peer : Account = peer_by v line in
+    let v : LinePart = me.0 in
+    let own : LineAccount = own_by v line in
+    let peer : LineAccount = peer_by v line in
     let told : Counts = record v.told { shut = v.told.shut || v.peer.shut } in
     let is_told : IsTold told peer = (is.3.0, is.3.1, λ e. ⊎_elim is.3.2 (λ p. p) (or_cases v.told.shut v.peer.shut e)) in
     let k : ℕ = v.side in
     let t : Truth = h.0 in
     let mine = h.2 id v at in
-    let o : Owns t id v = mine.0 owns in
+    let o : OwnsSide t id v = mine.0 owns in
     let holder : t.holder ≡ suc id = eqb-true t.holder (suc id) (sym o.holds ∙ holds) in
     let others : (ws : List ℕ) × (n : ℕ) × (s.words ≡ n ∷ ws) = ⊎_elim (λ (x : IsHome t s.words s.homes). (x.0, 0, x.2)) (λ (x : IsOut t s.words s.homes). (x.1, suc x.0, x.3)) h.1 in
     let slot : (x : maybe.Option S) × (s.homes ≡ x ∷ []) = ⊎_elim (λ (x : IsHome t s.words s.homes). (some x.1, x.3)) (λ (x : IsOut t s.words s.homes). (none, x.4)) h.1 in
-    let low : Account = by k own peer in
-    let high : Account = by k peer own in
+    let low : LineAccount = by k own peer in
+    let high : LineAccount = by k peer own in
     let t' : Truth = record { low_seat = t.low_seat; high_seat = t.high_seat; holder = 0; low = low; high = high } in
-    let w : Part = record v { holds = false; own = own; peer = peer; told = told } in
+    let w : LinePart = record v { holds = false; own = own; peer = peer; told = told } in
     let grow : Grows t.low low
     × Grows t.high high = both_grow k t.low t.high own peer (subst (λ a. Grows a own) (sym o.own) is.1) (subst (λ a. Grows a peer) (sym (o.knows holds)) (omega arith, omega arith, λ p. p)) in
     let same : (peer ≡ by k t.high t.low) ⊎ (by k t.high_seat t.low_seat ≡ by k t.low_seat t.high_seat) =
@@ -164,7 +164,7 @@ settles slots id me line front owns holds is s h long at small =
           told_by_side k v.peer_told t.low t.high low high grow.0 grow.1 mine.2,
         )
             (λ j u other e. let f = h.2 j u e in (
-              (λ p. let x : Owns t j u = f.0 p in let apart : by u.side t.low_seat t.high_seat ≢ by k t.low_seat t.high_seat = λ q. other (sym x.seat ∙ q ∙ o.seat) in
+              (λ p. let x : OwnsSide t j u = f.0 p in let apart : by u.side t.low_seat t.high_seat ≢ by k t.low_seat t.high_seat = λ q. other (sym x.seat ∙ q ∙ o.seat) in
                   let idle : u.holds ≡ false = x.holds ∙ ap (λ n. eqb n (suc j)) holder ∙ not_holder id j other in record {
                     seat = x.seat;
                     own = elsewhere k u.side t.low_seat t.high_seat t.low t.high own peer apart same ∙ x.own;
@@ -176,51 +176,51 @@ settles slots id me line front owns holds is s h long at small =
               told_by_side u.side u.peer_told t.low t.high low high grow.0 grow.1 f.2,
             )),
       ),
-      ap (λ l. (w, carried_after l gives)) front ∙ ap (λ l. (settled v l, [])) (sym front),
+      ap (λ l. (w, carried_after l gives)) front ∙ ap (λ l. (settled_part v l, [])) (sym front),
     )
 
-holds_it : (t : Truth) (id : ℕ) (v : Part) → Owns t id v → t.holder ≡ suc id → v.holds ≡ true
+holds_it : (t : Truth) (id : ℕ) (v : LinePart) → OwnsSide t id v → t.holder ≡ suc id → v.holds ≡ true
 holds_it t id v o e = o.holds ∙ ap (λ n. eqb n (suc id)) e ∙ eq-eqb (suc id) (suc id) refl
 
-nothing_told : (a : Account) → IsTold no_counts a
+nothing_told : (a : LineAccount) → IsTold no_counts a
 nothing_told a = (omega arith, omega arith, λ p. absurd (true≢false (sym p)))
 
-all_told : (a : Account) → IsTold (counts_in a) a
+all_told : (a : LineAccount) → IsTold (counts_in a) a
 all_told a = (omega arith, omega arith, λ p. p)
 
 no_fits : (t : Truth) (id : ℕ) → IsTrueOf t id no_part
 no_fits t id = ((λ p. absurd (true≢false (sym p))), nothing_told t.high, nothing_told t.low)
 
 -- where one seat has both accounts and doesn't hold the line, that is at home
-at_home : (t : Truth) (id : ℕ) (v : Part) (words : List ℕ) (homes : List (maybe.Option S)) → IsHome t words homes ⊎ IsOut t words homes → Owns t id v → v.both ≡ true → v.holds ≡ false
+at_home : (t : Truth) (id : ℕ) (v : LinePart) (words : List ℕ) (homes : List (maybe.Option S)) → IsHome t words homes ⊎ IsOut t words homes → OwnsSide t id v → v.both ≡ true → v.holds ≡ false
     → IsHome t words homes
 at_home t id v words homes is o both idle = ⊎_elim (λ x. x)
     (λ (x : IsOut t words homes). absurd (true≢false (sym (holds_it t id v o (x.5 ∙ ap suc (one_seat x.2 v.side t.low_seat t.high_seat id o.seat (o.both both).0))) ∙ idle))) is
 
-end_taken : (line : Lined) (end : LineEnd) (own peer : Account) → IsEndBy line end own peer → IsTaken peer own
+end_taken : (line : Lined) (end : LineEnd) (own peer : LineAccount) → IsEndBy line end own peer → WasTaken peer own
 end_taken line end own peer is = (waiting end, is.waits)
 
-nothing_taken : IsTaken no_account no_account
+nothing_taken : WasTaken no_account no_account
 nothing_taken = ([], (refl, tt))
 
-all_taken : (line : S) (low high : Account) → Lies line low high → IsTaken low high × IsTaken high low
-all_taken None low high l = subst (λ (x : Account × Account). IsTaken x.0 x.1 × IsTaken x.1 x.0) (λ i. (sym l.0 i, sym l.1 i)) (nothing_taken, nothing_taken)
+all_taken : (line : S) (low high : LineAccount) → Lies line low high → WasTaken low high × WasTaken high low
+all_taken None low high l = subst (λ (x : LineAccount × LineAccount). WasTaken x.0 x.1 × WasTaken x.1 x.0) (λ i. (sym l.0 i, sym l.1 i)) (nothing_taken, nothing_taken)
 all_taken (Some line) low high l = (end_taken line line.right high low l.1, end_taken line line.left low high l.0)
 
-taken_by : (k : ℕ) (low high : Account) → IsTaken low high × IsTaken high low → IsTaken (by k low high) (by k high low) × IsTaken (by k high low) (by k low high)
+taken_by : (k : ℕ) (low high : LineAccount) → WasTaken low high × WasTaken high low → WasTaken (by k low high) (by k high low) × WasTaken (by k high low) (by k low high)
 taken_by zero low high t = t
 taken_by (suc k) low high t = (t.1, t.0)
 
-pub compares : (slots id : ℕ) (me : M) → me.0.owns ≡ true → me.0.both ≡ true → me.0.holds ≡ false → Allows Kept slots id me 0 (λ n. n) (Compared (step slots 0 0 0 none) me)
+pub compares : (slots id : ℕ) (me : M) → me.0.owns ≡ true → me.0.both ≡ true → me.0.holds ≡ false → Allows IsKeptLine slots id me 0 (λ n. n) (Compared (step slots 0 0 0 none) me)
 compares slots id me owns both idle s h long at small =
-    let v : Part = me.0 in
+    let v : LinePart = me.0 in
     let t : Truth = h.0 in
     let mine = h.2 id v at in
-    let o : Owns t id v = mine.0 owns in
+    let o : OwnsSide t id v = mine.0 owns in
     let peer = (o.both both).1 in
     let home : IsHome t s.words s.homes = at_home t id v s.words s.homes h.1 o both idle in
     let taken = taken_by v.side t.low t.high (all_taken home.1 t.low t.high home.5) in
-    let w : Part = record v { told = counts_in v.peer; peer_told = counts_in v.own } in (
+    let w : LinePart = record v { told = counts_in v.peer; peer_told = counts_in v.own } in (
       w,
       keeps,
       tt,
@@ -238,20 +238,20 @@ compares slots id me owns both idle s h long at small =
         refl,
         subst (IsTold v.told) peer mine.1,
         subst (IsTold v.peer_told) o.own mine.2,
-        subst (λ (x : Account × Account). IsTaken x.0 x.1) (λ i. (o.own i, peer i)) taken.0,
-        subst (λ (x : Account × Account). IsTaken x.0 x.1) (λ i. (peer i, o.own i)) taken.1,
+        subst (λ (x : LineAccount × LineAccount). WasTaken x.0 x.1) (λ i. (o.own i, peer i)) taken.0,
+        subst (λ (x : LineAccount × LineAccount). WasTaken x.0 x.1) (λ i. (peer i, o.own i)) taken.1,
       ),
     )
 
-pub sides : (id : ℕ) (v : Part) → v.side ≡ 0 → v.owns ≡ true → v.both ≡ true → v.holds ≡ false → Splits Kept id v (low_side v) (high_side v)
+pub sides : (id : ℕ) (v : LinePart) → v.side ≡ 0 → v.owns ≡ true → v.both ≡ true → v.holds ≡ false → Splits IsKeptLine id v (low_side v) (high_side v)
 sides id v side owns both idle s h at =
     let t : Truth = h.0 in
     let mine = h.2 id v at in
-    let o : Owns t id v = mine.0 owns in
+    let o : OwnsSide t id v = mine.0 owns in
     let home : IsHome t s.words s.homes = at_home t id v s.words s.homes h.1 o both idle in
-    let low : Part = low_side v in
-    let high : Part = high_side v in
-    let vs : List Part = set s.views id low in
+    let low : LinePart = low_side v in
+    let high : LinePart = high_side v in
+    let vs : List LinePart = set s.views id low in
     let new : ℕ = length vs in
     let t' : Truth = record t { high_seat = new } in
     let low_seat : t.low_seat ≡ id = subst (λ (n : ℕ). by n t.low_seat t.high_seat ≡ id) side o.seat in (
@@ -287,16 +287,16 @@ seats_are : (k low high a b : ℕ) → low ≡ a → high ≡ b → (by k low hi
 seats_are zero low high a b p q = inl p
 seats_are (suc k) low high a b p q = inr q
 
-pub joins : (id : ℕ) (v : Part) (other : ℕ) (w : Part) → v.side ≡ 0 → w.side ≡ 1 → v.owns ≡ true → w.owns ≡ true → v.holds ≡ false → w.holds ≡ false
-    → Joins Kept id v other w (joined v w) no_part
+pub joins : (id : ℕ) (v : LinePart) (other : ℕ) (w : LinePart) → v.side ≡ 0 → w.side ≡ 1 → v.owns ≡ true → w.owns ≡ true → v.holds ≡ false → w.holds ≡ false
+    → Joins IsKeptLine id v other w (joined_sides v w) no_part
 joins id v other w side side' owns owns' idle idle' s h at two at' =
     let t : Truth = h.0 in
-    let both : Part = joined v w in
+    let both : LinePart = joined_sides v w in
     let was : get_elem? s.views other ≡ some w = ⊎_elim (λ x. absurd (two x.0)) (λ x. x.1) (at_set s.views id other both w at') in
     let mine = h.2 id v at in
     let theirs = h.2 other w was in
-    let o : Owns t id v = mine.0 owns in
-    let x : Owns t other w = theirs.0 owns' in
+    let o : OwnsSide t id v = mine.0 owns in
+    let x : OwnsSide t other w = theirs.0 owns' in
     let low_seat : t.low_seat ≡ id = subst (λ (n : ℕ). by n t.low_seat t.high_seat ≡ id) side o.seat in
     let high_seat : t.high_seat ≡ other = subst (λ (n : ℕ). by n t.low_seat t.high_seat ≡ other) side' x.seat in
     let home : IsHome t s.words s.homes = ⊎_elim (λ y. y)
@@ -327,7 +327,7 @@ joins id v other w side side' owns owns' idle idle' s h at two at' =
           )),
     )
 
-pub begins : Kept (opening (replicate 16 0) (replicate 1 None) both_sides)
+pub begins : IsKeptLine (opening (replicate 16 0) (replicate 1 None) both_sides)
 begins =
     let t : Truth = record { low_seat = 0; high_seat = 0; holder = 0; low = no_account; high = no_account } in (
       t,

@@ -11,7 +11,7 @@ use Rattle.xh_channel.specs.declared.refused.Refused.TheVariants as refused
 use Rattle.xh_channel.specs.declared.unsent.Unsent.{Unsent}
 use Rattle.xh_channel.specs.declared.unsent.Unsent.TheVariants.{Protocol, PeerClosed, Full}
 use Rattle.xh_channel.specs.Endpoint.{EndpointOf}
-use Rattle.xh_channel.specs.Directions.{number}
+use Rattle.xh_channel.specs.Directions.{message_number}
 
 -- the state after a message with this tag by this side; without a contract the state stays
 abbrev pub next_state : Option (List Row) → ℕ → ℕ → ℕ → Option ℕ
@@ -42,7 +42,7 @@ abbrev pub EndpointPuts : ℕ → ArrayVec ℕ → Result ℕ Unsent → Endpoin
 EndpointPuts tag blocks result old new =
     let m : ℕ → Message = λ n. record { no = n; tag = tag; blocks = blocks } in
     MatchResult result (λ n. (n ≡ suc (length old.sent)) × (old.peer_shut ≡ false) × (new ≡ record old { sent = old.sent ++ m n ∷ []; pushed = old.pushed ++ m n ∷ []; state = new.state })
-    × AreNumberedFrom number 0 new.sent × (next_state old.contract old.state tag old.spot.side ≡ Some new.state))
+    × AreNumberedFrom message_number 0 new.sent × (next_state old.contract old.state tag old.spot.side ≡ Some new.state))
     (λ u. Unput old new tag u × OnlySaw (record old { pushed = new.pushed }) new
     × ((new.pushed ≡ old.pushed) ⊎ ((new.pushed ≡ old.pushed ++ m (suc (length old.sent)) ∷ []) × (new.peer_shut ≡ true))))
 
@@ -57,7 +57,7 @@ Untaken old new _ = ⊥
 -- A take. The message comes after what was taken, which is numbered, and the contract moved the state; with a contract its number is at most 2^62 - 1. Or why not.
 abbrev pub EndpointTakes : Result Message Refused → EndpointOf → EndpointOf → Type 0
 EndpointTakes result old new = MatchResult result
-    (λ m. (m.no ≡ suc (length old.got)) × OnlySaw (record old { got = old.got ++ m ∷ []; state = new.state }) new × AreNumberedFrom number 0 new.got
+    (λ m. (m.no ≡ suc (length old.got)) × OnlySaw (record old { got = old.got ++ m ∷ []; state = new.state }) new × AreNumberedFrom message_number 0 new.got
     × (next_state old.contract old.state m.tag (1 - old.spot.side) ≡ Some new.state) × (is_some old.contract ≡ true → m.no ≤ MAX_MESSAGES))
     (λ refused. Untaken old new refused × OnlySaw old new)
 

@@ -13,7 +13,7 @@ use Rattle.xh_channel.specs.declared.refused.Refused.{Refused}
 use Rattle.xh_channel.specs.declared.refused.Refused.TheVariants as refused
 use Rattle.xh_channel.specs.declared.unsent.Unsent.{Unsent}
 use Rattle.xh_channel.specs.declared.unsent.Unsent.TheVariants.{Protocol, PeerClosed, Full}
-use Rattle.xh_channel.specs.Directions.{number}
+use Rattle.xh_channel.specs.Directions.{message_number}
 
 abbrev pub no_counts : Counts
 no_counts = record { put = 0; taken = 0; shut = false }
@@ -37,7 +37,7 @@ tags end = map (λ (m : Message). m.tag) (waiting end)
 
 -- what an end put is what its peer took and then what waits for the peer, numbered on
 abbrev pub Follows : LineEnd → LineEnd → Type 0
-Follows own peer = (own.counts.put ≡ peer.counts.taken + length (waiting peer)) × AreNumberedFrom number peer.counts.taken (waiting peer)
+Follows own peer = (own.counts.put ≡ peer.counts.taken + length (waiting peer)) × AreNumberedFrom message_number peer.counts.taken (waiting peer)
 
 -- why a put by `own` toward `peer` was refused: the state doesn't allow the message, the peer is shut,
 -- or as many wait as the depth or the direction has carried its last message
@@ -67,8 +67,8 @@ TakesBetween rows side own own' peer result = MatchResult result
     (UntakenBetween own peer)
 
 -- both ends go by the contract together
-abbrev pub AreInStep : List Row → ℕ → LineEnd → LineEnd → Type 0
-AreInStep rows side own peer = InStep rows side own.state (tags own) peer.state (tags peer)
+abbrev pub EndsAreInStep : List Row → ℕ → LineEnd → LineEnd → Type 0
+EndsAreInStep rows side own peer = InStep rows side own.state (tags own) peer.state (tags peer)
 
 -- the ends are in step, each direction is in order, and no more messages wait than the depth
 pub record IsLine (rows : List Row) (depth : ℕ) (left right : LineEnd) : Type 0 where
@@ -81,7 +81,7 @@ pub record IsLine (rows : List Row) (depth : ℕ) (left right : LineEnd) : Type 
   pub to_right : Follows left right
   pub to_left : Follows right left
   pub valid : IsValid rows
-  pub step : AreInStep rows 0 left right
+  pub step : EndsAreInStep rows 0 left right
 
 -- the contract, the depth, the end of side 0 and the end of side 1
 pub record Lined : Type 0 where
@@ -91,9 +91,9 @@ pub record Lined : Type 0 where
   pub right : LineEnd
 
 -- the end of a side
-abbrev pub end_of : Lined → ℕ → LineEnd
-end_of line zero = line.left
-end_of line (suc _) = line.right
+abbrev pub line_end_of : Lined → ℕ → LineEnd
+line_end_of line zero = line.left
+line_end_of line (suc _) = line.right
 
 -- an end in the first state, which has carried nothing
 abbrev pub IsFresh : List Row → LineEnd → Type 0
@@ -107,26 +107,26 @@ SameRules old new = (new.rows ≡ old.rows) × (new.depth ≡ old.depth)
 
 -- a put by a side, which leaves what waits for it, and of its peer the state and the counts
 pub record LinePuts (old new : Lined) (side tag : ℕ) (blocks : ArrayVec ℕ) (result : Result ℕ Unsent) : Type 0 where
-  pub put : PutsBetween old.rows old.depth side (end_of old side) (end_of new side) (end_of old (1 - side)) (end_of new (1 - side)) tag blocks result
+  pub put : PutsBetween old.rows old.depth side (line_end_of old side) (line_end_of new side) (line_end_of old (1 - side)) (line_end_of new (1 - side)) tag blocks result
   pub rules : SameRules old new
-  pub waits : waiting (end_of new side) ≡ waiting (end_of old side)
-  pub counts : (end_of new (1 - side)).counts ≡ (end_of old (1 - side)).counts
-  pub state : (end_of new (1 - side)).state ≡ (end_of old (1 - side)).state
+  pub waits : waiting (line_end_of new side) ≡ waiting (line_end_of old side)
+  pub counts : (line_end_of new (1 - side)).counts ≡ (line_end_of old (1 - side)).counts
+  pub state : (line_end_of new (1 - side)).state ≡ (line_end_of old (1 - side)).state
 
 -- a take by a side, which leaves its peer
 pub record LineTakes (old new : Lined) (side : ℕ) (result : Result Message Refused) : Type 0 where
-  pub taken : TakesBetween old.rows side (end_of old side) (end_of new side) (end_of old (1 - side)) result
+  pub taken : TakesBetween old.rows side (line_end_of old side) (line_end_of new side) (line_end_of old (1 - side)) result
   pub rules : SameRules old new
-  pub peer : end_of new (1 - side) ≡ end_of old (1 - side)
+  pub peer : line_end_of new (1 - side) ≡ line_end_of old (1 - side)
 
 -- the side is marked as shut, and nothing else changes
 pub record LineShuts (old new : Lined) (side : ℕ) : Type 0 where
-  pub shut : (end_of new side).counts ≡ now_shut (end_of old side).counts
+  pub shut : (line_end_of new side).counts ≡ now_shut (line_end_of old side).counts
   pub rules : SameRules old new
-  pub waits : waiting (end_of new side) ≡ waiting (end_of old side)
-  pub state : (end_of new side).state ≡ (end_of old side).state
-  pub peer : end_of new (1 - side) ≡ end_of old (1 - side)
+  pub waits : waiting (line_end_of new side) ≡ waiting (line_end_of old side)
+  pub state : (line_end_of new side).state ≡ (line_end_of old side).state
+  pub peer : line_end_of new (1 - side) ≡ line_end_of old (1 - side)
 
 -- each front message is one that its receiving end allows, and messages wait in one direction at most
-abbrev pub IsOrderly : Lined → Type 0
-IsOrderly line = AreOrderly line.rows line.left.state (tags line.left) line.right.state (tags line.right)
+abbrev pub IsLineOrderly : Lined → Type 0
+IsLineOrderly line = AreOrderly line.rows line.left.state (tags line.left) line.right.state (tags line.right)

@@ -4,7 +4,7 @@ use Rattle.atomic_table.specs.Seated.{TableId}
 use Rattle.xh_model.specs.Direction.{AreNumberedFrom}
 use Rattle.xh_channel.specs.declared.message.Message.{Message}
 use Rattle.xh_channel.specs.declared.queue_rule.Role.{Role}
-use Rattle.xh_channel.specs.Directions.{role, number}
+use Rattle.xh_channel.specs.Directions.{role, message_number}
 
 -- its queue, the depth, and its role: whether it pushes or pops, what it pushed or popped, and how many messages it was told that the other end sent and took
 pub record QueueView : Type 0 where
@@ -14,7 +14,7 @@ pub record QueueView : Type 0 where
 
 -- what it pushed and what it popped is numbered, and nothing where it doesn't push or pop
 abbrev pub IsRole : Role → Type 0
-IsRole v = AreNumberedFrom number 0 v.sent × AreNumberedFrom number 0 v.got × (v.pushes ≡ false → v.sent ≡ []) × (v.pops ≡ false → v.got ≡ [])
+IsRole v = AreNumberedFrom message_number 0 v.sent × AreNumberedFrom message_number 0 v.got × (v.pushes ≡ false → v.sent ≡ []) × (v.pops ≡ false → v.got ≡ [])
 
 abbrev pub sending : QueueView → Message → QueueView
 sending e m = record e { role = record e.role { sent = e.role.sent ++ m ∷ [] } }

@@ -15,9 +15,9 @@ pub struct Shutting;
 impl TableRule<(), Sight, ()> for Shutting {
     ghost use Rattle.std.specs.Prelude.{false};
     ghost use Rattle.xh_model.specs.declared.limits.TheConstants.{DIRECTIONS};
-    ghost use Rattle.xh_channel.specs.inner.ClosedWords.{sight, Shows};
+    ghost use Rattle.xh_channel.specs.inner.ClosedWords.{sight, ShowsWords};
 
-    ghost holds = { λ _ s. Shows s };
+    ghost holds = { λ _ s. ShowsWords s };
 
     ghost first = { λ _. sight 0 DIRECTIONS false false };
 }
@@ -98,9 +98,9 @@ impl Play<(), Sight> for Shuts {
 }
 
 /// A load of the peer's word.
-pub struct Looks;
+pub struct LooksAtPeer;
 
-impl Play<(), Sight> for Looks {
+impl Play<(), Sight> for LooksAtPeer {
     ghost use Rattle.xh_channel.specs.inner.ClosedWords.{Looked};
 
     ghost then = { Looked };

@@ -1,10 +1,10 @@
 // An end's closed word.
 ghost use Rattle.std.specs.Prelude.{◌≡◌, ◌+◌, ◌*◌, ◌<◌, ◌||◌, true, false, IfOk};
 ghost use Rattle.xh_model.specs.declared.limits.TheConstants.{CHANNELS, DIRECTIONS};
-ghost use Rattle.xh_channel.specs.inner.ClosedWords.{own_shut, peer, peer_seen_shut};
+ghost use Rattle.xh_channel.specs.inner.ClosedWords.{own_shut, peer_word, peer_seen_shut};
 
 use crate::closed_rule::{
-    HearsSeen, HearsShut, Looks, OneWord, Shown, Shuts, Sight, TellsSeen, TellsShut, Words,
+    HearsSeen, HearsShut, LooksAtPeer, OneWord, Shown, Shuts, Sight, TellsSeen, TellsShut, Words,
 };
 use atomic_table::{Seat, Table};
 use std::alloc::{AllocError, Global};
@@ -138,7 +138,7 @@ impl ClosedWord {
     /// Tells the peer whether it was shut.
     #[tactic(auto, using(crate::proofs::ClosedSteps::tells_shut))]
     pub fn note(&mut self) -> ShutNote
-        ensures note { (result.table ≡ self.old.table) × (result.word ≡ peer self.old.word) × (result.shut ≡ self.old.shut) }
+        ensures note { (result.table ≡ self.old.table) × (result.word ≡ peer_word self.old.word) × (result.shut ≡ self.old.shut) }
         ensures same { self.new ≡ self.old }
     {
         let table = &self.words;
@@ -161,7 +161,7 @@ impl ClosedWord {
     /// Shows that where it saw its peer shut, or was told so, the peer was shut.
     #[tactic(auto, using(crate::proofs::ClosedSteps::tells_seen, crate::proofs::ClosedSteps::hears_seen))]
     pub fn agree(&mut self, other: &mut ClosedWord)
-        requires { (other.old.table ≡ self.old.table) × (other.old.word ≡ peer self.old.word) }
+        requires { (other.old.table ≡ self.old.table) × (other.old.word ≡ peer_word self.old.word) }
         ensures same { (self.new ≡ self.old) × (other.new ≡ other.old) }
         ensures shut { self.old.peer_shut ≡ true → other.old.shut ≡ true }
     {
@@ -178,6 +178,9 @@ impl ClosedWord {
     {
         let peer = self.word + 1 - 2 * (self.word % 2);
         let table = &self.words;
-        table.shared.load::<Looks>(&mut self.seat, peer as usize) == 1
+        table
+            .shared
+            .load::<LooksAtPeer>(&mut self.seat, peer as usize)
+            == 1
     }
 }

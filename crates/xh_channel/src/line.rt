@@ -2,7 +2,7 @@
 ghost use Rattle.std.specs.Prelude.{◌≡◌, ◌-◌, ◌<◌, ◌≤◌, length, IfOk, OnErr};
 ghost use Rattle.xh_model.specs.Rows.{IsValid};
 ghost use Rattle.xh_model.specs.declared.limits.TheConstants.{MAX_DEPTH, MAX_MESSAGES};
-ghost use Rattle.xh_channel.specs.Lines.{AreInStep, Follows, IsNewLine, IsOrderly, LinePuts, LineShuts, LineTakes, PutsBetween, TakesBetween, waiting};
+ghost use Rattle.xh_channel.specs.Lines.{EndsAreInStep, Follows, IsNewLine, IsLineOrderly, LinePuts, LineShuts, LineTakes, PutsBetween, TakesBetween, waiting};
 
 use crate::line_end::LineEnd;
 use crate::message::Message;
@@ -45,10 +45,10 @@ fn put_between(
     requires depth { (depth ≤ MAX_DEPTH) × (length (waiting peer.old) ≤ depth) }
     requires order { Follows own.old peer.old × (own.old.counts.put ≤ MAX_MESSAGES) }
     requires valid { IsValid contract.now }
-    requires step { AreInStep contract.now side own.old peer.old }
+    requires step { EndsAreInStep contract.now side own.old peer.old }
     ensures put { PutsBetween contract.now depth side own.old own.new peer.old peer.new tag blocks result }
     ensures order { Follows own.new peer.new × (own.new.counts.put ≤ MAX_MESSAGES) }
-    ensures step { AreInStep contract.now side own.new peer.new }
+    ensures step { EndsAreInStep contract.now side own.new peer.new }
     ensures depth { length (waiting peer.new) ≤ depth }
     ensures rest { (waiting own.new ≡ waiting own.old) × (peer.new.counts ≡ peer.old.counts) × (peer.new.state ≡ peer.old.state) }
     ensures refused { OnErr result ((peer.new ≡ peer.old) × (own.new ≡ own.old)) }
@@ -77,10 +77,10 @@ fn take_between(
 ) -> Result<Message, Refused>
     requires side { side < 2 }
     requires order { Follows peer.now own.old }
-    requires step { AreInStep contract.now side own.old peer.now }
+    requires step { EndsAreInStep contract.now side own.old peer.now }
     ensures taken { TakesBetween contract.now side own.old own.new peer.now result }
     ensures order { Follows peer.now own.new }
-    ensures step { AreInStep contract.now side own.new peer.now }
+    ensures step { EndsAreInStep contract.now side own.new peer.now }
     ensures depth { length (waiting own.new) ≤ length (waiting own.old) }
     ensures refused { OnErr result (own.new ≡ own.old) }
 {
@@ -129,7 +129,7 @@ impl Line {
         ensures put { LinePuts self.old self.new side tag blocks result }
         ensures last { IfOk result (λ no. no ≤ MAX_MESSAGES) }
         ensures refused { OnErr result (self.new ≡ self.old) }
-        ensures orderly { IsOrderly self.new }
+        ensures orderly { IsLineOrderly self.new }
     {
         let (contract, depth) = (&self.contract, self.depth);
         if side == 0 {
@@ -162,7 +162,7 @@ impl Line {
         ensures taken { LineTakes self.old self.new side result }
         ensures last { IfOk result (λ m. m.no ≤ MAX_MESSAGES) }
         ensures refused { OnErr result (self.new ≡ self.old) }
-        ensures orderly { IsOrderly self.new }
+        ensures orderly { IsLineOrderly self.new }
     {
         if side == 0 {
             take_between(&self.contract, 0, &mut self.left, &self.right)
@@ -175,7 +175,7 @@ impl Line {
     pub fn shut(&mut self, side: u8)
         requires { side < 2 }
         ensures shut { LineShuts self.old self.new side }
-        ensures orderly { IsOrderly self.new }
+        ensures orderly { IsLineOrderly self.new }
     {
         if side == 0 {
             self.left.counts.shut = true;

@@ -1,4 +1,4 @@
-// The line of a channel with a contract, in the one slot of a table. Its first word is the lock: 0 at home, 1 out, 2 out and waited for. No value of a `Part` is made.
+// The line of a channel with a contract, in the one slot of a table. Its first word is the lock: 0 at home, 1 out, 2 out and waited for. No value of a `LinePart` is made.
 use crate::counts::Counts;
 use crate::line::Line;
 use crate::message::Message;
@@ -8,7 +8,7 @@ use std::collections::LinkedList;
 use xh_model::Row;
 
 /// What a side did: the contract's rows and the depth that it goes by, its state, what it put and took, and whether it was shut.
-pub struct Account {
+pub struct LineAccount {
     pub rows: LinkedList<Row>,
     pub depth: u64,
     pub state: u64,
@@ -19,23 +19,23 @@ pub struct Account {
 
 /// What a seat knows. It owns the account of its side, or that of both sides, and knows its peer's while it holds the line.
 /// `told` and `peer_told` are no more than what the peer and its own side did.
-pub struct Part {
+pub struct LinePart {
     pub side: u64,
     pub owns: bool,
     pub both: bool,
     pub holds: bool,
-    pub own: Account,
-    pub peer: Account,
+    pub own: LineAccount,
+    pub peer: LineAccount,
     pub told: Counts,
     pub peer_told: Counts,
 }
 
 pub struct Keeping;
 
-impl TableRule<Option<Line>, Part, ()> for Keeping {
-    ghost use Rattle.xh_channel.specs.inner.LineRule.{Kept, both_sides};
+impl TableRule<Option<Line>, LinePart, ()> for Keeping {
+    ghost use Rattle.xh_channel.specs.inner.LineRule.{IsKeptLine, both_sides};
 
-    ghost holds = { λ _ s. Kept s };
+    ghost holds = { λ _ s. IsKeptLine s };
 
     ghost first = { λ _. both_sides };
 }
@@ -43,7 +43,7 @@ impl TableRule<Option<Line>, Part, ()> for Keeping {
 /// Takes the line, where it is at home.
 pub struct Locks;
 
-impl Play<Option<Line>, Part> for Locks {
+impl Play<Option<Line>, LinePart> for Locks {
     ghost use Rattle.xh_channel.specs.inner.LineRule.{Locked};
 
     ghost then = { Locked };
@@ -52,16 +52,16 @@ impl Play<Option<Line>, Part> for Locks {
 /// Gives the line back, the accounts are what it says now, and the seat has seen whether its peer is shut.
 pub struct Settles;
 
-impl Play<Option<Line>, Part> for Settles {
+impl Play<Option<Line>, LinePart> for Settles {
     ghost use Rattle.xh_channel.specs.inner.LineRule.{Settled};
 
     ghost then = { Settled };
 }
 
 /// The seat of both sides is told all that they did.
-pub struct Compares;
+pub struct ComparesLines;
 
-impl Play<Option<Line>, Part> for Compares {
+impl Play<Option<Line>, LinePart> for ComparesLines {
     ghost use Rattle.xh_channel.specs.inner.LineRule.{Compared};
 
     ghost then = { Compared };
@@ -70,7 +70,7 @@ impl Play<Option<Line>, Part> for Compares {
 /// The seat of both sides keeps side 0, and a new one has side 1.
 pub struct Sides;
 
-impl Split<Part> for Sides {
+impl Split<LinePart> for Sides {
     ghost use Rattle.xh_channel.specs.inner.LineRule.{low_side, high_side};
 
     ghost left = { low_side };
@@ -81,12 +81,12 @@ impl Split<Part> for Sides {
 /// The seat of side 0 has both sides.
 pub struct BothSides;
 
-impl Join<Part> for BothSides {
-    ghost use Rattle.xh_channel.specs.inner.LineRule.{joined, no_part};
+impl Join<LinePart> for BothSides {
+    ghost use Rattle.xh_channel.specs.inner.LineRule.{joined_sides, no_part};
 
-    ghost both = { joined };
+    ghost both = { joined_sides };
 
     ghost spent = { no_part };
 }
 
-pub type LineTable = Table<Option<Line>, Part, (), Keeping, Global>;
+pub type LineTable = Table<Option<Line>, LinePart, (), Keeping, Global>;

@@ -6,11 +6,11 @@ ghost use Rattle.xh_channel.specs.Calls.{EndpointPuts, EndpointShuts, EndpointTa
 ghost use Rattle.xh_channel.specs.Endpoint.{EndpointOf};
 ghost use Rattle.xh_channel.specs.LineSeats.{AreAcross, IsBegun, IsBlank, SeatDoes, begun, on_line, told_across};
 ghost use Rattle.std.specs.Arc.{arc_value};
-ghost use Rattle.xh_channel.specs.inner.LineRule.{IsWhole, high_side, line_view, low_side};
+ghost use Rattle.xh_channel.specs.inner.LineRule.{IsWholeLine, high_side, line_view, low_side};
 
 use crate::line::Line;
-use crate::line_rule::{BothSides, Compares, LineTable, Sides};
-use crate::line_steps::{HOME, Token, hold, lock, settle};
+use crate::line_rule::{BothSides, ComparesLines, LineTable, Sides};
+use crate::line_steps::{HOME, LineToken, hold, lock, settle};
 use crate::message::Message;
 use crate::refused::Refused;
 use crate::unsent::Unsent;
@@ -29,7 +29,7 @@ const WORDS: usize = 16;
 #[derive(Drop)]
 pub struct LineSeat {
     table: Arc<LineTable, Global>,
-    seat: Token,
+    seat: LineToken,
     side: u8,
 }
 
@@ -49,8 +49,8 @@ type OwnTable = Arc<LineTable, Global>;
 
 // The table's seat of both sides, cut in two.
 #[tactic(auto, using(crate::proofs::LineMoves::has_word, crate::proofs::LineSteps::sides))]
-fn cut(low: OwnTable, high: OwnTable, mut token: Token) -> (LineSeat, LineSeat)
-    requires { IsWhole (arc_value low).shared.table_id (arc_value high).shared.table_id token.table_id token.me }
+fn cut(low: OwnTable, high: OwnTable, mut token: LineToken) -> (LineSeat, LineSeat)
+    requires { IsWholeLine (arc_value low).shared.table_id (arc_value high).shared.table_id token.table_id token.me }
     ensures { (result.0 ≡ line_view token.table_id (low_side token.me.0)) × (result.1 ≡ line_view token.table_id (high_side token.me.0)) }
 {
     let seat = low.shared.split_seat::<Sides>(&mut token);
@@ -68,9 +68,9 @@ fn cut(low: OwnTable, high: OwnTable, mut token: Token) -> (LineSeat, LineSeat)
 }
 
 // One seat of both sides, and a handle to the table for each.
-fn join(low: LineSeat, high: LineSeat) -> (OwnTable, OwnTable, Token)
+fn join(low: LineSeat, high: LineSeat) -> (OwnTable, OwnTable, LineToken)
     requires { AreAcross low high }
-    ensures whole { IsWhole (arc_value result.0).shared.table_id (arc_value result.1).shared.table_id result.2.table_id result.2.me }
+    ensures whole { IsWholeLine (arc_value result.0).shared.table_id (arc_value result.1).shared.table_id result.2.table_id result.2.me }
     ensures sides { (low ≡ line_view result.2.table_id (low_side result.2.me.0)) × (high ≡ line_view result.2.table_id (high_side result.2.me.0)) }
 {
     let LineSeat {
@@ -94,7 +94,7 @@ pub fn compare(low: LineSeat, high: LineSeat) -> (LineSeat, LineSeat)
     ensures agree { (e f : EndpointOf) → AgreesWith (on_line e low) (on_line f high) × AgreesWith (on_line f high) (on_line e low) }
 {
     let (low, high, mut token) = join(low, high);
-    low.shared.load::<Compares>(&mut token, 0);
+    low.shared.load::<ComparesLines>(&mut token, 0);
     cut(low, high, token)
 }
 

@@ -1,7 +1,7 @@
 // The ends of a direction's queue. An endpoint has the sending end of one, and the receiving end of the other.
 ghost use Rattle.std.specs.Prelude.{◌≡◌, ◌<◌, ◌≤◌, ◌+◌, suc, true, false, List, [], length, MatchOption, MatchResult, IfOk};
 ghost use Rattle.xh_channel.specs.Queues.{IsNewDirection, sending, getting};
-ghost use Rattle.xh_channel.specs.Directions.{WaitsAfter, role, number};
+ghost use Rattle.xh_channel.specs.Directions.{WaitsAfter, role, message_number};
 ghost use Rattle.xh_model.specs.Direction.{AreNumberedFrom};
 
 use crate::message::Message;
@@ -87,7 +87,7 @@ impl QueueEnd {
 
     pub fn push<R: Wait>(&mut self, rt: &R, message: Message) -> Result<(), Message>
         requires { (self.old.role.pushes ≡ true) × (message.no ≡ suc (length self.old.role.sent)) }
-        ensures { MatchResult result (λ _. (self.new ≡ sending self.old message) × AreNumberedFrom number 0 self.new.role.sent)
+        ensures { MatchResult result (λ _. (self.new ≡ sending self.old message) × AreNumberedFrom message_number 0 self.new.role.sent)
             (λ back. (back ≡ message) × (self.new ≡ self.old) × (self.old.role.told_taken + self.old.depth ≤ length self.old.role.sent)) }
     {
         let queue = &self.queue;
@@ -97,7 +97,7 @@ impl QueueEnd {
     pub fn pop<R: Wait>(&mut self, rt: &R) -> Option<Message>
         requires { self.old.role.pops ≡ true }
         ensures { MatchOption result ((self.new ≡ self.old) × (self.old.role.told_put ≤ length self.old.role.got))
-            (λ x. (self.new ≡ getting self.old x) × (x.no ≡ suc (length self.old.role.got)) × AreNumberedFrom number 0 self.new.role.got) }
+            (λ x. (self.new ≡ getting self.old x) × (x.no ≡ suc (length self.old.role.got)) × AreNumberedFrom message_number 0 self.new.role.got) }
     {
         let queue = &self.queue;
         queue.pop_as::<Gets, R>(rt, &mut self.pass)

@@ -24,7 +24,7 @@ const LOOKS: u16 = 400;
 /// system do: it would be slept through where, between a waiter's look and its sleep, others fell
 /// asleep at this turn and were woken 2^31 times.
 #[derive(Drop)]
-pub struct Turn {
+pub struct WaitTurn {
     count: AtomicU64,
     bell: AtomicU64,
 }
@@ -44,9 +44,9 @@ fn left<R: Clock>(rt: &R, deadline: Instant) -> Duration {
     }
 }
 
-impl Turn {
-    pub fn new() -> Turn {
-        Turn {
+impl WaitTurn {
+    pub fn new() -> WaitTurn {
+        WaitTurn {
             count: AtomicU64::new(0),
             bell: AtomicU64::new(0),
         }
@@ -126,7 +126,7 @@ impl Turn {
 /// A bell for each place: who waits at several channels sleeps at its own. A bell is a turn that rises where it rings.
 #[derive(Drop)]
 pub struct Bells {
-    all: Vec<CachePadded<Turn>>,
+    all: Vec<CachePadded<WaitTurn>>,
     ghost each: { length all.items ≡ PLACES },
 }
 
@@ -134,12 +134,12 @@ pub struct Bells {
 pub type OwnBells = Arc<Bells, Global>;
 
 // The bell of each place.
-fn hang(alloc: Global) -> Result<Vec<CachePadded<Turn>>, AllocError>
+fn hang(alloc: Global) -> Result<Vec<CachePadded<WaitTurn>>, AllocError>
     ensures { IfOk result (λ v. length v.items ≡ PLACES) }
 {
     let mut all = Vec::with_capacity(alloc, PLACES as usize)?;
     for _ in 0..PLACES {
-        all.push(CachePadded::new(Turn::new()))?;
+        all.push(CachePadded::new(WaitTurn::new()))?;
     }
     Ok(all)
 }
@@ -150,7 +150,7 @@ impl Bells {
         Ok(Arc::new(alloc, Bells { all })?)
     }
 
-    pub fn of(&self, place: u8) -> &Turn
+    pub fn of(&self, place: u8) -> &WaitTurn
         requires { place < PLACES }
     {
         &self.all[place as usize]
@@ -172,7 +172,7 @@ const NOBODY: u64 = PLACES as u64;
 /// the place was noted. It finds the place, or another take did since, and the one that finds it rings: the bell moves on after it was read.
 #[derive(Drop)]
 pub struct Signal {
-    pub turn: Turn,
+    pub turn: WaitTurn,
     listeners: [AtomicU64; 2],
     // each on cache lines of its own: a take looks at one, and else only who waits writes there
     senders: [CachePadded<AtomicU64>; 2],
@@ -185,7 +185,7 @@ pub type OwnSignal = Arc<CachePadded<Signal>, Global>;
 impl Signal {
     pub fn new(bells: OwnBells) -> Signal {
         Signal {
-            turn: Turn::new(),
+            turn: WaitTurn::new(),
             listeners: [AtomicU64::new(NOBODY), AtomicU64::new(NOBODY)],
             senders: [
                 CachePadded::new(AtomicU64::new(NOBODY)),

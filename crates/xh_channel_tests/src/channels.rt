@@ -6,8 +6,8 @@ mod scenes;
 mod threads;
 
 use arrayvec::ArrayVec;
-use calls::Answer::{Count, Done, Refused as No, Sent, Taken};
-use calls::Call::{Put, Puts, Shut, Take, Turn};
+use calls::EndAnswer::{Count, Done, Refused as No, Sent, Taken};
+use calls::EndCall::{Put, Puts, Shut, Take, Turn};
 use calls::Manner::Once;
 use calls::{Row, assert_same};
 use opening::Opening::{Cancels, Drops, Holds, Keeps, LetsGo, Nothing};

@@ -20,7 +20,7 @@ const ROWS: &[Row] = &[
 
 /// A turn that is done, or one that is refused; the messages at the front of both sides; the states of both.
 #[derive(Clone, Copy)]
-enum Step {
+enum TalkStep {
     Done(Turn),
     Refused(Turn),
     Fronts(Option<u16>, Option<u16>),
@@ -39,16 +39,16 @@ fn is_done(talk: &mut Talk, turn: Turn) -> Option<bool> {
     }
 }
 
-fn is_so(talk: &mut Talk, step: Step) -> bool {
+fn is_so(talk: &mut Talk, step: TalkStep) -> bool {
     match step {
-        Step::Done(turn) => is_done(talk, turn) == Some(true),
-        Step::Refused(turn) => is_done(talk, turn) == Some(false),
-        Step::Fronts(low, high) => talk.front(0) == low && talk.front(1) == high,
-        Step::States(low, high) => talk.state(0) == low && talk.state(1) == high,
+        TalkStep::Done(turn) => is_done(talk, turn) == Some(true),
+        TalkStep::Refused(turn) => is_done(talk, turn) == Some(false),
+        TalkStep::Fronts(low, high) => talk.front(0) == low && talk.front(1) == high,
+        TalkStep::States(low, high) => talk.state(0) == low && talk.state(1) == high,
     }
 }
 
-fn assert_steps(rt: &impl Abort, talk: &mut Talk, steps: &[Step]) {
+fn assert_steps(rt: &impl Abort, talk: &mut Talk, steps: &[TalkStep]) {
     for (at, step) in steps.iter().enumerate() {
         assert!(rt; is_so(talk, *step), "step {at}");
     }
@@ -60,16 +60,16 @@ fn new_talk(rt: &impl Abort) -> Talk {
 
 #[test]
 fn a_talk_goes_by_its_contract(rt: HostRuntime) {
-    const ASKED: &[Step] = &[
-        Step::Fronts(None, None),
-        Step::Refused(Turn::Put(0, 2)),
-        Step::Refused(Turn::Put(1, 2)),
-        Step::Refused(Turn::Take(1)),
-        Step::Done(Turn::Put(0, 1)),
-        Step::Fronts(None, Some(1)),
-        Step::States(1, 0),
-        Step::Refused(Turn::Put(0, 1)),
-        Step::Refused(Turn::Put(1, 1)),
+    const ASKED: &[TalkStep] = &[
+        TalkStep::Fronts(None, None),
+        TalkStep::Refused(Turn::Put(0, 2)),
+        TalkStep::Refused(Turn::Put(1, 2)),
+        TalkStep::Refused(Turn::Take(1)),
+        TalkStep::Done(Turn::Put(0, 1)),
+        TalkStep::Fronts(None, Some(1)),
+        TalkStep::States(1, 0),
+        TalkStep::Refused(Turn::Put(0, 1)),
+        TalkStep::Refused(Turn::Put(1, 1)),
     ];
     let mut talk = new_talk(&rt);
     assert_steps(&rt, &mut talk, ASKED);
@@ -77,8 +77,8 @@ fn a_talk_goes_by_its_contract(rt: HostRuntime) {
     assert_steps(
         &rt,
         &mut talk,
-        &[Step::Fronts(Some(2), None), Step::States(1, 0)],
+        &[TalkStep::Fronts(Some(2), None), TalkStep::States(1, 0)],
     );
     talk.run(&[Turn::Take(0)]);
-    assert_steps(&rt, &mut talk, &[Step::States(0, 0)]);
+    assert_steps(&rt, &mut talk, &[TalkStep::States(0, 0)]);
 }

@@ -6,7 +6,7 @@ use Rattle.clap.specs.declared.builder.arg.Arg.{Arg}
 use Rattle.clap.specs.declared.builder.command.Command.{Command}
 use Rattle.clap.specs.declared.error.Error.{Error}
 use Rattle.clap.specs.declared.parser.matches.ArgMatches.{ArgMatches}
-use Rattle.xh_command_line.specs.Asked.{app, faults, found}
+use Rattle.xh_command_line.specs.Asked.{app, faults, rows_found}
 use Rattle.xh_command_line.specs.inner.Args.{HasParsed, IsArg}
 
 -- one more argument
@@ -25,7 +25,7 @@ free name = refl
 -- what a parse of it finds, or fails by
 pub has_parsed : (of : App) (name : Text) (words : List Text) (r : Result ArgMatches Error) → of ≡ app name → IfOk r (HasMatchesOf of words)
     → (is_simple_and_free of ≡ true → FailsBy (fault_of of words) r) → HasParsed name words r
-unfolding faults found
+unfolding faults rows_found
 has_parsed of name words (Ok m) is has fails = (
   subst (λ (a : App). is_simple_and_free a ≡ true → fault_of a words ≡ []) is fails (free name),
   (subst (λ (a : App). HasMatchesOf a words m) is has (simple name)).0,

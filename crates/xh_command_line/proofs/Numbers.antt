@@ -10,19 +10,19 @@ use Rattle.clap.proofs.WalkLemmas.{first_value-rows}
 use Rattle.clap.specs.Words.{Row, Text, first_of, first_value, rows_of}
 use Rattle.clap.specs.declared.parser.matches.Found.{Found}
 use Rattle.xh_command_line.specs.Asked.{HasLimits}
-use Rattle.xh_command_line.specs.inner.Args.{Reads}
+use Rattle.xh_command_line.specs.inner.Args.{ReadsNumber}
 use Rattle.xh_model.specs.declared.config.Config.{Config}
 use Rattle.xh_script.specs.Config.{IsScriptConfig}
 
 module _ {T E : Type 0} (gives : List ℕ → Result T E → Type 0) (written : T → List ℕ) where
   none_read : (t : Option (List ℕ)) (r : Option T) → r ≡ None → ((n : T) → t ≡ Some (written n) → ((x : Result T E) → gives (written n) x → x ≡ Ok n) → ⊥)
-      → Reads gives written t r
+      → ReadsNumber gives written t r
   none_read t None e h = h
   none_read t (Some n) e h = cc
 
   module _ (f : Found) (id : Text) (s : Option (Bor (List ℕ))) (r : Option T) (is : option_map (λ s. s.now) s ≡ first_value f id) where
     -- there is no text
-    pub no_text : s ≡ None → r ≡ None → Reads gives written (first_of id (rows_of f)) r
+    pub no_text : s ≡ None → r ≡ None → ReadsNumber gives written (first_of id (rows_of f)) r
     no_text none e = none_read _ r e (λ n same h.
         let bad : None ≡ Some (written n) = ap (option_map (λ (s : Bor (List ℕ)). s.now)) (sym none) ∙ is ∙ first_value-rows f id ∙ same in
         cc)
@@ -33,7 +33,7 @@ module _ {T E : Type 0} (gives : List ℕ → Result T E → Type 0) (written : 
         cc
 
     -- the text is no number
-    pub no_number : (t : Bor (List ℕ)) (x : Result T E) → s ≡ Some t → gives t.now x → result_ok x ≡ None → r ≡ None → Reads gives written (first_of id (rows_of f)) r
+    pub no_number : (t : Bor (List ℕ)) (x : Result T E) → s ≡ Some t → gives t.now x → result_ok x ≡ None → r ≡ None → ReadsNumber gives written (first_of id (rows_of f)) r
     no_number t x some given bad e = none_read _ r e (λ n same h.
         let ok : x ≡ Ok n = h x (subst (λ w. gives w x) (same_text t n some same) given) in
         let both : Some n ≡ None = ap result_ok (sym ok) ∙ bad in
@@ -41,8 +41,8 @@ module _ {T E : Type 0} (gives : List ℕ → Result T E → Type 0) (written : 
 
     -- it is one, written so or not
     pub a_number : (t : Bor (List ℕ)) (x : Result T E) (n : T) → s ≡ Some t → gives t.now x → result_ok x ≡ Some n → (b : Bool)
-        → (b ≡ true → written n ≡ t.now) → (written n ≡ t.now → b ≡ true) → r ≡ then_some b n → Reads gives written (first_of id (rows_of f)) r
-    a_number t x n some given ok true same so e = subst (λ r. Reads gives written (first_of id (rows_of f)) r) (sym e)
+        → (b ≡ true → written n ≡ t.now) → (written n ≡ t.now → b ≡ true) → r ≡ then_some b n → ReadsNumber gives written (first_of id (rows_of f)) r
+    a_number t x n some given ok true same so e = subst (λ r. ReadsNumber gives written (first_of id (rows_of f)) r) (sym e)
         (sym (first_value-rows f id) ∙ (sym is ∙ (ap (option_map (λ (s : Bor (List ℕ)). s.now)) some ∙ ap Some (sym (same refl)))))
     a_number t x n some given ok false same so e = none_read _ r e (λ m is_m h.
         let text = same_text t m some is_m in
@@ -54,7 +54,7 @@ module _ {T E : Type 0} (gives : List ℕ → Result T E → Type 0) (written : 
 
 -- a number of so many bits that has a text is read of it
 pub has_read : {E : Type 0} (explains : List ℕ → Result ℕ E → Type 0) (k n : ℕ) (t : Option (List ℕ))
-    → Reads (λ bs x. ParsesUnsigned k 10 bs x × explains bs x × HasUnsignedDigitsIfOk bs x) decimal t None
+    → ReadsNumber (λ bs x. ParsesUnsigned k 10 bs x × explains bs x × HasUnsignedDigitsIfOk bs x) decimal t None
     → n < 2 ^ k → n < 2 ^ 64 → t ≡ Some (decimal n) → ⊥
 has_read explains k n t h below short e = h n e (λ x given. parse-decimal k n (decimal n) x below short refl given.0)
 

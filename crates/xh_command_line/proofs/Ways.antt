@@ -5,7 +5,7 @@ use Rattle.clap.specs.Words.{HasKind, IsAmong, Text, kind_of, one_text, rows_of}
 use Rattle.clap.specs.declared.error.Error.{Error}
 use Rattle.clap.specs.declared.error.kind.ErrorKind.TheVariants.{DisplayHelp, DisplayVersion, OutOfMemory}
 use Rattle.clap.specs.declared.parser.matches.Found.{Found}
-use Rattle.xh_command_line.specs.Asked.{AskRun, HasLimits, HasOptions, faults, found}
+use Rattle.xh_command_line.specs.Asked.{AskRun, HasLimits, HasOptions, faults, rows_found}
 use Rattle.xh_command_line.specs.Unasked.{IsUnasked}
 use Rattle.xh_command_line.specs.inner.Args.{IsExplained}
 use Rattle.xh_model.specs.declared.config.Config.{Config}
@@ -43,7 +43,7 @@ abbrev Tells : Found → Text → Bool → Type 0
 Tells f id set = (one_text f id ≡ Some (codes "true") → set ≡ true) × (one_text f id ≡ Some (codes "false") → set ≡ false)
 
 -- what clap found asks for a run
-pub asked : (name : Text) (words : List Text) (f : Found) (config : Config) (serial flight : Bool) → faults name words ≡ [] → rows_of f ≡ found name words
+pub asked : (name : Text) (words : List Text) (f : Found) (config : Config) (serial flight : Bool) → faults name words ≡ [] → rows_of f ≡ rows_found name words
     → Tells f (codes "serial") serial → Tells f (codes "flight") flight → HasLimits (rows_of f) config → IsScriptConfig config
     → AskRun name words (record { config = config; serial = serial; flight = flight })
 asked name words f config serial flight none is one other limits ok = (

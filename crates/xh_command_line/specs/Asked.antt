@@ -45,8 +45,8 @@ unfoldable pub faults : Text → List Text → Kinds
 faults name words = fault_of (app name) words
 
 -- what clap finds among them, option by option
-unfoldable pub found : Text → List Text → List Row
-found name words = matches_of (app name) words
+unfoldable pub rows_found : Text → List Text → List Row
+rows_found name words = matches_of (app name) words
 
 -- a flag is set where its text is true, and not where it is false
 abbrev pub IsSet : Option Text → Bool → Type 0
@@ -67,7 +67,7 @@ HasOptions rows options = IsSet (one_of (codes "serial") rows) options.serial
 
 -- the words ask for a run with these options
 abbrev pub AskRun : Text → List Text → Options → Type 0
-AskRun name words options = (faults name words ≡ []) × HasOptions (found name words) options
+AskRun name words options = (faults name words ≡ []) × HasOptions (rows_found name words) options
 
 -- they ask for help or the version
 abbrev pub AskText : Text → List Text → Type 0
@@ -76,4 +76,4 @@ AskText name words = IsAmong DisplayHelp (faults name words) ⊎ IsAmong Display
 -- clap has something else against them; or they have no limits with which a script can be run, each in digits
 abbrev pub AreWrong : Text → List Text → Type 0
 AreWrong name words = ((kind : ErrorKind) × IsAmong kind (faults name words) × (kind ≢ DisplayHelp) × (kind ≢ DisplayVersion))
-    ⊎ ((faults name words ≡ []) × ((config : Config) → IsScriptConfig config → HasLimits (found name words) config → ⊥))
+    ⊎ ((faults name words ≡ []) × ((config : Config) → IsScriptConfig config → HasLimits (rows_found name words) config → ⊥))

@@ -4,10 +4,10 @@ use Rattle.xh_script.specs.declared.fault.Fault.{Fault}
 use Rattle.xh_script.specs.declared.fault.Fault.TheVariants.{Script, Memory, Read, Write, Gate, BadConfig}
 
 -- the status of a fault
-abbrev pub status_of : Fault → ℕ
-status_of (Script line kind) = 1
-status_of Memory = 3
-status_of Read = 4
-status_of Write = 4
-status_of Gate = 5
-status_of BadConfig = 5
+abbrev pub exit_status : Fault → ℕ
+exit_status (Script line kind) = 1
+exit_status Memory = 3
+exit_status Read = 4
+exit_status Write = 4
+exit_status Gate = 5
+exit_status BadConfig = 5

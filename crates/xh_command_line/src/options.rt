@@ -5,7 +5,7 @@ ghost use Rattle.clap.specs.Values.{kind_of};
 ghost use Rattle.clap.specs.Walk.{first_of, rows_of};
 ghost use Rattle.xh_command_line.specs.Asked.{AskRun, HasLimits};
 ghost use Rattle.xh_command_line.specs.Unasked.{IsUnasked};
-ghost use Rattle.xh_command_line.specs.inner.Args.{HasParsed, IsExplained, Reads};
+ghost use Rattle.xh_command_line.specs.inner.Args.{HasParsed, IsExplained, ReadsNumber};
 ghost use Rattle.xh_model.specs.declared.config.Config.{Config};
 ghost use Rattle.xh_script.specs.Config.{IsScriptConfig};
 
@@ -46,7 +46,7 @@ fn parse<'a>(
 fn number<T: FromStr + itoa::Integer>(matches: &ArgMatches, name: &str) -> Option<T>
 where
     T::Err: Drop,
-    ensures { Reads T.from_str_gives T.text (first_of name.now (rows_of (found_of matches.now))) result }
+    ensures { ReadsNumber T.from_str_gives T.text (first_of name.now (rows_of (found_of matches.now))) result }
 {
     let text = matches.get_str(name)?;
     let number = text.parse().ok()?;

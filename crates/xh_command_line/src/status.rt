@@ -1,6 +1,6 @@
 //! How a run ends: a status, and where it did not reach its end, a line on standard error.
 ghost use Rattle.std.specs.Prelude.{◌≡◌, ◌≢◌};
-ghost use Rattle.xh_command_line.specs.Status.{status_of};
+ghost use Rattle.xh_command_line.specs.Status.{exit_status};
 
 use std::io::{ErrorKind, Write};
 use xh_script::Fault;
@@ -52,7 +52,7 @@ pub fn unread_words<E: Write>(program: &str, kind: ErrorKind, err: &mut E) -> u8
 
 /// Reports a fault, in the words that it has itself. A fault of `err` is passed over.
 pub fn report<E: Write>(program: &str, fault: Fault, err: &mut E) -> u8
-    ensures { result ≡ status_of fault }
+    ensures { result ≡ exit_status fault }
 {
     let _ = writeln!(err, "{program}: {fault}");
     match fault {

@@ -12,9 +12,9 @@ pub use Rattle.std.specs.List.{position_or_len, range_with_len}
 pub use Rattle.xh_core.specs.Refusing.{first_refusal}
 pub use Rattle.xh_core.specs.Several.{handed, times}
 pub use Rattle.xh_core.specs.Space.{free_record, space_tests}
-pub use Rattle.xh_core.specs.Talks.{AreInStep, AreOrderly, after_all}
+pub use Rattle.xh_core.specs.Talks.{AreInStep, AreOrderly, talk_after_all}
 pub use Rattle.xh_core.specs.View.{store_of}
-pub use Rattle.xh_core.specs.Wearing.{AreCarved, IsCarved}
+pub use Rattle.xh_core.specs.Wearing.{AreCarved, IsWithinWear}
 pub use Rattle.xh_core.specs.declared.refused.Refused.{Refused}
 pub use Rattle.xh_model.proofs.Calls.{back_bytes, back_length, back_others, back_records, back_size, carved_bytes, carved_length, carved_size, cut_bytes, cut_head, cut_size, cut_tail, cut_wear}
 pub use Rattle.xh_model.proofs.Changed.{IsTouched, known_there, one_touched, read_arena, touched_lawful, touched_records, two_touched}

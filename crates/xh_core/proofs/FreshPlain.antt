@@ -1,5 +1,5 @@
 -- A new store is lawful.
-use Rattle.xh_core.proofs.Common.{All-replicate, AreCarved, ArenaState, Holder, IsCarved, IsConfig, IsLawful, IsLawfulArena, None, Option, Some, ap, arena_at, arith}
+use Rattle.xh_core.proofs.Common.{All-replicate, AreCarved, ArenaState, Holder, IsWithinWear, IsConfig, IsLawful, IsLawfulArena, None, Option, Some, ap, arena_at, arith}
 use Rattle.xh_core.proofs.Common.{bytes_out, cond, false≢true, is_some, length, length-replicate, length_of, no_arena, owner, refl, replicate, slice_index_or, suc}
 use Rattle.xh_core.proofs.Common.{sym, zero, ℕ, ◌%◌, ◌*◌, ◌/◌, ◌<◌, ◌∙◌, ◌≡◌, ◌≤◌}
 use Rattle.std.proofs.lemmas.List.Folds.{sum_by-replicate}
@@ -53,4 +53,4 @@ module _ (c : Config) (is : IsConfig c) where
 
   pub new_carved : AreCarved (new_store c)
   unfolding new_store
-  new_carved = All-replicate IsCarved c.arenas _ (let z = none_out c.bytes in omega (arith, z))
+  new_carved = All-replicate IsWithinWear c.arenas _ (let z = none_out c.bytes in omega (arith, z))

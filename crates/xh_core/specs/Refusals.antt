@@ -27,29 +27,29 @@ use Rattle.xh_core.specs.declared.refused.Refused.TheVariants.{
 }
 
 -- the number of a refusal, as replies print it
-abbrev pub number_of : Refused → ℕ
-number_of OutOfMemory = 1
-number_of BadSize = 2
-number_of NoArena = 3
-number_of NoSpace = 4
-number_of NoRecord = 5
-number_of NotOwned = 6
-number_of NotData = 7
-number_of NotEndpoint = 8
-number_of BadCut = 9
-number_of BadRange = 10
-number_of NoProcess = 11
-number_of Ended = 12
-number_of NoChannel = 13
-number_of (Full _) = 14
-number_of (PeerClosed _) = 15
-number_of Empty = 16
-number_of TooMany = 17
-number_of Twice = 18
-number_of Worn = 19
-number_of (Unfinished _) = 20
-number_of NoPlace = 21
-number_of (Protocol _) = 22
+abbrev pub refusal_number : Refused → ℕ
+refusal_number OutOfMemory = 1
+refusal_number BadSize = 2
+refusal_number NoArena = 3
+refusal_number NoSpace = 4
+refusal_number NoRecord = 5
+refusal_number NotOwned = 6
+refusal_number NotData = 7
+refusal_number NotEndpoint = 8
+refusal_number BadCut = 9
+refusal_number BadRange = 10
+refusal_number NoProcess = 11
+refusal_number Ended = 12
+refusal_number NoChannel = 13
+refusal_number (Full _) = 14
+refusal_number (PeerClosed _) = 15
+refusal_number Empty = 16
+refusal_number TooMany = 17
+refusal_number Twice = 18
+refusal_number Worn = 19
+refusal_number (Unfinished _) = 20
+refusal_number NoPlace = 21
+refusal_number (Protocol _) = 22
 
 -- the name of a refusal, as replies print it
 abbrev pub name_of : Refused → List ℕ

@@ -16,9 +16,9 @@ pub record Talked : Type 0 where
   pub right : TalkEnd
 
 -- the end of a side
-abbrev pub end_of : Talked → ℕ → TalkEnd
-end_of talk zero = talk.left
-end_of talk (suc _) = talk.right
+abbrev pub side_of_talk : Talked → ℕ → TalkEnd
+side_of_talk talk zero = talk.left
+side_of_talk talk (suc _) = talk.right
 
 -- the tags on their way to this end, the front one first
 abbrev pub waiting : TalkEnd → List ℕ
@@ -60,26 +60,26 @@ abbrev pub after_take : List Row → ℕ → TalkEnd → TalkEnd
 after_take rows side own = end_with (moved rows own.state (slice_index_or (waiting own) 0 0) (1 - side)) (drop 1 (waiting own))
 
 -- the condition of a turn
-abbrev pub can : Turn → Talked → Bool
-can (Put side tag) t = can_put t.rows side tag (end_of t side) (end_of t (1 - side))
-can (Take side) t = can_take (end_of t side)
+abbrev pub can_turn : Turn → Talked → Bool
+can_turn (Put side tag) t = can_put t.rows side tag (side_of_talk t side) (side_of_talk t (1 - side))
+can_turn (Take side) t = can_take (side_of_talk t side)
 
 -- the change of a turn
-abbrev pub change : Turn → Talked → Talked
-change (Put side tag) t = talk_by t.rows side (after_put t.rows side tag (end_of t side)) (with_tag tag (end_of t (1 - side)))
-change (Take side) t = talk_by t.rows side (after_take t.rows side (end_of t side)) (end_of t (1 - side))
+abbrev pub change_talk : Turn → Talked → Talked
+change_talk (Put side tag) t = talk_by t.rows side (after_put t.rows side tag (side_of_talk t side)) (with_tag tag (side_of_talk t (1 - side)))
+change_talk (Take side) t = talk_by t.rows side (after_take t.rows side (side_of_talk t side)) (side_of_talk t (1 - side))
 
 -- a turn is done exactly where its condition holds; else nothing changes
-unfoldable pub after : Turn → Talked → Talked
-after turn t = cond (can turn t) (change turn t) t
+unfoldable pub talk_after : Turn → Talked → Talked
+talk_after turn t = cond (can_turn turn t) (change_talk turn t) t
 
-unfoldable pub outcome : Turn → Talked → Outcome
-outcome turn t = cond (can turn t) Done Refused
+unfoldable pub turn_outcome : Turn → Talked → Outcome
+turn_outcome turn t = cond (can_turn turn t) Done Refused
 
 -- the turns in order
-abbrev pub after_all : List Turn → Talked → Talked
-after_all [] t = t
-after_all (turn ∷ turns) t = after_all turns (after turn t)
+abbrev pub talk_after_all : List Turn → Talked → Talked
+talk_after_all [] t = t
+talk_after_all (turn ∷ turns) t = talk_after_all turns (talk_after turn t)
 
 -- whose turn it is
 abbrev pub side_of : Turn → ℕ

@@ -5,8 +5,8 @@ use Rattle.xh_model.specs.Arena.{ArenaState}
 use Rattle.xh_model.specs.Store.{Store}
 
 -- each byte that an arena has handed out was carved, so that the bytes given back are the difference
-abbrev pub IsCarved : ArenaState → Type 0
-IsCarved a = bytes_out a.cover ≤ a.wear
+abbrev pub IsWithinWear : ArenaState → Type 0
+IsWithinWear a = bytes_out a.cover ≤ a.wear
 
 abbrev pub AreCarved : Store → Type 0
-AreCarved s = All IsCarved s.arenas
+AreCarved s = All IsWithinWear s.arenas

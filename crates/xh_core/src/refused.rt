@@ -1,6 +1,6 @@
 //! Why a command is refused: each refusal with its number and its name.
 ghost use Rattle.std.specs.Prelude.{◌≡◌};
-ghost use Rattle.xh_core.specs.Refusals.{number_of, name_of};
+ghost use Rattle.xh_core.specs.Refusals.{refusal_number, name_of};
 ghost use Rattle.xh_core.specs.declared.refused.Refused.TheVariants.{OutOfMemory};
 
 use arrayvec::ArrayVec;
@@ -61,7 +61,7 @@ pub enum Refused {
 impl Refused {
     /// Its number, 1 to 22.
     pub fn number(&self) -> u8
-        ensures { result ≡ number_of self.now }
+        ensures { result ≡ refusal_number self.now }
     {
         match self {
             Refused::OutOfMemory => 1,

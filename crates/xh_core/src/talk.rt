@@ -1,7 +1,7 @@
 //! Two ends that talk under a contract, without a machine round them.
 ghost use Rattle.std.specs.Prelude.{◌≡◌, ◌-◌, ◌<◌, cond, IfSome, IsSome, slice_get};
 ghost use Rattle.xh_model.specs.Rows.{allowed, IsValid};
-ghost use Rattle.xh_core.specs.Talks.{end_of, waiting, new_talk, can_put, can_take, after_put, with_tag, after_take, after, outcome, after_all, side_of, AreSided, AreInStep, IsOrderly};
+ghost use Rattle.xh_core.specs.Talks.{side_of_talk, waiting, new_talk, can_put, can_take, after_put, with_tag, after_take, talk_after, turn_outcome, talk_after_all, side_of, AreSided, AreInStep, IsOrderly};
 
 use crate::contract::Contract;
 use crate::talk_end::TalkEnd;
@@ -88,11 +88,11 @@ impl Talk {
 
     /// One turn. A put is refused where the state of its end does not allow it or 16 messages wait,
     /// a take where nothing waits. A refused turn changes nothing.
-    #[tactic(auto, unfolding(crate::specs::Talks::after, crate::specs::Talks::outcome))]
+    #[tactic(auto, unfolding(crate::specs::Talks::talk_after, crate::specs::Talks::turn_outcome))]
     pub fn turn(&mut self, turn: Turn) -> Outcome
         requires { side_of turn < 2 }
-        ensures outcome { result ≡ outcome turn self.old }
-        ensures after { self.new ≡ after turn self.old }
+        ensures outcome { result ≡ turn_outcome turn self.old }
+        ensures after { self.new ≡ talk_after turn self.old }
         ensures orderly { IsOrderly self.new }
     {
         match turn {
@@ -107,7 +107,7 @@ impl Talk {
     /// state allows, and messages wait for one end at most.
     pub fn run(&mut self, turns: &[Turn])
         requires { AreSided turns.now }
-        ensures after { self.new ≡ after_all turns.now self.old }
+        ensures after { self.new ≡ talk_after_all turns.now self.old }
         ensures orderly { IsOrderly self.new }
     {
         for turn in turns {
@@ -119,7 +119,7 @@ impl Talk {
     /// The state of the end of this side, 0 to 15.
     pub fn state(&self, side: u8) -> u8
         requires { side < 2 }
-        ensures { result ≡ (end_of self.now side).state }
+        ensures { result ≡ (side_of_talk self.now side).state }
     {
         if side == 0 {
             self.left.state
@@ -131,8 +131,8 @@ impl Talk {
     /// The tag of the message at the front toward this side, if one waits.
     pub fn front(&self, side: u8) -> Option<u16>
         requires { side < 2 }
-        ensures front { result ≡ slice_get (waiting (end_of self.now side)) 0 }
-        ensures allowed { IfSome result (λ tag. IsSome (allowed self.now.rows (end_of self.now side).state tag (1 - side))) }
+        ensures front { result ≡ slice_get (waiting (side_of_talk self.now side)) 0 }
+        ensures allowed { IfSome result (λ tag. IsSome (allowed self.now.rows (side_of_talk self.now side).state tag (1 - side))) }
     {
         if side == 0 {
             self.left.waiting.first().copied()

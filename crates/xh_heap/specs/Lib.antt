@@ -1,3 +1,4 @@
 pub mod Handles
+pub mod Runs
 pub mod Teams
 pub mod Values

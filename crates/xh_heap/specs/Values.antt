@@ -2,7 +2,7 @@
 use Rattle.std.specs.Prelude.{◌≡◌, ℕ, ◌==◌, if◌then◌else◌, Bool, true, List, [], ◌∷◌, length, map, filter, min, take, Option, Some, None, Result, Ok, Err}
 use Rattle.std.specs.List.{list_any}
 use Rattle.std.specs.Result.{result_map_both}
-use Rattle.xh_calls.specs.declared.several.Answered.{Answered as TakenAt}
+use Rattle.xh_calls.specs.declared.several.AnsweredAt.{AnsweredAt}
 use Rattle.xh_core.specs.declared.block.Block.{Block as Named}
 use Rattle.xh_core.specs.declared.header.Kind.TheVariants as kind
 use Rattle.xh_core.specs.declared.refused.Refused.{Refused}
@@ -65,7 +65,7 @@ item_of p (got.Missing rec word) = item.Missing
 abbrev pub message_of : ℕ → Taken → Message
 message_of p t = record { no = t.no; tag = t.tag; items = record { items = map (item_of p) t.blocks.items } }
 
-abbrev pub answered_of : ℕ → TakenAt → Answered
+abbrev pub answered_of : ℕ → AnsweredAt → Answered
 answered_of p a = record { at = a.at; answer = result_map_both (message_of p) (λ why. why) a.answer }
 
 -- the call had an answer, which is shown so; a refusal is shown as it is

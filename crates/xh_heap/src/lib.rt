@@ -22,4 +22,4 @@ pub use std::time::Duration;
 pub use values::{Answered, AsEnd, Block, End, Item, Items, Message, Returned};
 pub use xh_books::Books;
 pub use xh_core::{Config, Contract, Glance, Refused, Row, Status};
-pub use xh_kernel::{Awaited, Overview, Seen, Spot};
+pub use xh_kernel::{Awaited, Overview, PlaceNow, Spot};

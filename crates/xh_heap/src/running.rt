@@ -1,13 +1,10 @@
 //! A job's run: a kernel is made, the job works on it, and its books are closed.
-ghost use Rattle.std.specs.Prelude.{◌≡◌, ◌<◌, ◌≤◌, Err, IfOk, List, vec_len};
+ghost use Rattle.std.specs.Prelude.{◌≡◌, ◌<◌, ◌≤◌, Err, IfOk, vec_len};
 ghost use Rattle.xh_kernel.specs.Histories.{IsLaw};
-ghost use Rattle.xh_books.specs.Closing.{AreClosed};
 ghost use Rattle.xh_books.specs.Ledgers.{IsBalanced};
-ghost use Rattle.xh_calls.specs.declared.call.Entry.{Entry};
 ghost use Rattle.xh_calls.specs.Parts.{AreMadeBy, PartsOf};
 ghost use Rattle.xh_core.specs.Flight.{AreFlightLines};
-ghost use Rattle.xh_history.specs.Histories.{LookOf};
-ghost use Rattle.xh_kernel.specs.Accounts.{AccountOf};
+ghost use Rattle.xh_heap.specs.Runs.{AreBooksOf};
 ghost use Rattle.xh_model.specs.Config.{IsConfig};
 ghost use Rattle.xh_model.specs.declared.limits.TheConstants.{GENERATIONS, MAX_RECORDS, MAX_WEAR, MAX_WORKERS, PLACES};
 
@@ -15,7 +12,7 @@ use crate::closed::Closed;
 use crate::handle::{Handle, Spares};
 use crate::host::Host;
 use crate::job::Team;
-use crate::threads::Crew;
+use crate::threads::TaskCrew;
 use std::alloc::Global;
 use std::marker::Brand;
 use std::sync::{Mutex, Wait};
@@ -71,7 +68,7 @@ fn work_on<'s, 'k, N: Names + Send + Sync, R: Threads + Wait + Clock + Sync, J: 
     let spares = Mutex::new(accounts.iter_mut().collect(alloc)?);
     let mut all = hire(rt, alloc, kernel, &spares, count)?;
     let plan = job.plan(&mut Team { all: &mut all })?;
-    let crew = Crew::new(rt, job, plan);
+    let crew = TaskCrew::new(rt, job, plan);
     let answers = crew.work_all(alloc, all)?;
     Ok((crew.plan, answers))
 }
@@ -89,7 +86,7 @@ fn run_named<N: Names + Send + Sync, R: Threads + Wait + Clock + Sync, J: Host +
     ensures answers { IfOk result (λ c. vec_len c.answers ≡ count) }
     ensures balanced { IfOk result (λ c. IsBalanced c.books.ledger) }
     ensures lines { IfOk result (λ c. AreFlightLines c.books.ledger.flight c.books.flight.items) }
-    ensures closed { IfOk result (λ c. (accounts : List AccountOf) × (looks : List (LookOf Entry)) × AreClosed N.parts accounts looks c.books.ledger c.books.flight.items) }
+    ensures closed { IfOk result (λ c. AreBooksOf N.parts c.books) }
 {
     let (kernel, mut accounts, looks) = Kernel::<N>::new(alloc, parts)?;
     let worked = work_on(rt, alloc, &kernel, &mut accounts, count, job);
@@ -117,8 +114,7 @@ pub fn run<R: Threads + Wait + Clock + Sync, J: Host + Sync>(
     ensures answers { IfOk result (λ c. vec_len c.answers ≡ count) }
     ensures balanced { IfOk result (λ c. IsBalanced c.books.ledger) }
     ensures lines { IfOk result (λ c. AreFlightLines c.books.ledger.flight c.books.flight.items) }
-    ensures closed { IfOk result (λ c. (parts : PartsOf) × (accounts : List AccountOf) × (looks : List (LookOf Entry))
-        × AreMadeBy config MAX_WORKERS GENERATIONS parts × AreClosed parts accounts looks c.books.ledger c.books.flight.items) }
+    ensures closed { IfOk result (λ c. (parts : PartsOf) × AreMadeBy config MAX_WORKERS GENERATIONS parts × AreBooksOf parts c.books) }
 {
     if count == 0 || count > PLACES {
         return Err(Refused::BadSize);

@@ -9,7 +9,7 @@ use xh_core::Refused;
 
 /// What is asked of the run's own thread, by one at a time, and what it answers.
 #[derive(Drop)]
-pub(crate) enum Desk<P, T> {
+pub(crate) enum Inquiry<P, T> {
     /// Nothing is asked.
     Free,
     /// A thread, for a process and its task.
@@ -25,25 +25,25 @@ pub(crate) enum Desk<P, T> {
 /// What starts threads for the processes of a run.
 #[derive(Drop)]
 pub struct Starter<P, T> {
-    desk: Mutex<Desk<P, T>>,
+    desk: Mutex<Inquiry<P, T>>,
     changed: Condvar,
 }
 
 impl<P: Process, T: Drop> Starter<P, T> {
     pub(crate) fn new() -> Starter<P, T> {
         Starter {
-            desk: Mutex::new(Desk::Free),
+            desk: Mutex::new(Inquiry::Free),
             changed: Condvar::new(),
         }
     }
 
     // Waits until the desk is so, and puts this there: what was there.
-    fn exchange<R: Wait, F: Fn(&Desk<P, T>) -> bool>(
+    fn exchange<R: Wait, F: Fn(&Inquiry<P, T>) -> bool>(
         &self,
         rt: &R,
         is_so: F,
-        put: Desk<P, T>,
-    ) -> Desk<P, T>
+        put: Inquiry<P, T>,
+    ) -> Inquiry<P, T>
         requires { F.IsAlwaysCallable is_so }
     {
         let desk = self.desk.lock(rt);
@@ -53,18 +53,21 @@ impl<P: Process, T: Drop> Starter<P, T> {
     }
 
     /// Asks, once nobody else does.
-    pub(crate) fn ask<R: Wait>(&self, rt: &R, asked: Desk<P, T>) {
-        self.exchange(rt, |desk| matches!(desk, Desk::Free), asked);
+    pub(crate) fn ask<R: Wait>(&self, rt: &R, asked: Inquiry<P, T>) {
+        self.exchange(rt, |desk| matches!(desk, Inquiry::Free), asked);
     }
 
     /// What is asked next, `Start` or `Ended`: to be answered.
-    pub(crate) fn next<R: Wait>(&self, rt: &R) -> Desk<P, T> {
-        let is_asked = |desk: &Desk<P, T>| matches!(desk, Desk::Start(_, _) | Desk::Ended(_));
-        self.exchange(rt, is_asked, Desk::Taken)
+    pub(crate) fn next<R: Wait>(&self, rt: &R) -> Inquiry<P, T> {
+        let is_asked = |desk: &Inquiry<P, T>| matches!(
+            desk,
+            Inquiry::Start(_, _) | Inquiry::Ended(_)
+        );
+        self.exchange(rt, is_asked, Inquiry::Taken)
     }
 
     /// Answers it, by `Started` or `Free`.
-    pub(crate) fn answer<R: Wait>(&self, rt: &R, answer: Desk<P, T>) {
+    pub(crate) fn answer<R: Wait>(&self, rt: &R, answer: Inquiry<P, T>) {
         self.exchange(rt, |_desk| true, answer);
     }
 
@@ -76,10 +79,10 @@ impl<P: Process, T: Drop> Starter<P, T> {
         ensures { IfErr result (λ why. why ≡ refused.OutOfMemory) }
     {
         let rt = child.rt();
-        self.ask(&rt, Desk::Start(child, task));
-        let is_answered = |desk: &Desk<P, T>| matches!(desk, Desk::Started(_));
-        match self.exchange(&rt, is_answered, Desk::Free) {
-            Desk::Started(true) => Ok(()),
+        self.ask(&rt, Inquiry::Start(child, task));
+        let is_answered = |desk: &Inquiry<P, T>| matches!(desk, Inquiry::Started(_));
+        match self.exchange(&rt, is_answered, Inquiry::Free) {
+            Inquiry::Started(true) => Ok(()),
             _ => Err(Refused::OutOfMemory),
         }
     }

@@ -3,7 +3,7 @@ ghost use Rattle.std.specs.Prelude.{◌≡◌, IfOk, vec_len};
 
 use crate::handle::Handle;
 use crate::host::Host;
-use crate::starter::{Desk, Starter};
+use crate::starter::{Inquiry, Starter};
 use std::alloc::{AllocError, Global};
 use std::array;
 use std::sync::{Mutex, Wait};
@@ -18,7 +18,7 @@ type Slots = [Option<JoinHandle<()>>; MAX_WORKERS as usize];
 
 /// What the threads of a run share.
 #[derive(Drop)]
-pub(crate) struct Crew<'s, 'k, N: Names, R: Wait, J: Host> {
+pub(crate) struct TaskCrew<'s, 'k, N: Names, R: Wait, J: Host> {
     rt: &'s R,
     job: &'s J,
     pub(crate) plan: J::Plan,
@@ -27,7 +27,7 @@ pub(crate) struct Crew<'s, 'k, N: Names, R: Wait, J: Host> {
     started: Mutex<bool>,
 }
 
-impl<'s, 'k: 's, N: Names + Send + Sync, R: Threads + Wait + Clock + Sync, J: Host + Sync> Crew<
+impl<'s, 'k: 's, N: Names + Send + Sync, R: Threads + Wait + Clock + Sync, J: Host + Sync> TaskCrew<
     's,
     'k,
     N,
@@ -35,7 +35,7 @@ impl<'s, 'k: 's, N: Names + Send + Sync, R: Threads + Wait + Clock + Sync, J: Ho
     J,
 > {
     pub(crate) fn new(rt: &'s R, job: &'s J, plan: J::Plan) -> Self {
-        Crew {
+        TaskCrew {
             rt,
             job,
             plan,
@@ -51,7 +51,7 @@ impl<'s, 'k: 's, N: Names + Send + Sync, R: Threads + Wait + Clock + Sync, J: Ho
             return None;
         }
         let answer = self.job.work(&self.plan, index, &mut own, &self.starter);
-        self.starter.ask(self.rt, Desk::Ended(None));
+        self.starter.ask(self.rt, Inquiry::Ended(None));
         Some(answer)
     }
 
@@ -59,7 +59,7 @@ impl<'s, 'k: 's, N: Names + Send + Sync, R: Threads + Wait + Clock + Sync, J: Ho
     fn serve(&self, slot: usize, child: Handle<'s, 'k, N, R>, task: J::Task) {
         let mut own = child;
         self.job.serve(&self.plan, task, &mut own, &self.starter);
-        self.starter.ask(self.rt, Desk::Ended(Some(slot)));
+        self.starter.ask(self.rt, Inquiry::Ended(Some(slot)));
     }
 
     // Starts a thread for each process, and lets them work if all were started.
@@ -103,18 +103,18 @@ impl<'s, 'k: 's, N: Names + Send + Sync, R: Threads + Wait + Clock + Sync, J: Ho
                 return;
             }
             match self.starter.next(self.rt) {
-                Desk::Start(child, task) => {
+                Inquiry::Start(child, task) => {
                     let is_started = self.start(scope, &mut slots, child, task);
-                    self.starter.answer(self.rt, Desk::Started(is_started));
+                    self.starter.answer(self.rt, Inquiry::Started(is_started));
                 }
-                Desk::Ended(Some(slot)) => {
-                    self.starter.answer(self.rt, Desk::Free);
+                Inquiry::Ended(Some(slot)) => {
+                    self.starter.answer(self.rt, Inquiry::Free);
                     if let Some(thread) = slots.get_mut(slot).and_then(|thread| thread.take()) {
                         thread.join(self.rt);
                     }
                 }
                 _ => {
-                    self.starter.answer(self.rt, Desk::Free);
+                    self.starter.answer(self.rt, Inquiry::Free);
                     working = working.saturating_sub(1);
                 }
             }

@@ -6,7 +6,7 @@ ghost use Rattle.xh_heap.specs.Values.{answered_of, block_in, block_of, end_at, 
 
 use arrayvec::ArrayVec;
 use xh_core::{Block as Named, Kind, Refused};
-use xh_kernel::{Answered as TakenAt, Got, MAX_ENDS, Taken};
+use xh_kernel::{AnsweredAt, Got, MAX_ENDS, Taken};
 use xh_model::limits::MAX_BLOCKS;
 
 /// The number of a record that no arena has.
@@ -16,7 +16,7 @@ pub(crate) const NO_RECORD: u16 = 65_535;
 pub(crate) const TOO_MANY_ENDS: usize = MAX_ENDS + 1;
 
 /// A block of bytes, of one process. It can't be copied: whoever has it alone can name it. To let it go frees nothing: the
-/// process has the block until it ends.
+/// process has the block until it ends. It doesn't know its run: in another one it may name another block.
 #[derive(Debug, Drop)]
 pub struct Block {
     rec: u16,
@@ -47,7 +47,8 @@ impl Block {
     }
 }
 
-/// An end of a channel, of one process. It can't be copied; to let it go closes nothing: the process has it until it ends.
+/// An end of a channel, of one process. It can't be copied; to let it go closes nothing: the process has it until it ends. As a
+/// block it doesn't know its run.
 #[derive(Debug, Drop)]
 pub struct End {
     rec: u16,
@@ -208,10 +209,10 @@ pub struct Answered {
 }
 
 impl Answered {
-    pub(crate) fn of(p: u16, told: Result<TakenAt, Refused>) -> Result<Answered, Refused>
+    pub(crate) fn of(p: u16, told: Result<AnsweredAt, Refused>) -> Result<Answered, Refused>
         ensures { result ≡ result_map_both (answered_of p) (λ why. why) told }
     {
-        told.map(|TakenAt { at, answer }| Answered {
+        told.map(|AnsweredAt { at, answer }| Answered {
             at,
             answer: answer.map(|taken| Message::of(p, taken)),
         })

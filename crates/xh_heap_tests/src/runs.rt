@@ -7,11 +7,11 @@ use xh_heap::{
 };
 
 /// The first of two waits for messages of the second, which gives two, and ends; the others do nothing.
-struct Waits;
+struct WaitsTwice;
 
 type Heard = Result<[u64; 3], Refused>;
 
-impl Job for Waits {
+impl Job for WaitsTwice {
     type Plan = (End, End);
 
     type Answer = Heard;
@@ -41,7 +41,7 @@ impl Job for Waits {
 fn a_dropped_handle_ends_its_process(rt: HostRuntime) {
     const LEDGER: &str =
         "arena 0 1024 0 1 112 112\nprocess 0 ended 0 0\nprocess 1 ended 0 0\nowned 0\nflight 0\nout 0";
-    let closed = run(&rt, rt.alloc(), one_arena(1024), 2, &Waits).expect(&rt, "room");
+    let closed = run(&rt, rt.alloc(), one_arena(1024), 2, &WaitsTwice).expect(&rt, "room");
     assert_eq!(rt; told(closed.answers.first()), [1, 2, 1015]);
     let text = format!(in rt.alloc(); "{closed}").expect(&rt, "room");
     assert_eq!(rt; text.as_str(), LEDGER);
@@ -89,9 +89,9 @@ fn each_does_its_work_once(rt: HostRuntime) {
 /// The first waits for a message of the second, which waits for room toward it, a third at several ends, a fourth for memory. The
 /// last, which waits for a word in vain, sees so at a deadline, and ends the first and the fourth, and so the waits of the others.
 #[derive(Drop)]
-struct Watched<R>(R);
+struct WatchedRun<R>(R);
 
-impl<R: Print + Drop> Job for Watched<R> {
+impl<R: Print + Drop> Job for WatchedRun<R> {
     type Plan = [(End, End); 4];
 
     type Answer = Result<Overview, Refused>;
@@ -135,7 +135,7 @@ fn who_waits_is_seen(rt: HostRuntime) {
     const SEEN: &str =
         "arena 0 1024 256 1 256 0\nprocess 0 running 4 128 awaits message 0 0\nprocess 1 running 2 64 awaits room 1 0\n\
     process 2 running 1 32 awaits messages\nprocess 3 running 0 0 awaits memory 0\nprocess 4 running 1 32\n";
-    let mut closed = run(&rt, rt.alloc(), one_arena(1024), 5, &Watched(&rt)).expect(&rt, "room");
+    let mut closed = run(&rt, rt.alloc(), one_arena(1024), 5, &WatchedRun(&rt)).expect(&rt, "room");
     let seen = closed.answers.pop().expect(&rt, "the last");
     let text = format!(in rt.alloc(); "{}", seen.expect(&rt, "an overview")).expect(&rt, "room");
     assert_eq!(rt; text.as_str(), SEEN);
@@ -144,7 +144,7 @@ fn who_waits_is_seen(rt: HostRuntime) {
 /// A run of which a thread is refused begins no work, and says so. The gate refuses each in turn.
 #[test]
 fn threads_of_a_run(rt: HostRuntime) {
-    match run(&rt, rt.alloc(), one_arena(1024), 5, &Watched(&rt)) {
+    match run(&rt, rt.alloc(), one_arena(1024), 5, &WatchedRun(&rt)) {
         Ok(closed) => assert!(rt; matches!(closed.answers.first(), Some(Err(Refused::Ended)))),
         Err(refused) => {
             assert_eq!(rt; refused.name(), "OutOfMemory");
@@ -166,7 +166,7 @@ fn limits_of_runs(rt: HostRuntime) {
         (1024, 32, 0),
     ];
     for (bytes, count, expected) in LIMITS {
-        let ran = run(&rt, rt.alloc(), one_arena(*bytes), *count, &Waits);
+        let ran = run(&rt, rt.alloc(), one_arena(*bytes), *count, &WaitsTwice);
         assert_eq!(rt; code(ran.map(|_closed| 0)), *expected);
     }
 }
@@ -197,9 +197,9 @@ fn is_whole(rt: &impl Abort, ran: &Result<Closed<(End, End), Heard>, Refused>) -
 /// With a growth refused a run says so, or the worker that asked for it; the next run is whole.
 #[test]
 fn growths_of_a_run(rt: HostRuntime) {
-    let first = run(&rt, rt.alloc(), one_arena(1024), 2, &Waits);
+    let first = run(&rt, rt.alloc(), one_arena(1024), 2, &WaitsTwice);
     if !is_whole(&rt, &first) {
-        let second = run(&rt, rt.alloc(), one_arena(1024), 2, &Waits);
+        let second = run(&rt, rt.alloc(), one_arena(1024), 2, &WaitsTwice);
         assert!(rt; is_whole(&rt, &second));
     }
 }

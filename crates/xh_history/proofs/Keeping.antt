@@ -11,9 +11,9 @@ use Rattle.atomic_table.specs.Seated.{TableId}
 use Rattle.atomic_table.proofs.Lists.{at_set, set_else}
 use Rattle.xh_history.specs.declared.view.View.{View}
 use Rattle.xh_model.specs.declared.limits.TheConstants.{PLACES}
-use Rattle.xh_history.specs.Histories.{History, HasSeen, Shown, StartsWith, calls_of, at, last_of}
-use Rattle.xh_history.specs.inner.Views.{Fits, IsFront, IsFrontOrNone, IsKept, Looked, front_of, Serves, Writes, both, first_view, place_alone, signed, spent, with_calls, without_place, without_worker}
-use Rattle.xh_history.specs.inner.Views.{all_words, onlooker, place_of, stride, worker_alone}
+use Rattle.xh_history.specs.Histories.{History, HasSeen, IsLastShown, StartsWith, calls_of, at, last_of}
+use Rattle.xh_history.specs.inner.Views.{Fits, IsFront, IsFrontOrNone, AreKeptHistories, Looked, front_of, Serves, WritesPlace, both, first_view, place_alone, signed, spent, with_calls, without_place, without_worker}
+use Rattle.xh_history.specs.inner.Views.{all_words, onlooker, place_of_word, stride, worker_alone}
 
 -- the function with another value at one number
 abbrev but : {A : Type 0} → (ℕ → A) → ℕ → A → ℕ → A
@@ -94,10 +94,10 @@ module _ {E : Type 0} (shows : ℕ → ℕ → E → Type 0) where
   starts_on a b c x y = (y.0 ++ x.0, x.1 ∙ ap (λ (l : History E). l ++ x.0) y.1 ∙ append_assoc c y.0 x.0)
 
   -- A step after which a seat has seen the history of a place to its end, to which more came, or nothing. Nothing came where another seat writes the place, and no call of a worker whom another serves.
-  extends : {S : Type 0} (s : State S (View E)) (told : IsKept shows s) (id word : ℕ) (me : Me S (View E)) (p m : ℕ) (mine new more : History E) → get_elem? s.views id ≡ some me.0
-      → word ≡ stride * suc p → p < PLACES → p < length me.0.fronts → new ≡ told.0 p ++ more → Shown shows p new m → ((q : ℕ) → Writes me.0 q → mine ≡ but told.0 p new q)
-      → ((j : ℕ) (u : View E) → j ≢ id → Fits told.0 told.1 told.2 j u → (Writes u p → more ≡ []) × ((k : ℕ) → Serves u k → calls_of k more ≡ []))
-      → IsKept shows (stepped s word m id me.1 (record me.0 { history = mine; fronts = slice_set me.0.fronts p new }) keeps)
+  extends : {S : Type 0} (s : State S (View E)) (told : AreKeptHistories shows s) (id word : ℕ) (me : Me S (View E)) (p m : ℕ) (mine new more : History E) → get_elem? s.views id ≡ some me.0
+      → word ≡ stride * suc p → p < PLACES → p < length me.0.fronts → new ≡ told.0 p ++ more → IsLastShown shows p new m → ((q : ℕ) → WritesPlace me.0 q → mine ≡ but told.0 p new q)
+      → ((j : ℕ) (u : View E) → j ≢ id → Fits told.0 told.1 told.2 j u → (WritesPlace u p → more ≡ []) × ((k : ℕ) → Serves u k → calls_of k more ≡ []))
+      → AreKeptHistories shows (stepped s word m id me.1 (record me.0 { history = mine; fronts = slice_set me.0.fronts p new }) keeps)
   extends s told id word me p m mine new more here aligned inside long longer shown whole apart =
       let v : View E = me.0 in
       let h = told.0 in
@@ -115,39 +115,39 @@ module _ {E : Type 0} (shows : ℕ → ℕ → E → Type 0) where
         server = f.server;
       } in
       let other : (j : ℕ) (u : View E) → j ≢ id → get_elem? s.views j ≡ some u → Fits h' told.1 told.2 j u = λ j u ne e. let g = told.4 j u e in let t = apart j u ne g in record {
-        whole = at_each (λ q x. Writes u q → u.history ≡ x) h p new (λ st. g.whole p st ∙ sym (longer ∙ ap (λ (l : History E). h p ++ l) (t.0 st) ∙ append-nil (h p))) (λ q _. g.whole q);
+        whole = at_each (λ q x. WritesPlace u q → u.history ≡ x) h p new (λ st. g.whole p st ∙ sym (longer ∙ ap (λ (l : History E). h p ++ l) (t.0 st) ∙ append-nil (h p))) (λ q _. g.whole q);
         writer = g.writer;
         begun = at_each (λ q x. StartsWith x (at u.fronts q)) h p new (starts_on new (h p) (at u.fronts p) (more, longer) (g.begun p)) (λ q _. g.begun q);
         seen = λ k sv. at_each (λ q x. HasSeen k (at u.fronts q) x) h p new
             (subst (HasSeen k (at u.fronts p)) (sym longer) (sees_more k (at u.fronts p) (h p) more (g.seen k sv p) (t.1 k sv))) (λ q _. g.seen k sv q);
         server = g.server;
       } in
-      let last = at_each (λ q x. q < PLACES → Shown shows q x (get_or (set s.words word m) (stride * suc q) 0)) h p new
-      (λ _. subst (λ (i : ℕ). Shown shows p new (get_or (set s.words word m) i 0)) aligned (subst (Shown shows p new) (sym (get_or-set_same s.words word m 0 (omega (arith, told.3.0, aligned, inside)))) shown))
-      (λ q ne below. subst (Shown shows q (h q)) (sym (get_or-set_other s.words word (stride * suc q) m 0 (λ e. ne (omega (arith, e, aligned))))) (told.3.1 q below)) in
+      let last = at_each (λ q x. q < PLACES → IsLastShown shows q x (get_or (set s.words word m) (stride * suc q) 0)) h p new
+      (λ _. subst (λ (i : ℕ). IsLastShown shows p new (get_or (set s.words word m) i 0)) aligned (subst (IsLastShown shows p new) (sym (get_or-set_same s.words word m 0 (omega (arith, told.3.0, aligned, inside)))) shown))
+      (λ q ne below. subst (IsLastShown shows q (h q)) (sym (get_or-set_other s.words word (stride * suc q) m 0 (λ e. ne (omega (arith, e, aligned))))) (told.3.1 q below)) in
       (h', told.1, told.2, (length-set s.words word m ∙ told.3.0, last), set_each (Fits h' told.1 told.2) s.views id w own other)
 
   -- a step by which the worker's calls come to the history of the place, whose word is kept or becomes another, and shows the last of them
   pub adds : {S : Type 0} (slots id word : ℕ) (f : ℕ → ℕ) (me : Me S (View E)) (es : List E) → word ≡ stride * suc me.0.place → me.0.places_end ≡ suc me.0.place → me.0.workers_end ≡ suc me.0.worker
       → me.0.place < PLACES → length me.0.fronts ≡ PLACES
-      → ((n : ℕ) → Shown shows me.0.place me.0.history n → Shown shows me.0.place (me.0.history ++ signed me.0.worker es) (f n))
-      → Allows (IsKept shows) slots id me word f (λ n w. (w ≡ (with_calls es me.0, me.1)) × HasSeen me.0.worker (at me.0.fronts me.0.place) me.0.history)
+      → ((n : ℕ) → IsLastShown shows me.0.place me.0.history n → IsLastShown shows me.0.place (me.0.history ++ signed me.0.worker es) (f n))
+      → Allows (AreKeptHistories shows) slots id me word f (λ n w. (w ≡ (with_calls es me.0, me.1)) × HasSeen me.0.worker (at me.0.fronts me.0.place) me.0.history)
   adds slots id word f me es aligned one_place one_worker inside long shown s told len here fits =
       let v : View E = me.0 in
       let p : ℕ = v.place in
       let k : ℕ = v.worker in
       let n : ℕ = get_or s.words word 0 in
       let mine = told.4 id v here in
-      let writes : Writes v p = (omega arith, omega (arith, one_place)) in
+      let writes : WritesPlace v p = (omega arith, omega (arith, one_place)) in
       let serves : Serves v k = (omega arith, omega (arith, one_worker)) in
       let whole = mine.whole p writes in
       let new : History E = v.history ++ signed k es in
-      let before : Shown shows p v.history n = subst (λ (x : History E). Shown shows p x n) (sym whole) (subst (λ (m : ℕ). Shown shows p (told.0 p) (get_or s.words m 0)) (sym aligned) (told.3.1 p inside)) in (
+      let before : IsLastShown shows p v.history n = subst (λ (x : History E). IsLastShown shows p x n) (sym whole) (subst (λ (m : ℕ). IsLastShown shows p (told.0 p) (get_or s.words m 0)) (sym aligned) (told.3.1 p inside)) in (
         with_calls es v,
         keeps,
         tt,
         extends s told id word me p (f n) new new (signed k es) here aligned inside (omega (arith, inside, long)) (ap (λ (l : History E). l ++ signed k es) whole) (shown n before)
-            (at_each (λ q x. Writes v q → new ≡ x) told.0 p new (λ _. refl) (λ q ne st. absurd (ne (omega (arith, st.0, st.1, one_place)))))
+            (at_each (λ q x. WritesPlace v q → new ≡ x) told.0 p new (λ _. refl) (λ q ne st. absurd (ne (omega (arith, st.0, st.1, one_place)))))
             (λ j u ne g. (
               λ st. absurd (ne (g.writer p st ∙ sym (mine.writer p writes))),
               λ j' sv. others_calls k j' es (λ same. ne (g.server j' sv ∙ ap told.2 (sym same) ∙ sym (mine.server k serves))),
@@ -156,34 +156,34 @@ module _ {E : Type 0} (shows : ℕ → ℕ → E → Type 0) where
       )
 
   -- a look at a place's word
-  pub looks : {S : Type 0} (slots id word : ℕ) (me : Me S (View E)) → word ≡ stride * suc (place_of word) → place_of word < PLACES → length me.0.fronts ≡ PLACES
-      → Allows (IsKept shows) slots id me word (λ n. n) (Looked shows (step slots word 0 0 none) me)
+  pub looks : {S : Type 0} (slots id word : ℕ) (me : Me S (View E)) → word ≡ stride * suc (place_of_word word) → place_of_word word < PLACES → length me.0.fronts ≡ PLACES
+      → Allows (AreKeptHistories shows) slots id me word (λ n. n) (Looked shows (step slots word 0 0 none) me)
   looks slots id word me aligned inside long s told len here fits =
       let v : View E = me.0 in
-      let p : ℕ = place_of word in
+      let p : ℕ = place_of_word word in
       let mine = told.4 id v here in
       let later = (mine.begun p).0 in
       let new : History E = at v.fronts p ++ later in
       let there : new ≡ told.0 p = sym (mine.begun p).1 in
-      let whole : Writes v p → v.history ≡ new = λ st. mine.whole p st ∙ sym there in
-      let shown : Shown shows p new (get_or s.words word 0) = subst (λ (x : History E). Shown shows p x (get_or s.words word 0)) (sym there)
-      (subst (λ (m : ℕ). Shown shows p (told.0 p) (get_or s.words m 0)) (sym aligned) (told.3.1 p inside)) in (
+      let whole : WritesPlace v p → v.history ≡ new = λ st. mine.whole p st ∙ sym there in
+      let shown : IsLastShown shows p new (get_or s.words word 0) = subst (λ (x : History E). IsLastShown shows p x (get_or s.words word 0)) (sym there)
+      (subst (λ (m : ℕ). IsLastShown shows p (told.0 p) (get_or s.words m 0)) (sym aligned) (told.3.1 p inside)) in (
         record v { fronts = slice_set v.fronts p new },
         keeps,
         tt,
         extends s told id word me p (get_or s.words word 0) v.history new [] here aligned inside (omega (arith, inside, long)) (there ∙ sym (append-nil (told.0 p))) shown
-            (at_each (λ q x. Writes v q → v.history ≡ x) told.0 p new whole (λ q _. mine.whole q)) (λ j u ne g. (λ _. refl, λ k sv. refl)),
+            (at_each (λ q x. WritesPlace v q → v.history ≡ x) told.0 p new whole (λ q _. mine.whole q)) (λ j u ne g. (λ _. refl, λ k sv. refl)),
         (later, refl, shown, whole, λ k sv. subst (HasSeen k (at v.fronts p)) (sym there) (mine.seen k sv p)),
       )
 
   -- what a seat has of another's view
   record Part (u v : View E) : Type 0 where
-    places : (q : ℕ) → Writes u q → Writes v q × (u.history ≡ v.history)
+    places : (q : ℕ) → WritesPlace u q → WritesPlace v q × (u.history ≡ v.history)
     workers : (k : ℕ) → Serves u k → Serves v k × (u.fronts ≡ v.fronts)
     fronts : (q : ℕ) → StartsWith (at v.fronts q) (at u.fronts q)
 
   part : (h : ℕ → History E) (writer_of server_of writer_of' server_of' : ℕ → ℕ) (id id' : ℕ) (u v : View E) → Part u v → Fits h writer_of server_of id v
-      → ((q : ℕ) → Writes u q → id' ≡ writer_of' q) → ((k : ℕ) → Serves u k → id' ≡ server_of' k) → Fits h writer_of' server_of' id' u
+      → ((q : ℕ) → WritesPlace u q → id' ≡ writer_of' q) → ((k : ℕ) → Serves u k → id' ≡ server_of' k) → Fits h writer_of' server_of' id' u
   part h writer_of server_of writer_of' server_of' id id' u v p f writer server = record {
     whole = λ q st. let t = p.places q st in t.1 ∙ f.whole q t.0;
     writer = writer;
@@ -193,8 +193,8 @@ module _ {E : Type 0} (shows : ℕ → ℕ → E → Type 0) where
   }
 
   -- a part of a seat's view goes to a new seat
-  splits : {S : Type 0} (id : ℕ) (v left right : View E) → Part left v → Part right v → ((q : ℕ) → Writes left q → Writes right q → ⊥) → ((k : ℕ) → Serves left k → Serves right k → ⊥)
-      → Splits {S = S} (IsKept shows) id v left right
+  splits : {S : Type 0} (id : ℕ) (v left right : View E) → Part left v → Part right v → ((q : ℕ) → WritesPlace left q → WritesPlace right q → ⊥) → ((k : ℕ) → Serves left k → Serves right k → ⊥)
+      → Splits {S = S} (AreKeptHistories shows) id v left right
   splits id v left right l r no_place no_worker s told here =
       let f = told.4 id v here in
       let n = length (set s.views id left) in
@@ -223,28 +223,28 @@ module _ {E : Type 0} (shows : ℕ → ℕ → E → Type 0) where
   all_seen v q = starts_itself (at v.fronts q) (at v.fronts q) refl
 
   -- the first place
-  pub place_splits : {S : Type 0} (id : ℕ) (v : View E) → v.place < v.places_end → Splits {S = S} (IsKept shows) id v (without_place v) (place_alone v)
+  pub place_splits : {S : Type 0} (id : ℕ) (v : View E) → v.place < v.places_end → Splits {S = S} (AreKeptHistories shows) id v (without_place v) (place_alone v)
   place_splits id v some_left = splits id v (without_place v) (place_alone v)
       record { places = λ q st. ((omega (arith, st.0), st.1), refl); workers = λ k sv. (sv, refl); fronts = all_seen v }
       record { places = λ q st. ((st.0, omega (arith, st.1, some_left)), refl); workers = λ k sv. absurd (omega (arith, sv.1)); fronts = λ q. (at v.fronts q, refl) }
       (λ q a b. omega (arith, a.0, b.1)) (λ k a b. omega (arith, b.1))
 
   -- the first worker
-  pub worker_splits : {S : Type 0} (id : ℕ) (v : View E) → v.worker < v.workers_end → Splits {S = S} (IsKept shows) id v (without_worker v) (worker_alone v)
+  pub worker_splits : {S : Type 0} (id : ℕ) (v : View E) → v.worker < v.workers_end → Splits {S = S} (AreKeptHistories shows) id v (without_worker v) (worker_alone v)
   worker_splits id v some_left = splits id v (without_worker v) (worker_alone v)
       record { places = λ q st. (st, refl); workers = λ k sv. ((omega (arith, sv.0), sv.1), refl); fronts = all_seen v }
       record { places = λ q st. absurd (omega (arith, st.1)); workers = λ k sv. ((sv.0, omega (arith, sv.1, some_left)), refl); fronts = all_seen v }
       (λ q a b. omega (arith, b.1)) (λ k a b. omega (arith, a.0, b.1))
 
   -- what was seen alone
-  pub onlooks : {S : Type 0} (id : ℕ) (v : View E) → Splits {S = S} (IsKept shows) id v v (onlooker v)
+  pub onlooks : {S : Type 0} (id : ℕ) (v : View E) → Splits {S = S} (AreKeptHistories shows) id v v (onlooker v)
   onlooks id v = splits id v v (onlooker v)
       record { places = λ q st. (st, refl); workers = λ k sv. (sv, refl); fronts = all_seen v }
       record { places = λ q st. absurd (omega (arith, st.1)); workers = λ k sv. absurd (omega (arith, sv.1)); fronts = all_seen v }
       (λ q a b. omega (arith, b.1)) (λ k a b. omega (arith, b.1))
 
   -- a seat takes in whom another serves, and what that has seen
-  pub joins : {S : Type 0} (id : ℕ) (v : View E) (from : ℕ) (w : View E) → Joins {S = S} (IsKept shows) id v from w (both v w) spent
+  pub joins : {S : Type 0} (id : ℕ) (v : View E) (from : ℕ) (w : View E) → Joins {S = S} (AreKeptHistories shows) id v from w (both v w) spent
   joins id v from w s told here apart there =
       let f = told.4 id v here in
       let g : Fits told.0 told.1 told.2 from w = told.4 from w (sym (set_else s.views id from (both v w) apart) ∙ there) in
@@ -273,7 +273,7 @@ module _ {E : Type 0} (shows : ℕ → ℕ → E → Type 0) where
   empties (suc n) zero = refl
   empties (suc n) (suc p) = empties n p
 
-  pub begins : (S : Type 0) → IsKept shows {S = S} (opening (replicate all_words 0) [] first_view)
+  pub begins : (S : Type 0) → AreKeptHistories shows {S = S} (opening (replicate all_words 0) [] first_view)
   begins S = (
     λ p. [],
     λ p. 0,

@@ -29,8 +29,8 @@ last_of (x ∷ []) = Some x
 last_of (x ∷ y ∷ ys) = last_of (y ∷ ys)
 
 -- The word n of the place p shows the last call of the history, where `shows p n e` says that it shows the call e; before the first call it is 0.
-abbrev pub Shown : {E : Type 0} → (ℕ → ℕ → E → Type 0) → ℕ → History E → ℕ → Type 0
-Shown shows p h n = MatchOption (last_of h) (n ≡ 0) (λ c. shows p n c.1)
+abbrev pub IsLastShown : {E : Type 0} → (ℕ → ℕ → E → Type 0) → ℕ → History E → ℕ → Type 0
+IsLastShown shows p h n = MatchOption (last_of h) (n ≡ 0) (λ c. shows p n c.1)
 
 -- the table, the place whose history the pen writes, and the whole of it
 pub record PenOf (E : Type 0) : Type 0 where
@@ -63,7 +63,7 @@ fresh_look id = record { table = id; fronts = replicate PLACES [] }
 
 -- the look saw the history of the place p to its end, and of the others what it had seen; the word n shows the last call
 abbrev pub Sees : {E : Type 0} → (ℕ → ℕ → E → Type 0) → List (History E) → ℕ → ℕ → List (History E) → Type 0
-Sees {E} shows before p n after = (later : History E) × (after ≡ slice_set before p (at before p ++ later)) × Shown shows p (at after p) n
+Sees {E} shows before p n after = (later : History E) × (after ≡ slice_set before p (at before p ++ later)) × IsLastShown shows p (at after p) n
 
 -- the name of no table
 abbrev pub no_table : TableId

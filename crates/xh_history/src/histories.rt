@@ -1,7 +1,7 @@
 //! The table of histories.
-ghost use Rattle.std.specs.Prelude.{◌≡◌, ◌<◌, ◌∷◌, [], ◌++◌, ◌+◌, ◌*◌, All, ℕ, suc, IfOk, vec_len, slice_index_or, slice_set, unwrap_or};
-ghost use Rattle.xh_history.specs.Histories.{FrontOf, HasSeen, PenOf, Sees, Shown, StartsWith, at, fresh_front, fresh_look, fresh_pen};
-ghost use Rattle.xh_history.specs.inner.Views.{place_of, signed, stride, view_from};
+ghost use Rattle.std.specs.Prelude.{◌≡◌, ◌<◌, ◌∷◌, [], ◌++◌, ◌*◌, All, ℕ, suc, IfOk, vec_len, slice_index_or, slice_set, unwrap_or};
+ghost use Rattle.xh_history.specs.Histories.{FrontOf, HasSeen, PenOf, Sees, IsLastShown, StartsWith, at, fresh_front, fresh_look, fresh_pen};
+ghost use Rattle.xh_history.specs.inner.Views.{ShowsNext, place_of_word, signed, stride};
 ghost use Rattle.xh_model.specs.declared.limits.TheConstants.{PLACES};
 
 use crate::seats::{Front, Look, Pen};
@@ -23,7 +23,7 @@ const STRIDE: usize = 8;
 fn word_at(place: u8) -> usize
     requires { place < PLACES }
     ensures word { result ≡ stride * suc place }
-    ensures place { place_of result ≡ place }
+    ensures place { place_of_word result ≡ place }
 {
     (usize::from(place) + 1) * STRIDE
 }
@@ -89,8 +89,7 @@ impl<E, S: Shows<E>> Histories<E, S> {
     #[tactic(auto, using(crate::proofs::Keeping::joins, crate::proofs::Keeping::worker_splits))]
     fn step<C: Says<E>>(&self, pen: &mut Pen<E>, front: &mut Front<E>, word: Option<u64>)
         requires tables { (pen.old.table ≡ self.now) × (front.old.table ≡ self.now) }
-        requires shown { (n : ℕ) → Shown S.shows pen.old.number pen.old.history n
-            → Shown S.shows pen.old.number (pen.old.history ++ signed front.old.number C.calls) (unwrap_or word n) }
+        requires shown { ShowsNext S.shows pen.old.number pen.old.history (pen.old.history ++ signed front.old.number C.calls) word }
         ensures pen { pen.new ≡ record pen.old { history = pen.old.history ++ signed front.old.number C.calls } }
         ensures front { front.new ≡ record front.old { fronts = slice_set front.old.fronts pen.old.number pen.new.history } }
         ensures seen { HasSeen front.old.number (at front.old.fronts pen.old.number) pen.old.history }
@@ -128,7 +127,7 @@ impl<E, S: Shows<E>> Histories<E, S> {
     pub fn add<A>(&self, pen: &mut Pen<E>, front: &mut Front<E>, word: Option<u64>, _about: &A)
         ghost call: { E }
         requires tables { (pen.old.table ≡ self.now) × (front.old.table ≡ self.now) }
-        requires shown { (n : ℕ) → Shown S.shows pen.old.number pen.old.history n → S.shows pen.old.number (unwrap_or word n) call }
+        requires shown { (n : ℕ) → IsLastShown S.shows pen.old.number pen.old.history n → S.shows pen.old.number (unwrap_or word n) call }
         ensures pen { pen.new ≡ record pen.old { history = pen.old.history ++ (front.old.number, call) ∷ [] } }
         ensures front { front.new ≡ record front.old { fronts = slice_set front.old.fronts pen.old.number pen.new.history } }
         ensures seen { HasSeen front.old.number (at front.old.fronts pen.old.number) pen.old.history }

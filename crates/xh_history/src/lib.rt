@@ -9,5 +9,5 @@ mod view;
 
 pub use histories::Histories;
 pub use seats::{Front, Look, Pen};
-pub use steps::{Nothing, Shows};
+pub use steps::{NobodyLooks, Shows};
 pub use view::View;

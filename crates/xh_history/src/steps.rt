@@ -12,9 +12,9 @@ pub trait Shows<E> {
 }
 
 /// Each word does: nobody looks.
-pub struct Nothing;
+pub struct NobodyLooks;
 
-impl<E> Shows<E> for Nothing {
+impl<E> Shows<E> for NobodyLooks {
     ghost shows = { λ _ _ _. Unit {0} };
 }
 
@@ -23,9 +23,9 @@ pub struct OneHistory<S> {
 }
 
 impl<E, S: Shows<E>> TableRule<(), View<E>, ()> for OneHistory<S> {
-    ghost use Rattle.xh_history.specs.inner.Views.{IsKept, first_view};
+    ghost use Rattle.xh_history.specs.inner.Views.{AreKeptHistories, first_view};
 
-    ghost holds = { λ _ s. IsKept S.shows s };
+    ghost holds = { λ _ s. AreKeptHistories S.shows s };
 
     ghost first = { λ _. first_view };
 }

@@ -1,7 +1,7 @@
 -- The names that most proofs cite, passed on from one place. Declares nothing.
-pub use Rattle.std.proofs.Common.{All, Err, IfErr, List, MatchResult, Ok, OnErr, OnOk, Result, Some, [], ap, append-nil, arith, drop, false, get_or, get_or-set_other, length, refl, rules, set}
+pub use Rattle.std.proofs.Common.{All, Err, IfErr, List, MatchResult, Ok, OnOk, Result, Some, [], ap, append-nil, arith, drop, false, get_or, get_or-set_other, length, refl, rules, set}
 pub use Rattle.std.proofs.Common.{slice_index_or, slice_set, subst, suc, sym, true, vec_len, ℕ, ◌*◌, ◌++◌, ◌+◌, ◌-◌, ◌<◌, ◌∙◌, ◌∷◌, ◌≡◌, ◌≤◌}
-pub use Rattle.std.proofs.lemmas.List.{get_or-map, get_or_default, map-set, set-get_or}
+pub use Rattle.std.proofs.lemmas.List.{get_or_default, map-set, set-get_or}
 pub use Rattle.std.proofs.lemmas.List.Elements.{All-cons, All-tail}
 pub use Rattle.std.specs.Vec.Iter.{into_iter_items, into_iter_len}
 pub use Rattle.xh_arena.specs.Views.{TallyOf, VaultOf}
@@ -15,10 +15,10 @@ pub use Rattle.xh_calls.specs.Leading.{Leading}
 pub use Rattle.xh_calls.specs.Places.{status_at}
 pub use Rattle.xh_place.proofs.Events.{stays_again, stays_itself}
 pub use Rattle.xh_place.proofs.Seeing.{did_starts}
-pub use Rattle.xh_kernel.specs.Accounts.{AccountOf, AreFresh, IsStill, IsUnmoved, seen_of}
-pub use Rattle.xh_kernel.specs.Calls.{Calls, Noted, Steps}
+pub use Rattle.xh_kernel.specs.Accounts.{AccountOf, AreFresh, IsStill}
+pub use Rattle.xh_kernel.specs.Calls.{Calls, Steps}
 pub use Rattle.xh_kernel.specs.Did.{DidGive, DidTake, DidTakeAny}
-pub use Rattle.xh_kernel.specs.Finished.{AreInOrder, AreSeen, LookHasSeen, histories_of, tallies_of}
+pub use Rattle.xh_kernel.specs.Finished.{AreInOrder, tallies_of}
 pub use Rattle.xh_kernel.specs.Histories.{Does, Goes, IsHistoryOf, IsLaw, IsUnowned, Leads}
 pub use Rattle.xh_kernel.specs.Kept.{AreKept, IsKeptPlace}
 pub use Rattle.xh_kernel.specs.Places.{IsFound, last_glance, places_of}

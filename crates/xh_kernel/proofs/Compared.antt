@@ -1,33 +1,37 @@
 -- Comparing what workers have seen with the pens of the places, place by place and worker by worker.
-use Rattle.xh_kernel.proofs.Common.{AccountOf, All, All-cons, AreInOrder, AreKept, Entry, HasSeen, History, IsUnmoved, List, PartsOf, PenOf, PlaceSeen, [], ap, arith, at, below_more, get_or}
-use Rattle.xh_kernel.proofs.Common.{get_or-map, get_or-set_other, histories_of, length, map-set, set, set-get_or, slice_set, subst, sym, tallies_of, ℕ, ◌+◌, ◌<◌, ◌∙◌, ◌∷◌, ◌≡◌, ◌≤◌}
+use Rattle.xh_kernel.proofs.Common.{AccountOf, All, All-cons, AreKept, Entry, HasSeen, History, List, LookOf, PartsOf, PenOf, PlaceSeen, StartsWith, [], ap, arith, at, below_more, get_or}
+use Rattle.xh_kernel.proofs.Common.{get_or-set_other, map-set, set, set-get_or, slice_set, subst, sym, tallies_of, ℕ, ◌+◌, ◌<◌, ◌∙◌, ◌∷◌, ◌≡◌, ◌≤◌}
 
 -- the pen is of these parts
 abbrev Own : PartsOf → PenOf Entry → Type 0
 Own parts p = p.table ≡ parts.histories
 
--- the pen of a place, and what it knows, by the place's number
-pub pens_at : (pens : List (PenOf Entry)) → AreInOrder pens → (k : ℕ) (d : PenOf Entry) → k < length pens
-    → ((get_or pens k d).number ≡ k) × ((get_or pens k d).history ≡ at (histories_of pens) k)
-pens_at pens in_order k d h = (in_order.1 k d (omega (arith, h, in_order.0)), sym (get_or-map (λ (p : PenOf Entry). p.history) pens k d [] h))
+-- the account, and the look, has seen a beginning of the history of each pen
+abbrev pub AccountSaw : List (PenOf Entry) → AccountOf → Type 0
+AccountSaw pens a = All (λ p. HasSeen a.number (at a.fronts p.number) p.history) pens
+
+abbrev pub LookSaw : List (PenOf Entry) → LookOf Entry → Type 0
+LookSaw pens l = All (λ p. StartsWith p.history (at l.fronts p.number)) pens
 
 -- ---- an account
 
--- it was compared with the first k places
-pub record SeenSoFar (hs : List (History Entry)) (old now_ : AccountOf) (k : ℕ) : Type 0 where
-  pub unmoved : IsUnmoved old now_
-  pub seen : (p : ℕ) → p < k → HasSeen old.number (at old.fronts p) (at hs p)
+-- it was compared with the first k pens, which are those of the first k places
+pub record SeenSoFar (pens : List (PenOf Entry)) (old now_ : AccountOf) (k : ℕ) : Type 0 where
+  pub unmoved : now_ ≡ record old { fronts = now_.fronts }
+  pub seen : (i : ℕ) → i < k → (d : PenOf Entry) → HasSeen old.number (at old.fronts (get_or pens i d).number) (get_or pens i d).history
   pub rest : (p : ℕ) → k ≤ p → at now_.fronts p ≡ at old.fronts p
 
-pub one_seen : (hs : List (History Entry)) (old now_ new : AccountOf) (k n : ℕ) (h : History Entry) → SeenSoFar hs old now_ k → n ≡ k → h ≡ at hs k → HasSeen now_.number (at now_.fronts n) h
-    → IsUnmoved now_ new × (new.fronts ≡ slice_set now_.fronts n h) → SeenSoFar hs old new (k + 1)
-one_seen hs old now_ new k n h s same is seen m =
-    let before : at now_.fronts n ≡ at old.fronts k = ap (at now_.fronts) same ∙ s.rest k (omega arith) in
-    let here : HasSeen old.number (at old.fronts k) (at hs k) =
-    subst (HasSeen old.number (at old.fronts k)) is (subst (λ (j : ℕ). HasSeen j (at old.fronts k) h) s.unmoved.0 (subst (λ (f : History Entry). HasSeen now_.number f h) before seen)) in record {
-      unmoved = (m.0.0 ∙ s.unmoved.0, m.0.1 ∙ s.unmoved.1);
-      seen = below_more (λ p. HasSeen old.number (at old.fronts p) (at hs p)) k s.seen here;
-      rest = λ p le. ap (λ (fs : List (History Entry)). at fs p) m.1 ∙ get_or-set_other now_.fronts n p h [] (λ e. omega (arith, e, same, le)) ∙ s.rest p (omega arith);
+pub one_seen : (pens : List (PenOf Entry)) (old now_ new : AccountOf) (k : ℕ) (pen : PenOf Entry) → SeenSoFar pens old now_ k → pen.number ≡ k → ((d : PenOf Entry) → get_or pens k d ≡ pen)
+    → HasSeen now_.number (at now_.fronts pen.number) pen.history → new ≡ record now_ { fronts = slice_set now_.fronts pen.number pen.history } → SeenSoFar pens old new (k + 1)
+one_seen pens old now_ new k pen s same is seen m =
+    let before : at now_.fronts pen.number ≡ at old.fronts pen.number = s.rest pen.number (omega (arith, same)) in
+    let here : HasSeen old.number (at old.fronts pen.number) pen.history =
+    subst (λ (z : ℕ × History Entry). HasSeen z.0 z.1 pen.history) (λ i. (ap (λ (a : AccountOf). a.number) s.unmoved i, before i)) seen in record {
+      unmoved = m ∙ ap (λ (a : AccountOf). record a { fronts = slice_set now_.fronts pen.number pen.history }) s.unmoved
+          ∙ ap (λ (fs : List (History Entry)). record old { fronts = fs }) (sym (ap (λ (a : AccountOf). a.fronts) m));
+      seen = below_more (λ i. (d : PenOf Entry) → HasSeen old.number (at old.fronts (get_or pens i d).number) (get_or pens i d).history) k s.seen
+          (λ d. subst (λ (p : PenOf Entry). HasSeen old.number (at old.fronts p.number) p.history) (sym (is d)) here);
+      rest = λ p le. ap (λ (a : AccountOf). at a.fronts p) m ∙ get_or-set_other now_.fronts pen.number p pen.history [] (λ e. omega (arith, e, same, le)) ∙ s.rest p (omega arith);
     }
 
 -- ---- all accounts

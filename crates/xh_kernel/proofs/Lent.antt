@@ -1,6 +1,6 @@
 -- A block's bytes in the hands of a function: the entries that tell of it.
-use Rattle.xh_kernel.proofs.Common.{AccountOf, Bool, Call, Calls, Does, Err, IsSamePlace, IsStill, Leading, LendsAll, LendsAllMut, List, None, Noted, Ok}
-use Rattle.xh_kernel.proofs.Common.{Option, PartsOf, PlaceSeen, Refused, Result, Some, Stays, Steps, [], ap, append-nil, arith, at, cond, drop, false, length, option_map, place_of, status_at}
+use Rattle.xh_kernel.proofs.Common.{AccountOf, Bool, Call, Calls, Does, Err, IsSamePlace, IsStill, Leading, LendsAll, LendsAllMut, List, None, Ok}
+use Rattle.xh_kernel.proofs.Common.{Option, PartsOf, PlaceSeen, Refused, Result, Some, Stays, [], ap, append-nil, arith, cond, drop, false, length, option_map, place_of, status_at}
 use Rattle.xh_kernel.proofs.Common.{subst, sym, unwrap_or, ℕ, ◌++◌, ◌+◌, ◌∙◌, ◌∷◌, ◌≡◌, ◌≤◌}
 use Rattle.xh_kernel.proofs.Recorded.{at_step}
 use Rattle.std.proofs.Common.{nat_lt}
@@ -13,7 +13,6 @@ use Rattle.xh_core.specs.Calls.{range_tests, start}
 use Rattle.xh_core.specs.Refusing.{Tests, first_refusal}
 use Rattle.xh_core.specs.declared.header.Header.{Header}
 use Rattle.xh_core.specs.declared.refused.Refused.TheVariants.{BadRange}
-use Rattle.xh_kernel.specs.Calls.{Moves}
 use Rattle.xh_model.proofs.Keyed.{put_at}
 use Rattle.xh_model.specs.Keyed.{put, value_at}
 use Rattle.xh_place.specs.Bodies.{bytes, patched}
@@ -111,24 +110,22 @@ module _ {F A : Type 0} (g : Mut F (MutBor (List ℕ) × Unit {0}) (A × (MutBor
 module _ (parts : PartsOf) (leads : Leading) (p r : ℕ) where
   -- the call was written down on the process's place, which was `was` before it and `now` after it
   abbrev pub IsNoted : Call → PlaceSeen → PlaceSeen → AccountOf → AccountOf → Type 0
-  IsNoted e was now_ from to = Noted (place_of p) e from.number from.fronts to.fronts × IsStill from to
-      × Steps leads (place_of p) (at to.fronts (place_of p)) (λ old new. (old ≡ was) × (new ≡ now_))
+  IsNoted e was now_ = Calls leads (place_of p) e IsStill (λ old new. (old ≡ was) × (new ≡ now_))
 
-  noted : {e : Call} {was now_ : PlaceSeen} (R : PlaceSeen → PlaceSeen → Type 0) (from to : AccountOf) → IsNoted e was now_ from to → Moves e from to → R was now_
-      → Calls leads (place_of p) e R from to
-  noted {e} {was} {now_} R from to n moves so = ((n.0, moves), at_step leads _ _ R was now_ so n.2)
+  noted : {e : Call} {was now_ : PlaceSeen} (R : PlaceSeen → PlaceSeen → Type 0) (from to : AccountOf) → IsNoted e was now_ from to → R was now_ → Calls leads (place_of p) e IsStill R from to
+  noted {e} {was} {now_} R from to n so = (n.0, n.1, n.2, at_step leads _ _ R was now_ so n.3)
 
   -- of the bytes that a function had
   pub lends : {F A : Type 0} (g : Mut F (Bor (List ℕ) × Unit {0}) A) (f f' : F) (old new : PlaceSeen) (from to : AccountOf) (result : Result A Refused)
       → Lends g (status_at p old.place) r f f' old new result → IsNoted (read_of p r new.place result) old new from to → LendsAll leads g p r f f' from to result
   lends g f f' old new from to (Ok a) h n =
-      let s = has_shown g parts p r f f' old new a h in (bytes_at r new.place, noted _ from to n n.1 (did_read g parts p r f f' old new (Ok a) h, s.0), s.1)
-  lends g f f' old new from to (Err why) h n = (noted _ from to n n.1 (did_read g parts p r f f' old new (Err why) h), h.uncalled)
+      let s = has_shown g parts p r f f' old new a h in (bytes_at r new.place, noted _ from to n (did_read g parts p r f f' old new (Ok a) h, s.0), s.1)
+  lends g f f' old new from to (Err why) h n = (noted _ from to n (did_read g parts p r f f' old new (Err why) h), h.uncalled)
 
   -- of the bytes that a function had, and of what it left
   pub lends_mut : {F A : Type 0} (g : Mut F (MutBor (List ℕ) × Unit {0}) (A × (MutBor (List ℕ) × Unit {0}))) (f f' : F) (old new : PlaceSeen) (from to : AccountOf) (result : Result A Refused)
       → LendsMut g (status_at p old.place) r f f' old new result → IsNoted (write_of p r new.place result) old new from to → LendsAllMut leads g p r f f' from to result
   lends_mut g f f' old new from to (Ok a) h n =
       let s = has_changed g parts p r f f' old new a h in
-      (s.0, bytes_at r new.place, noted _ from to n n.1 (s.1, did_write g parts p r f f' old new (Ok a) h, s.2), s.3)
-  lends_mut g f f' old new from to (Err why) h n = (noted _ from to n n.1 (did_write g parts p r f f' old new (Err why) h), h.uncalled)
+      (s.0, bytes_at r new.place, noted _ from to n (s.1, did_write g parts p r f f' old new (Ok a) h, s.2), s.3)
+  lends_mut g f f' old new from to (Err why) h n = (noted _ from to n (did_write g parts p r f f' old new (Err why) h), h.uncalled)

@@ -72,6 +72,10 @@ LeadsToPlace parts k h place = (first : PlaceSeen) × IsUnowned parts k first ×
 abbrev pub IsHistoryOf : PartsOf → Leading
 IsHistoryOf parts k h place = ∥ LeadsToPlace parts k h place ∥₁
 
+-- the history leads to a place of which the call makes this one, which has forgotten nothing
+abbrev pub ComesTo : PartsOf → ℕ → History Entry → Call → PlaceSeen → Type 0
+ComesTo parts k h call new = (from : PlaceSeen) × IsHistoryOf parts k h from × Does parts call from new × StartsWith new.front from.front
+
 -- histories lead where the law says, and nowhere else
 abbrev pub IsLaw : PartsOf → Leading → Type 0
 IsLaw parts leads = (k : ℕ) (h : History Entry) (place : PlaceSeen) → (IsHistoryOf parts k h place → ∥ leads k h place ∥₁) × (∥ leads k h place ∥₁ → IsHistoryOf parts k h place)

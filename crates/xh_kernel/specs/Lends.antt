@@ -6,7 +6,7 @@ use Rattle.xh_calls.specs.Leading.{Leading}
 use Rattle.xh_calls.specs.Places.{status_at}
 use Rattle.xh_calls.specs.declared.call.Call.TheVariants as call
 use Rattle.xh_core.specs.declared.refused.Refused.{Refused}
-use Rattle.xh_kernel.specs.Accounts.{AccountOf}
+use Rattle.xh_kernel.specs.Accounts.{AccountOf, IsStill}
 use Rattle.xh_kernel.specs.Calls.{Calls}
 use Rattle.xh_kernel.specs.Did.{DidRead, DidWrite}
 use Rattle.xh_model.specs.Words.{place_of}
@@ -14,11 +14,11 @@ use Rattle.xh_place.specs.Calls.{HasBytes, Reads, Writes}
 
 -- the worker read the whole block: these are its bytes, and no others
 abbrev pub DidReadAll : Leading → (p r : ℕ) → List ℕ → AccountOf → AccountOf → Type 0
-DidReadAll leads p r xs = Calls leads (place_of p) (call.Read p r 0 xs (Ok tt)) (λ from to. Reads (status_at p from.place) r 0 xs from to (Ok tt) × HasBytes r to.place xs)
+DidReadAll leads p r xs = Calls leads (place_of p) (call.Read p r 0 xs (Ok tt)) IsStill (λ from to. Reads (status_at p from.place) r 0 xs from to (Ok tt) × HasBytes r to.place xs)
 
 -- it wrote the one over the other, which was the whole block
 abbrev pub DidWriteAll : Leading → (p r : ℕ) → List ℕ → List ℕ → AccountOf → AccountOf → Type 0
-DidWriteAll leads p r shown left = Calls leads (place_of p) (call.Write p r 0 left (Ok tt))
+DidWriteAll leads p r shown left = Calls leads (place_of p) (call.Write p r 0 left (Ok tt)) IsStill
     (λ from to. HasBytes r from.place shown × Writes (status_at p from.place) r 0 left from to (Ok tt) × HasBytes r to.place left)
 
 -- the worker read the whole block, and one call of the function had these bytes; or the refusal of a read of no bytes

@@ -6,7 +6,7 @@ use Rattle.xh_calls.specs.Calls.{Spawns}
 use Rattle.xh_calls.specs.declared.call.Call.TheVariants.{Spawn}
 use Rattle.xh_calls.specs.Leading.{Leading}
 use Rattle.xh_calls.specs.Parts.{PartsOf}
-use Rattle.xh_kernel.specs.Accounts.{AccountOf}
+use Rattle.xh_kernel.specs.Accounts.{AccountOf, IsStill}
 use Rattle.xh_kernel.specs.Calls.{Calls}
 use Rattle.xh_model.specs.declared.limits.TheConstants.{PLACES}
 
@@ -15,12 +15,12 @@ use Rattle.xh_model.specs.declared.limits.TheConstants.{PLACES}
 -- the worker asked the first k places in their order, and none could start one
 abbrev pub AskedAll : PartsOf → Leading → ℕ → AccountOf → AccountOf → Type 0
 AskedAll parts leads zero old new = new ≡ old
-AskedAll parts leads (suc k) old new = (mid : AccountOf) × AskedAll parts leads k old mid × Calls leads k (Spawn None) (λ from to. Spawns parts.generations from to None) mid new
+AskedAll parts leads (suc k) old new = (mid : AccountOf) × AskedAll parts leads k old mid × Calls leads k (Spawn None) IsStill (λ from to. Spawns parts.generations from to None) mid new
 
 -- the answer is that of the first place that could start a process, or none of them could
 abbrev pub SpawnsAt : PartsOf → Leading → AccountOf → AccountOf → Result ℕ Refused → Type 0
 SpawnsAt parts leads old new result = MatchResult result
-    (λ p. (k : ℕ) × (mid : AccountOf) × (k < PLACES) × AskedAll parts leads k old mid × Calls leads k (Spawn (Some p)) (λ from to. Spawns parts.generations from to (Some p)) mid new)
+    (λ p. (k : ℕ) × (mid : AccountOf) × (k < PLACES) × AskedAll parts leads k old mid × Calls leads k (Spawn (Some p)) IsStill (λ from to. Spawns parts.generations from to (Some p)) mid new)
     (λ _. AskedAll parts leads PLACES old new)
 
 -- ---- waiting

@@ -2,7 +2,7 @@
 ghost use Rattle.std.specs.Prelude.{◌≡◌, ◌<◌, slice_get, slice_set};
 ghost use Rattle.xh_calls.specs.inner.Making.{AreFreshTallies};
 ghost use Rattle.xh_history.specs.Histories.{HasSeen, at, fresh_front};
-ghost use Rattle.xh_kernel.specs.Accounts.{IsUnmoved, fresh, moved_of};
+ghost use Rattle.xh_kernel.specs.Accounts.{fresh, moved_of};
 ghost use Rattle.xh_place.specs.Tallies.{ids_of};
 
 use crate::words::Glances;
@@ -30,7 +30,7 @@ impl<N: Names> Model for Account<N> {
 
     ghost Value = { AccountOf };
 
-    ghost view = { λ a. record { number = a.number; tallies = a.till.tallies.items; fronts = a.front.fronts; signs = a.till.seen.number; vaults = a.till.seen.fronts } };
+    ghost view = { λ a. record { number = a.number; tallies = a.till.tallies.items; fronts = a.front.fronts; vaults = a.till.seen } };
 
     ghost invariant = { λ a. IsTillOf N.parts a.till × (a.front.table ≡ N.parts.histories) × (a.front.number ≡ a.number) × (a.number < N.parts.workers) };
 }
@@ -42,7 +42,7 @@ impl<N: Names> Account<N> {
         requires front { front ≡ fresh_front N.parts.histories bundle.number }
         requires seen { seen ≡ fresh_front N.parts.vaults bundle.number }
         requires worker { bundle.number < N.parts.workers }
-        ensures { result ≡ fresh N.parts.records.shape.names bundle.number }
+        ensures { result ≡ fresh N.parts bundle.number }
     {
         Account {
             number: bundle.number,
@@ -86,7 +86,7 @@ impl<N: Names> Account<N> {
         requires pen { pen.old.table ≡ N.parts.histories }
         ensures pen { pen.new ≡ pen.old }
         ensures seen { HasSeen self.old.number (at self.old.fronts pen.old.number) pen.old.history }
-        ensures account { IsUnmoved self.old self.new × (self.new.fronts ≡ slice_set self.old.fronts pen.old.number pen.old.history) }
+        ensures account { self.new ≡ record self.old { fronts = slice_set self.old.fronts pen.old.number pen.old.history } }
     {
         histories.compare(pen, &mut self.front);
     }

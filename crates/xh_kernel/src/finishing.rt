@@ -1,28 +1,15 @@
-//! What is left of a kernel whose workers are done, and what they have seen.
+//! What the workers of a kernel have seen, once they are done.
 ghost use Rattle.std.specs.Prelude.{◌≡◌, ◌↔◌, All, IfErr, IfOk, true, vec_len};
-ghost use Rattle.xh_kernel.specs.Accounts.{IsUnmoved};
-ghost use Rattle.xh_kernel.specs.Finished.{AreInOrder, AreSeen, LookHasSeen, HaveSeen, histories_of, tallies_of};
+ghost use Rattle.xh_history.specs.Histories.{HasSeen, StartsWith, at};
+ghost use Rattle.xh_kernel.specs.Finished.{AreInOrder, HaveSeen, tallies_of};
 
 use crate::account::Account;
 use crate::parts::Look;
 use crate::words::Glances;
-use xh_arena::Vault;
 use xh_calls::{Entry, Names};
 use xh_core::Refused;
 use xh_history::{Histories, Pen};
 use xh_model::limits::PLACES;
-use xh_place::{Body, Place};
-use xh_records::Records;
-
-/// What is left of a kernel whose workers are done: the vaults by arena, the places by number, which hold all
-/// seats of the records, the records, and the accounts of the workers, who have seen each history to its end.
-#[derive(Drop)]
-pub struct Finished<N: Names> {
-    pub vaults: Vec<Vault>,
-    pub places: Vec<Place>,
-    pub records: Records<Body>,
-    pub accounts: Vec<Account<N>>,
-}
 
 // Whether these are the pens of all places, in order.
 fn are_in_order(pens: &[Pen<Entry>]) -> bool
@@ -47,8 +34,8 @@ fn compare_account<N: Names>(
 )
     requires table { histories.now ≡ N.parts.histories }
     requires pens { All (λ p. p.table ≡ N.parts.histories) pens.old × AreInOrder pens.old }
-    ensures same { (pens.new ≡ pens.old) × IsUnmoved account.old account.new }
-    ensures seen { AreSeen account.old (histories_of pens.old) }
+    ensures same { (pens.new ≡ pens.old) × (account.new ≡ record account.old { fronts = account.new.fronts }) }
+    ensures seen { All (λ p. HasSeen account.old.number (at account.old.fronts p.number) p.history) pens.old }
 {
     for place in 0..pens.len() {
         account.compare(histories, &mut pens[place]);
@@ -64,7 +51,7 @@ fn compare_accounts<N: Names>(
     requires table { histories.now ≡ N.parts.histories }
     requires pens { All (λ p. p.table ≡ N.parts.histories) pens.old × AreInOrder pens.old }
     ensures same { (pens.new ≡ pens.old) × (tallies_of accounts.new ≡ tallies_of accounts.old) }
-    ensures seen { All (λ a. AreSeen a (histories_of pens.old)) accounts.old }
+    ensures seen { All (λ a. All (λ p. HasSeen a.number (at a.fronts p.number) p.history) pens.old) accounts.old }
 {
     for worker in 0..accounts.len() {
         compare_account(histories, pens, &mut accounts[worker]);
@@ -73,10 +60,10 @@ fn compare_accounts<N: Names>(
 
 // Compares a look with the pen of each place.
 fn compare_look(histories: &Histories<Entry, Glances>, pens: &mut [Pen<Entry>], look: &mut Look)
-    requires pens { All (λ p. p.table ≡ histories.now) pens.old × AreInOrder pens.old }
+    requires pens { All (λ p. p.table ≡ histories.now) pens.old }
     requires look { look.old.table ≡ histories.now }
     ensures same { (pens.new ≡ pens.old) × (look.new ≡ look.old) }
-    ensures looked { LookHasSeen (histories_of pens.old) look.old }
+    ensures looked { All (λ p. StartsWith p.history (at look.old.fronts p.number)) pens.old }
 {
     for place in 0..pens.len() {
         histories.compare_look(&mut pens[place], look);
@@ -85,18 +72,19 @@ fn compare_look(histories: &Histories<Entry, Glances>, pens: &mut [Pen<Entry>], 
 
 // Compares all looks.
 fn compare_looks(histories: &Histories<Entry, Glances>, pens: &mut [Pen<Entry>], looks: Vec<Look>)
-    requires pens { All (λ p. p.table ≡ histories.now) pens.old × AreInOrder pens.old }
+    requires pens { All (λ p. p.table ≡ histories.now) pens.old }
     requires looks { All (λ l. l.table ≡ histories.now) looks.items }
-    ensures looked { All (LookHasSeen (histories_of pens.old)) looks.items }
+    ensures looked { All (λ l. All (λ p. StartsWith p.history (at l.fronts p.number)) pens.old) looks.items }
 {
     for mut look in looks {
         compare_look(histories, pens, &mut look);
     }
 }
 
-// The accounts, once each was compared with the pen of each place, as each look was. A kernel keeps its places in
-// order; since no lock tells which place is behind it, that is looked at here, and without it nothing is closed.
-pub(crate) fn compare<N: Names>(
+/// The accounts of a kernel that was settled, once each was compared with the pen of each of its places, as each look was. They
+/// are handed in in any order. A kernel keeps its places in order; since no lock tells which place is behind it, that is looked
+/// at here: else the answer is OutOfMemory.
+pub fn compare<N: Names>(
     histories: &Histories<Entry, Glances>,
     mut pens: Vec<Pen<Entry>>,
     mut accounts: Vec<Account<N>>,

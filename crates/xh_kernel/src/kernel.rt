@@ -1,13 +1,12 @@
 //! The locks of the places, and the calls.
-ghost use Rattle.std.specs.Prelude.{◌≡◌, ◌<◌, ◌≤◌, All, IfErr, IfOk, MatchResult, vec_len};
+ghost use Rattle.std.specs.Prelude.{◌≡◌, ◌<◌, ◌≤◌, All, IfErr, IfOk, vec_len};
 ghost use Rattle.std.specs.Sync.Mutex.{mutex_guard_value};
 ghost use Rattle.xh_calls.specs.inner.Making.{AreBundles};
 ghost use Rattle.xh_calls.specs.Calls.{Spawns};
 ghost use Rattle.xh_calls.specs.Parts.{IsOpen, vault_names};
 ghost use Rattle.xh_history.specs.Histories.{fresh_look, fresh_pen};
-ghost use Rattle.xh_kernel.specs.Accounts.{AreFresh};
+ghost use Rattle.xh_kernel.specs.Accounts.{AreFresh, IsStill};
 ghost use Rattle.xh_calls.specs.declared.call.Call.TheVariants.{Spawn};
-ghost use Rattle.xh_kernel.specs.Finished.{WereSeen, tallies_of};
 ghost use Rattle.xh_kernel.specs.Calls.{Calls};
 ghost use Rattle.xh_kernel.specs.Histories.{IsLaw};
 ghost use Rattle.xh_kernel.specs.inner.Making.{AreFirstSeats, ArePens, AreUnseen, IsFirstSeat};
@@ -27,7 +26,6 @@ mod memory;
 mod messages;
 
 use crate::account::Account;
-use crate::finishing::{Finished, compare};
 use crate::held::Held;
 use crate::looking::{Waits, bell_of};
 use crate::overview::Awaited;
@@ -37,12 +35,13 @@ use crate::shared::Shared;
 use crate::until::Until;
 use crate::words::{Glances, unpack};
 use crossbeam_utils::CachePadded;
+use crossbeam_utils::atomic::LockedCell;
 use std::alloc::{AllocError, Global};
 use std::marker::PhantomData;
 use std::sync::{Mutex, MutexGuard, Wait};
 use xh_arena::Vault;
 use xh_calls::{Arenas, Bundle, Entry, Heap, Names, Waiters};
-use xh_core::{Glance, Refused};
+use xh_core::{Glance, PLACE_LINES, Refused};
 use xh_history::{Front, Histories, Pen};
 use xh_model::limits::PLACES;
 use xh_place::{Body, Gate, Place};
@@ -55,6 +54,8 @@ use xh_records::{Records, Seat};
 pub struct Kernel<N: Names> {
     pub(crate) shared: Shared<N>,
     places: Vec<CachePadded<Mutex<Held<N>>>>,
+    // of each place which process sleeps there, and what it awaits
+    pub(crate) awaiting: [CachePadded<LockedCell<Option<(u16, Awaited)>>>; PLACE_LINES],
     ghost all: { vec_len places ≡ PLACES },
 }
 
@@ -127,7 +128,7 @@ fn name_accounts<N: Names>(
     requires fronts { (vec_len fronts ≡ vec_len bundles) × AreUnseen N.parts.histories fronts.items }
     requires seen { (vec_len seen ≡ vec_len bundles) × AreUnseen N.parts.vaults seen.items }
     ensures count { IfOk result (λ v. vec_len v ≡ vec_len bundles) }
-    ensures fresh { IfOk result (λ v. AreFresh N.parts.records.shape.names v.items) }
+    ensures fresh { IfOk result (λ v. AreFresh N.parts v.items) }
     ensures refused { IfErr result (λ e. e ≡ Refused.OutOfMemory) }
 {
     let mut accounts = Vec::with_capacity(alloc, bundles.len())?;
@@ -170,7 +171,7 @@ impl<N: Names> Kernel<N> {
     ) -> Result<(Kernel<N>, Vec<Account<N>>, Vec<Look>), Refused>
         requires names { parts ≡ N.parts }
         requires law { IsLaw N.parts N.leads }
-        ensures accounts { IfOk result (λ r. (vec_len r.1 ≡ parts.workers) × AreFresh N.parts.records.shape.names r.1.items) }
+        ensures accounts { IfOk result (λ r. (vec_len r.1 ≡ parts.workers) × AreFresh N.parts r.1.items) }
         ensures looks { IfOk result (λ r. (vec_len r.2 ≡ parts.workers) × All (λ l. l ≡ fresh_look N.parts.histories) r.2.items) }
         ensures refused { IfErr result (λ e. e ≡ Refused.OutOfMemory) }
     {
@@ -187,12 +188,12 @@ impl<N: Names> Kernel<N> {
             generations: parts.generations,
         };
         let histories = parts.histories;
-        let shared = Shared {
-            heap,
-            histories,
+        let kernel = Kernel {
+            shared: Shared { heap, histories },
+            places,
             awaiting: Default::default(),
         };
-        Ok((Kernel { shared, places }, accounts, parts.looks))
+        Ok((kernel, accounts, parts.looks))
     }
 
     // What lies behind the lock of the process's place, which knows its number.
@@ -233,7 +234,7 @@ impl<N: Names> Kernel<N> {
     // The next process of the place runs, where one can start there: its number.
     fn spawn_at<R: Wait>(&self, rt: &R, number: u8, account: &mut Account<N>) -> Option<u16>
         requires { number < PLACES }
-        ensures { Calls N.leads number (Spawn result) (λ old new. Spawns N.parts.generations old new result) account.old account.new }
+        ensures { Calls N.leads number (Spawn result) IsStill (λ old new. Spawns N.parts.generations old new result) account.old account.new }
     {
         let mut guard = self.held(rt, u16::from(number));
         let held: &mut Held<N> = &mut guard;
@@ -249,7 +250,8 @@ impl<N: Names> Kernel<N> {
     pub fn glance(&self, place: u8, look: &mut Look) -> Result<Glance, Refused>
         requires { look.old.table ≡ N.parts.histories }
         ensures same { look.new.table ≡ look.old.table }
-        ensures seen { MatchResult result (λ g. (place < PLACES) × HasGlanced look.old.fronts place g look.new.fronts) (λ e. (e ≡ Refused.NoProcess) × (PLACES ≤ place) × (look.new ≡ look.old)) }
+        ensures seen { IfOk result (λ g. (place < PLACES) × HasGlanced look.old.fronts place g look.new.fronts) }
+        ensures refused { IfErr result (λ e. (e ≡ Refused.NoProcess) × (PLACES ≤ place) × (look.new ≡ look.old)) }
     {
         if place >= PLACES {
             return Err(Refused::NoProcess);
@@ -260,12 +262,12 @@ impl<N: Names> Kernel<N> {
     // Sleeps until what the process awaits may be there, or the time is past. Meanwhile it can be seen what that is, by the latest
     // of its threads that sleep.
     fn sleep<R: Wait, U: Until<R>>(&self, rt: &R, until: &U, p: u16, awaited: Awaited, seen: u64) {
-        let Shared { heap, awaiting, .. } = &self.shared;
-        let (cell, told) = (&awaiting[usize::from(bell_of(p))], Some((p, awaited)));
+        let (place, channels) = (bell_of(p), &self.shared.heap.channels);
+        let (cell, told) = (&self.awaiting[usize::from(place)], Some((p, awaited)));
         cell.store(rt, told);
         match awaited {
-            Awaited::Message(spot) => until.sleep(rt, &heap.channels, spot, seen),
-            _ => until.sleep_at(rt, &heap.channels, bell_of(p), seen),
+            Awaited::Message(spot) => until.sleep(rt, channels, spot, seen),
+            _ => until.sleep_at(rt, channels, place, seen),
         }
         let _if_still_told: Result<_, _> = cell.compare_exchange(rt, told, None);
     }
@@ -274,20 +276,16 @@ impl<N: Names> Kernel<N> {
     pub fn discard(self) {}
 
     /// Takes the kernel apart and changes nothing. What a worker or a look has seen of a place is a beginning of the
-    /// history of the place's pen, as `Account::compare` and `Histories::compare_look` show. OutOfMemory where a
-    /// growth was refused.
+    /// history of the place's pen, as `compare` shows. OutOfMemory where a growth was refused.
     pub fn settle(self, alloc: Global) -> Result<Settled, Refused>
-        ensures vaults { IfOk result (λ s. (vault_names s.vaults.items ≡ N.parts.records.shape.names) × All (IsOpen N.parts) s.vaults.items × (vec_len s.vaults ≤ MAX_ARENAS)) }
+        ensures vaults { IfOk result (λ s. (vault_names s.vaults.items ≡ N.parts.records.shape.names) × All (IsOpen N.parts) s.vaults.items) }
+        ensures few { IfOk result (λ s. vec_len s.vaults ≤ MAX_ARENAS) }
         ensures places { IfOk result (λ s. All (IsPlaceOf s.records) (places_of s.places.items) × (vec_len s.places ≡ s.records.shape.places)) }
         ensures kept { IfOk result (λ s. AreKept N.parts s.places.items s.pens.items) }
         ensures tables { IfOk result (λ s. (s.records ≡ N.parts.records) × (s.histories ≡ N.parts.histories)) }
         ensures refused { IfErr result (λ e. e ≡ Refused.OutOfMemory) }
     {
-        let Shared {
-            heap,
-            histories,
-            awaiting: _awaiting,
-        } = self.shared;
+        let Shared { heap, histories } = self.shared;
         let vaults = heap.arenas.into_vaults(alloc)?;
         let (places, pens) = unlock_places(alloc, self.places)?;
         Ok(Settled {
@@ -296,35 +294,6 @@ impl<N: Names> Kernel<N> {
             pens,
             records: heap.records,
             histories,
-        })
-    }
-
-    /// Takes the kernel apart as `settle` does, and compares what its workers and looks have seen with the histories
-    /// of its places. The accounts and the looks of all workers are handed in, in any order. OutOfMemory
-    /// where a growth was refused.
-    pub fn finish(
-        self,
-        alloc: Global,
-        accounts: Vec<Account<N>>,
-        looks: Vec<Look>,
-    ) -> Result<Finished<N>, Refused>
-        requires { All (λ l. l.table ≡ N.parts.histories) looks.items }
-        ensures vaults { IfOk result (λ f. (vault_names f.vaults.items ≡ N.parts.records.shape.names) × All (IsOpen N.parts) f.vaults.items × (vec_len f.vaults ≤ MAX_ARENAS)) }
-        ensures places { IfOk result (λ f. All (IsPlaceOf f.records) (places_of f.places.items) × (vec_len f.places ≡ f.records.shape.places)) }
-        ensures records { IfOk result (λ f. f.records ≡ N.parts.records) }
-        ensures count { IfOk result (λ f. vec_len f.accounts ≡ vec_len accounts) }
-        ensures same { IfOk result (λ f. tallies_of f.accounts.items ≡ tallies_of accounts.items) }
-        ensures seen { IfOk result (λ f. WereSeen N.parts f.places.items accounts.items looks.items) }
-        ensures refused { IfErr result (λ e. e ≡ Refused.OutOfMemory) }
-    {
-        let settled = self.settle(alloc)?;
-        let histories = settled.histories;
-        let accounts = compare(&histories, settled.pens, accounts, looks)?;
-        Ok(Finished {
-            vaults: settled.vaults,
-            places: settled.places,
-            records: settled.records,
-            accounts,
         })
     }
 }

@@ -14,12 +14,12 @@ mod until;
 mod words;
 
 pub use account::Account;
-pub use finishing::Finished;
+pub use finishing::compare;
 pub use kernel::{Kernel, Settled};
-pub use overview::{Awaited, Overview, Seen, write_arenas, write_place};
+pub use overview::{Awaited, Overview, PlaceNow, write_arenas, write_place};
 pub use parts::{Look, Parts};
 pub use words::Glances;
-pub use xh_calls::{Answered, Call, Entry, MAX_ENDS, Names};
+pub use xh_calls::{AnsweredAt, Call, Entry, MAX_ENDS, Names};
 pub use xh_channel::Spot;
 pub use xh_core::Block;
 pub use xh_place::{Gate, Got, OpenGate, Point, Taken};

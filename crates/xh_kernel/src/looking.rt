@@ -1,5 +1,5 @@
 //! Looks for a message and for room, and where a process waits.
-ghost use Rattle.std.specs.Prelude.{◌≡◌, ◌≢◌, ◌<◌, [], Err, IfErr, MatchBool, MatchOption, None, false, true};
+ghost use Rattle.std.specs.Prelude.{◌≡◌, ◌≢◌, ◌<◌, [], Err, IfErr, IfNone, MatchBool, MatchOption, None, false, true};
 ghost use Rattle.xh_calls.specs.Places.{status_at};
 ghost use Rattle.xh_core.specs.Calls.{start};
 ghost use Rattle.xh_core.specs.Headers.{has_end};
@@ -14,7 +14,7 @@ use crate::account::Account;
 use crate::held::Held;
 use crate::shared::Shared;
 use std::sync::Wait;
-use xh_calls::{Answered, Names, check_start};
+use xh_calls::{AnsweredAt, Names, check_start};
 use xh_channel::Spot;
 use xh_core::Refused;
 use xh_model::limits::PLACES;
@@ -69,7 +69,7 @@ impl<N: Names> Held<N> {
     // The spot of the endpoint, if the process has it.
     pub(crate) fn spot(&mut self, shared: &Shared<N>, e: u16) -> Option<Spot>
         ensures same { (self.new.place.place ≡ self.old.place.place) × (self.new.scribe ≡ self.old.scribe) }
-        ensures none { MatchOption result (has_end (found self.old.place.place e) ≡ false) (λ _. Unit {0}) }
+        ensures none { IfNone result (has_end (found self.old.place.place e) ≡ false) }
     {
         self.place.spot(&shared.heap.records, e)
     }
@@ -88,7 +88,8 @@ impl<N: Names> Held<N> {
     )
         requires { self.old.scribe.pen.number ≡ place_of p }
         ensures call { DidTake N.leads p e answer.new account.old account.new }
-        ensures empty { IfErr answer.new (λ why. why ≡ Refused.Empty → (first_refusal (start (status_at p self.old.place.place)) ≡ None) × (has_end (found self.old.place.place e) ≡ true)) }
+        ensures runs { IfErr answer.new (λ why. why ≡ Refused.Empty → first_refusal (start (status_at p self.old.place.place)) ≡ None) }
+        ensures has { IfErr answer.new (λ why. why ≡ Refused.Empty → has_end (found self.old.place.place e) ≡ true) }
     {
         *answer = shared.heap.take(rt, &mut self.place, p, e, gate);
         let about = (p, e, &*answer);
@@ -106,7 +107,7 @@ impl<N: Names> Held<N> {
         e: u16,
     ) -> Option<(Spot, u64)>
         ensures same { (self.new.place.place ≡ self.old.place.place) × (self.new.scribe ≡ self.old.scribe) }
-        ensures none { MatchOption result ((first_refusal (start (status_at p self.old.place.place)) ≡ None) × (has_end (found self.old.place.place e) ≡ true) → ⊥) (λ _. Unit {0}) }
+        ensures none { IfNone result (first_refusal (start (status_at p self.old.place.place)) ≡ None → has_end (found self.old.place.place e) ≡ false) }
     {
         check_start(&self.place, p).ok()?;
         self.waits.at = None;
@@ -150,7 +151,7 @@ impl<N: Names> Held<N> {
         ends: &[u16],
         account: &mut Account<N>,
         gate: &G,
-    ) -> Result<Answered, Refused>
+    ) -> Result<AnsweredAt, Refused>
         requires { self.old.scribe.pen.number ≡ place_of p }
         ensures call { DidTakeAny N.leads p ends.now result account.old account.new }
         ensures empty { IfErr result (λ why. why ≡ Refused.Empty → first_refusal (start (status_at p self.old.place.place)) ≡ None) }
@@ -166,7 +167,7 @@ impl<N: Names> Held<N> {
     // that doesn't run.
     fn listen<R: Wait>(&mut self, rt: &R, shared: &Shared<N>, p: u16, ends: &[u16]) -> Option<u64>
         ensures same { (self.new.place.place ≡ self.old.place.place) × (self.new.scribe ≡ self.old.scribe) }
-        ensures none { MatchOption result (first_refusal (start (status_at p self.old.place.place)) ≡ None → ends.now ≡ []) (λ _. Unit {0}) }
+        ensures none { IfNone result (first_refusal (start (status_at p self.old.place.place)) ≡ None → ends.now ≡ []) }
     {
         if ends.is_empty() {
             return None;
@@ -191,7 +192,7 @@ impl<N: Names> Held<N> {
         ends: &[u16],
         account: &mut Account<N>,
         gate: &G,
-    ) -> (Result<Answered, Refused>, Option<u64>)
+    ) -> (Result<AnsweredAt, Refused>, Option<u64>)
         requires { self.old.scribe.pen.number ≡ place_of p }
         ensures call { DidTakeAny N.leads p ends.now result.0 account.old account.new }
         ensures vain { MatchOption result.1 (IfErr result.0 (λ why. why ≡ Refused.Empty → ends.now ≡ [])) (λ _. result.0 ≡ Err Refused.Empty) }
@@ -231,26 +232,13 @@ impl<N: Names> Held<N> {
         answer
     }
 
-    // The place's bell as it is; where it asks, the next take of what the endpoint put rings it after that: the endpoint's spot.
-    fn hear<R: Wait>(
-        &mut self,
-        rt: &R,
-        shared: &Shared<N>,
-        p: u16,
-        e: u16,
-        asks: bool,
-    ) -> (u64, Option<Spot>)
+    // Asks that the next take of what the endpoint put rings the place's bell: the endpoint's spot, if the process has it.
+    fn ask<R: Wait>(&mut self, rt: &R, shared: &Shared<N>, p: u16, e: u16) -> Option<Spot>
         ensures { (self.new.place.place ≡ self.old.place.place) × (self.new.scribe ≡ self.old.scribe) }
     {
-        let seen = shared.heap.channels.bell(rt, bell_of(p));
-        if !asks {
-            return (seen, None);
-        }
-        let spot = self.spot(shared, e);
-        if let Some(spot) = spot {
-            shared.heap.channels.await_room(rt, spot, bell_of(p));
-        }
-        (seen, spot)
+        let spot = self.spot(shared, e)?;
+        shared.heap.channels.await_room(rt, spot, bell_of(p));
+        Some(spot)
     }
 
     // One look for room. Of a look in vain is told what the bell was; where it asks a take, a shut and an end of the process
@@ -271,13 +259,18 @@ impl<N: Names> Held<N> {
         ensures call { DidGive N.leads p e tag blocks.now result.0 account.old account.new }
         ensures vain { MatchOption result.1 (result.0 ≢ no_room blocks.now) (λ _. result.0 ≡ no_room blocks.now) }
     {
-        let bell = self.hear(rt, shared, p, e, asks);
+        let seen = shared.heap.channels.bell(rt, bell_of(p));
+        let spot = if asks {
+            self.ask(rt, shared, p, e)
+        } else {
+            None
+        };
         let answer = self.give(rt, shared, p, e, tag, blocks, account, gate);
         if !is_in_vain(&answer, blocks) {
             self.wake(rt, shared);
             return (answer, None);
         }
         self.waits.bell = true;
-        (answer, Some(bell))
+        (answer, Some((seen, spot)))
     }
 }

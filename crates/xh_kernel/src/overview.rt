@@ -24,9 +24,16 @@ pub enum Awaited {
 
 /// A place: its latest process, how far that has come, its blocks and their bytes, and what it waits for, if it does.
 #[derive(Clone, Copy, Debug)]
-pub struct Seen {
+pub struct PlaceNow {
     pub glance: Glance,
     pub awaits: Option<Awaited>,
+}
+
+impl Default for PlaceNow {
+    fn default() -> PlaceNow {
+        let (glance, awaits) = (unpack(0, 0), None);
+        PlaceNow { glance, awaits }
+    }
 }
 
 /// All arenas and all 32 places, each as it was at a moment of the call, one after another. As a text it has the ledger's line for
@@ -35,7 +42,7 @@ pub struct Seen {
 #[derive(Debug, Drop)]
 pub struct Overview {
     pub arenas: ArrayVec<ArenaLine, ARENA_LINES>,
-    pub places: [Seen; PLACE_LINES],
+    pub places: ArrayVec<PlaceNow, PLACE_LINES>,
 }
 
 impl<N: Names> Kernel<N> {
@@ -44,19 +51,17 @@ impl<N: Names> Kernel<N> {
         ensures { SeesAll N.parts account.old account.new result }
     {
         let shared = &self.shared;
+        let (seen, front) = (&mut account.till.seen, &mut account.front);
         let mut arenas = ArrayVec::new();
         for arena in 0..shared.heap.arenas.count() {
-            arenas.push(shared.heap.arenas.line(rt, arena, &mut account.till.seen));
+            arenas.push(shared.heap.arenas.line(rt, arena, seen));
         }
-        let (glance, awaits) = (unpack(0, 0), None);
-        let mut places = [Seen { glance, awaits }; PLACE_LINES];
+        let mut places = ArrayVec::new();
         for place in 0..PLACES {
-            let glance = unpack(place, shared.histories.look_by(&mut account.front, place));
-            let awaits = match shared.awaiting[usize::from(place)].load(rt) {
-                Some(told) if told.0 == glance.process => Some(told.1),
-                _ => None,
-            };
-            places[usize::from(place)] = Seen { glance, awaits };
+            let glance = unpack(place, shared.histories.look_by(front, place));
+            let told = self.awaiting[usize::from(place)].load(rt);
+            let awaits = told.filter(|t| t.0 == glance.process).map(|t| t.1);
+            places.push(PlaceNow { glance, awaits });
         }
         Overview { arenas, places }
     }

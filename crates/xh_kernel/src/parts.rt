@@ -10,7 +10,7 @@ use xh_arena::Vault;
 use xh_calls::{Bundle, Entry, make_vaults};
 use xh_channel::Channels;
 use xh_core::{Config, Refused};
-use xh_history::{Front, Histories, Nothing, Pen};
+use xh_history::{Front, Histories, NobodyLooks, Pen};
 use xh_model::limits::{GENERATIONS, MAX_WORKERS, PLACES, USUAL_GENERATIONS};
 use xh_place::Body;
 use xh_records::{Records, Seat};
@@ -30,7 +30,7 @@ pub struct Parts {
     pub(crate) pens: Vec<Pen<Entry>>,
     pub(crate) fronts: Vec<Front<Entry>>,
     pub(crate) looks: Vec<Look>,
-    pub(crate) vault_histories: Histories<Vault, Nothing>,
+    pub(crate) vault_histories: Histories<Vault, NobodyLooks>,
     pub(crate) vault_pens: Vec<Pen<Vault>>,
     pub(crate) seen: Vec<Front<Vault>>,
     pub(crate) config: Config,

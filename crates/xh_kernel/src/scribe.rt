@@ -1,17 +1,15 @@
 //! What is written down of a place: its history, and by the history's word what looks see without its lock.
-ghost use Rattle.std.specs.Prelude.{◌≡◌, ◌↔◌, ◌<◌, ◌^◌, [], ◌∷◌, ◌++◌, length, true, ℕ};
+ghost use Rattle.std.specs.Prelude.{◌≡◌, ◌<◌, ◌^◌, [], ◌∷◌, ◌++◌, length, true, ℕ};
 ghost use Rattle.xh_calls.specs.declared.call.Call.{Call};
 ghost use Rattle.xh_core.specs.Statuses.{is_over};
 ghost use Rattle.xh_history.specs.Histories.{at};
-ghost use Rattle.xh_kernel.specs.Calls.{Noted, Steps};
-ghost use Rattle.xh_kernel.specs.Histories.{Does, IsHistoryOf};
+ghost use Rattle.xh_kernel.specs.Calls.{LeadsOn, Noted, Steps};
+ghost use Rattle.xh_kernel.specs.Histories.{Does, ComesTo, IsHistoryOf};
 ghost use Rattle.xh_kernel.specs.Places.{IsSoundPlace, IsLastTold, last_glance};
 ghost use Rattle.xh_kernel.specs.Words.{IsPackable, unpacked};
 ghost use Rattle.xh_model.specs.declared.limits.TheConstants.{GENERATIONS};
 ghost use Rattle.xh_model.specs.Words.{generation_of, place_of};
 ghost use Rattle.xh_place.specs.Places.{AreBlocks, IsPlaceOf, glance_of};
-ghost use Rattle.xh_place.specs.Seen.{PlaceSeen};
-ghost use Rattle.xh_records.specs.History.{StartsWith};
 
 use crate::shared::Shared;
 use crate::words::pack;
@@ -80,8 +78,9 @@ impl Scribe {
         ghost call: { Call }
         requires pen { self.old.pen.table ≡ N.parts.histories }
         requires front { (front.old.table ≡ N.parts.histories) × (front.old.number < N.parts.workers) }
-        requires place { IsPlaceOf N.parts.records place.now.place × (place_of place.now.place.process ≡ self.old.pen.number) × (generation_of place.now.place.process < GENERATIONS) }
-        requires does { (from : PlaceSeen) × IsHistoryOf N.parts self.old.pen.number self.old.pen.history from × Does N.parts call from place.now × StartsWith place.now.front from.front }
+        requires place { IsPlaceOf N.parts.records place.now.place }
+        requires process { (place_of place.now.place.process ≡ self.old.pen.number) × (generation_of place.now.place.process < GENERATIONS) }
+        requires does { ComesTo N.parts self.old.pen.number self.old.pen.history call place.now }
         requires same { same ≡ true → IsLastTold place.now.place self.old.pen }
         ensures pen { (self.new.pen.table ≡ N.parts.histories) × (self.new.pen.number ≡ self.old.pen.number) }
         ensures told { IsLastTold place.now.place self.new.pen }
@@ -92,8 +91,7 @@ impl Scribe {
         ensures front { (front.new.table ≡ front.old.table) × (front.new.number ≡ front.old.number) }
         ensures noted { Noted self.old.pen.number call front.old.number front.old.fronts front.new.fronts }
         ensures step { (k : ℕ) → self.old.pen.number ≡ k → Steps N.leads k (at front.new.fronts k) (Does N.parts call) }
-        ensures now { (k : ℕ) (from : PlaceSeen) → self.old.pen.number ≡ k → IsHistoryOf N.parts self.old.pen.number self.old.pen.history from
-            → Steps N.leads k (at front.new.fronts k) (λ old new. (old ≡ from) × (new ≡ place.now)) }
+        ensures now { (k : ℕ) → self.old.pen.number ≡ k → LeadsOn N.parts N.leads k self.old.pen.history (at front.new.fronts k) place.now }
     {
         let glance = shown(place);
         let word = if same { self.last } else { pack(glance) };

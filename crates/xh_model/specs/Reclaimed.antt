@@ -8,14 +8,14 @@ Includes set [] = Unit {0}
 Includes set (r ∷ rs) = (set r ≡ true) × Includes set rs
 
 -- with each endpoint in the set, the records in the messages on their way to it are in it
-abbrev pub IsClosed : (ℕ → List ℕ) → (ℕ → Bool) → Type 0
-IsClosed arriving set = (e : ℕ) → set e ≡ true → Includes set (arriving e)
+abbrev pub IsClosedUnder : (ℕ → List ℕ) → (ℕ → Bool) → Type 0
+IsClosedUnder arriving set = (e : ℕ) → set e ≡ true → Includes set (arriving e)
 
 -- the least closed set that includes the start
 pub record IsReclaimed (arriving : ℕ → List ℕ) (start : List ℕ) (set : ℕ → Bool) : Type 0 where
   pub includes : Includes set start
-  pub closed : IsClosed arriving set
-  pub least : (other : ℕ → Bool) → Includes other start → IsClosed arriving other → (r : ℕ) → set r ≡ true → other r ≡ true
+  pub closed : IsClosedUnder arriving set
+  pub least : (other : ℕ → Bool) → Includes other start → IsClosedUnder arriving other → (r : ℕ) → set r ≡ true → other r ≡ true
 
 -- whether the record had a holder and has none now
 abbrev pub freed : Store → Store → ℕ → Bool

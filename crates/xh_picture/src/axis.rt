@@ -1,5 +1,5 @@
 //! Where the bytes of the arenas stand across a picture.
-use crate::history::{Bar, Block};
+use crate::history::{Bar, DrawnBlock};
 use std::alloc::{AllocError, Global};
 use xh_core::Config;
 use xh_model::limits::UNIT;
@@ -16,7 +16,7 @@ const HOLE: u64 = 30;
 
 /// What held a unit of bytes in any row, whatever takes more room last.
 #[derive(Clone, Copy, PartialEq, Eq)]
-enum Held {
+enum HeldBy {
     Nothing,
     End,
     Data,
@@ -26,7 +26,7 @@ enum Held {
 #[derive(Clone, Copy)]
 pub(crate) struct Unit {
     pub(crate) is_cut: bool,
-    held: Held,
+    held: HeldBy,
     pub(crate) left: u64,
 }
 
@@ -40,12 +40,12 @@ pub(crate) struct Axis {
 }
 
 /// What a unit takes of the narrow part and of the wide one; it is so far from the beginning of its block or hole.
-fn shares(held: Held, far: u64) -> (u64, u64) {
+fn shares(held: HeldBy, far: u64) -> (u64, u64) {
     match held {
-        Held::Nothing if far == 0 => (HOLE, 0),
-        Held::End => (END, 0),
-        Held::Data if far == 0 => (0, 3 * DATA),
-        Held::Data if far < 32 => (0, DATA),
+        HeldBy::Nothing if far == 0 => (HOLE, 0),
+        HeldBy::End => (END, 0),
+        HeldBy::Data if far == 0 => (0, 3 * DATA),
+        HeldBy::Data if far < 32 => (0, DATA),
         _ => (0, 0),
     }
 }
@@ -56,7 +56,7 @@ impl Axis {
         let per_arena = (config.bytes / UNIT) as usize + 1;
         let hole = Unit {
             is_cut: false,
-            held: Held::Nothing,
+            held: HeldBy::Nothing,
             left: 0,
         };
         let mut axis = Axis {
@@ -88,18 +88,18 @@ impl Axis {
     }
 
     /// Marks the units of a block.
-    fn mark(&mut self, block: &Block) {
+    fn mark(&mut self, block: &DrawnBlock) {
         let end = block.start.saturating_add(block.length);
         self.cut(block.arena, block.start);
         self.cut(block.arena, end);
         for index in self.index(block.arena, block.start)..self.index(block.arena, end) {
             if let Some(unit) = self.units.get_mut(index)
-                && unit.held != Held::Data
+                && unit.held != HeldBy::Data
             {
                 unit.held = if block.end.is_some() {
-                    Held::End
+                    HeldBy::End
                 } else {
-                    Held::Data
+                    HeldBy::Data
                 };
             }
         }

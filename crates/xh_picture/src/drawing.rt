@@ -5,11 +5,11 @@ ghost use Rattle.xh_picture.specs.Pictures.{IsPicture};
 use crate::axis::{Axis, WIDTH};
 use crate::history::{Bar, BlockName, History, Keeper};
 use crate::legend::STYLE;
-use crate::shapes::{Area, Look, Shown, rect, words};
+use crate::shapes::{Area, BlockStyle, ShownText, rect, words};
 use arrayvec::ArrayVec;
 use std::alloc::{AllocError, Global};
 use xh_core::{Config, FlightLine};
-use xh_script::{Answered, Name, Reply, Watched, write_reply};
+use xh_script::{Name, NumberedReply, Reply, Watched, write_reply};
 
 /// The height of a row.
 pub(crate) const ROW: u64 = 18;
@@ -35,7 +35,7 @@ pub(crate) struct Sheet<'a> {
 }
 
 /// The line of a reply without its end: the number of the command's line, and the reply.
-fn reply_text(answered: &Answered) -> ArrayVec<u8, 256> {
+fn reply_text(answered: &NumberedReply) -> ArrayVec<u8, 256> {
     let mut said = ArrayVec::new();
     let _ = write_reply(&mut Watched::new(&mut said), answered.line, &answered.reply);
     let _end = said.pop();
@@ -128,7 +128,7 @@ impl<'a> Sheet<'a> {
     fn bar(&mut self, bar: &Bar) -> Result<(), AllocError> {
         let area = self.area_of(bar);
         let name = self.name(&bar.name);
-        rect(&mut self.svg, area, Look(bar.block), Shown(name))?;
+        rect(&mut self.svg, area, BlockStyle(bar.block), ShownText(name))?;
         let letters = (name.len() as u64).saturating_mul(7);
         let (right, down, turn) = if letters.saturating_add(6) <= area.width {
             (4, 13, 0u8)
@@ -189,7 +189,7 @@ impl<'a> Sheet<'a> {
                 let Some(number) = numbers.first() else {
                     return Ok(());
                 };
-                let tag = Shown(self.word(row, 3));
+                let tag = ShownText(self.word(row, 3));
                 write!(
                     self.svg,
                     "<text x=\"{x}\" y=\"{y}\">&#8594;{number}, tag {tag}</text>\n"
@@ -206,7 +206,7 @@ impl<'a> Sheet<'a> {
     }
 
     /// Draws the texts of a row.
-    fn texts(&mut self, row: usize, answered: &Answered) -> Result<(), AllocError> {
+    fn texts(&mut self, row: usize, answered: &NumberedReply) -> Result<(), AllocError> {
         let y = self.row(row);
         if matches!(answered.reply, Reply::No(_) | Reply::NotGiven(_)) {
             write!(
@@ -234,7 +234,7 @@ impl<'a> Sheet<'a> {
             blocks,
             bytes,
         } = *line;
-        let name = Shown(name);
+        let name = ShownText(name);
         write!(
             self.svg,
             "<text x=\"{LEFT}\" y=\"{y}\">in flight to {name}, direction {direction}: blocks {blocks}, bytes {bytes}</text>\n"

@@ -3,7 +3,7 @@ use arrayvec::ArrayVec;
 use std::alloc::{AllocError, Global};
 use xh_core::{FLIGHT_LINES, FlightLine, Holder};
 use xh_model::limits::{DIRECTIONS, MAX_RECORDS, PLACES};
-use xh_script::{Answered, Form, Line, Reply};
+use xh_script::{Form, Line, NumberedReply, Reply};
 use xh_serial::Serial;
 
 /// Who holds a block: a process, by the number of its name and its own number, or a direction.
@@ -16,7 +16,7 @@ pub(crate) enum Keeper {
 /// A block at a row: where its bytes begin in its arena and how many they are, its holder, and where it is
 /// an endpoint the direction toward it.
 #[derive(Clone, Copy, PartialEq, Eq)]
-pub(crate) struct Block {
+pub(crate) struct DrawnBlock {
     pub(crate) arena: u16,
     pub(crate) start: u32,
     pub(crate) length: u32,
@@ -36,7 +36,7 @@ pub(crate) struct BlockName {
 /// place in its message.
 #[derive(Clone, Copy)]
 pub(crate) struct Bar {
-    pub(crate) block: Block,
+    pub(crate) block: DrawnBlock,
     pub(crate) name: BlockName,
     pub(crate) first: usize,
     pub(crate) last: usize,
@@ -46,7 +46,7 @@ pub(crate) struct Bar {
 /// The replies to the commands so far, a row for each, and what they did.
 #[derive(Drop)]
 pub struct History {
-    pub(crate) answers: Vec<Answered>,
+    pub(crate) answers: Vec<NumberedReply>,
     /// By record, its bar in the last row.
     current: Vec<Option<Bar>>,
     /// The bars that ended before the last row; once the history has ended, all.
@@ -72,10 +72,10 @@ fn keeper_of(holder: Holder, latest: &[u8]) -> Keeper {
 }
 
 /// The block of a record, if the record has bytes.
-fn block_of(machine: &Serial, latest: &[u8], record: u16) -> Option<Block> {
+fn block_of(machine: &Serial, latest: &[u8], record: u16) -> Option<DrawnBlock> {
     let holder = machine.holder(record)?;
     let (start, length) = machine.extent(record)?;
-    Some(Block {
+    Some(DrawnBlock {
         arena: record / MAX_RECORDS,
         start,
         length,
@@ -120,7 +120,7 @@ fn turn_of(line: &Line, name: &BlockName) -> usize {
 }
 
 /// The bar that begins with a command, behind the one that its record had, if any.
-fn begun(block: Block, old: Option<Bar>, line: &Line, row: usize) -> Bar {
+fn begun(block: DrawnBlock, old: Option<Bar>, line: &Line, row: usize) -> Bar {
     let (name, turn) = match (old, line.command.form) {
         (None, form) => (name_at(line, naming(form, block.end), row), 0),
         (Some(bar), Form::Give) => (bar.name, turn_of(line, &bar.name)),
@@ -160,7 +160,7 @@ impl History {
         machine: &Serial,
         latest: &[u8],
         line: &Line,
-        answered: Answered,
+        answered: NumberedReply,
     ) -> Result<(), AllocError> {
         let row = self.answers.len();
         let is_given = matches!(line.command.form, Form::Give)
@@ -206,7 +206,7 @@ impl History {
     fn follow(
         &mut self,
         record: usize,
-        new: Option<Block>,
+        new: Option<DrawnBlock>,
         line: &Line,
         row: usize,
     ) -> Result<(), AllocError> {

@@ -1,6 +1,6 @@
 //! What stands above the rows: the title, what each sign says, and the heads of the columns.
 use crate::drawing::{LEFT, MESSAGES, REPLIES, ROW, Sheet};
-use crate::shapes::{Colour, Shown, words};
+use crate::shapes::{Colour, ShownText, words};
 use arrayvec::ArrayVec;
 use std::alloc::AllocError;
 
@@ -60,7 +60,7 @@ impl<'a> Sheet<'a> {
             if index % 6 == 0 {
                 (x, y) = (LEFT, y.saturating_add(ROW));
             }
-            let (colour, name) = (Colour(index.min(255) as u8), Shown(name.as_bytes()));
+            let (colour, name) = (Colour(index.min(255) as u8), ShownText(name.as_bytes()));
             let (right, base) = (x.saturating_add(22), y.saturating_add(10));
             write!(
                 self.svg,

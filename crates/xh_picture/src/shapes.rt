@@ -1,13 +1,13 @@
 //! Rectangles, texts and colours, as a document says them.
-use crate::history::{Block, Keeper};
+use crate::history::{DrawnBlock, Keeper};
 use std::alloc::AllocError;
 use std::fmt;
 
 /// Bytes as the text of a document: no mark is read as one, and what is not printable is a question mark.
 #[derive(Clone, Copy)]
-pub(crate) struct Shown<'a>(pub(crate) &'a [u8]);
+pub(crate) struct ShownText<'a>(pub(crate) &'a [u8]);
 
-impl<'a> fmt::Display for Shown<'a> {
+impl<'a> fmt::Display for ShownText<'a> {
     fn fmt<W: fmt::Write>(&self, f: &mut fmt::Formatter<W>) -> fmt::Result {
         for byte in self.0 {
             match *byte {
@@ -36,9 +36,9 @@ impl fmt::Display for Colour {
 /// The look of a block: an endpoint is grey and edged in the colour of its holder, other blocks have that colour, and
 /// what is in flight is hatched.
 #[derive(Clone, Copy)]
-pub(crate) struct Look(pub(crate) Block);
+pub(crate) struct BlockStyle(pub(crate) DrawnBlock);
 
-impl fmt::Display for Look {
+impl fmt::Display for BlockStyle {
     fn fmt<W: fmt::Write>(&self, f: &mut fmt::Formatter<W>) -> fmt::Result {
         let Keeper::Process { name, .. } = self.0.keeper else {
             return f.write_str("class=\"flight\"");
@@ -87,11 +87,11 @@ pub(crate) fn words(
     said: &[u8],
     most: usize,
 ) -> Result<(), AllocError> {
-    let whole = Shown(said);
+    let whole = ShownText(said);
     if said.len() <= most {
         return write!(svg, "<text x=\"{x}\" y=\"{y}\">{whole}</text>\n");
     }
-    let front = Shown(said.get(..most.saturating_sub(2)).unwrap_or(said));
+    let front = ShownText(said.get(..most.saturating_sub(2)).unwrap_or(said));
     write!(
         svg,
         "<text x=\"{x}\" y=\"{y}\"><title>{whole}</title>{front}..</text>\n"

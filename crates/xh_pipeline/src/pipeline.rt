@@ -21,18 +21,18 @@ const SINK: usize = 3;
 pub(crate) struct Pipeline;
 
 /// The two ends of a channel.
-pub(crate) type Ends = (End, End);
+pub(crate) type BothEnds = (End, End);
 
 /// What the workers are told.
 #[derive(Drop)]
 pub(crate) struct Plan {
     /// From the supervisor to the producer and to the second stage.
-    pub(crate) producer: Ends,
-    pub(crate) second: Ends,
+    pub(crate) producer: BothEnds,
+    pub(crate) second: BothEnds,
     /// From the second stage to the sink.
-    data: Ends,
+    data: BothEnds,
     /// From the sink to the producer.
-    answers: Ends,
+    answers: BothEnds,
 }
 
 impl Host for Pipeline {

@@ -1,14 +1,14 @@
 -- What the proofs of functions cite most, passed on from one place. Declares nothing.
 pub use Rattle.xh_place.proofs.Words.{option_map, Claim, FindsFull, LetsGo, Vacate, SawAt, SeatFull, SeatLetsGo, let_go}
-pub use Rattle.xh_place.proofs.Words.{Accept, Among, AreBlocks, AreGot, Body, CameBack, Clears, Data, Distinct, End, Err, Event, HasGivenBack, HasNow, Held, IfErr, IsBlock, IsClosed, IsCut}
+pub use Rattle.xh_place.proofs.Words.{Accept, Among, AreBlocks, AreGot, Body, CameBack, Clears, Data, Distinct, End, Err, Event, HasGivenBack, HasNow, Held, IfErr, IsBlock, IsClosed, CutsLot}
 pub use Rattle.xh_place.proofs.Words.{IsElsewhere, IsLotOf, IsRecord, IsSameDesk, IsSeen, IsSent, IsSwept, IsSweptLate, IsTaken, IsUntaken, Item, List, Lists, LotDoes, LotOf}
 pub use Rattle.xh_place.proofs.Words.{MAX_BUDGET, MatchResult, Message, None, Nothing, OnErr, OnOk, Pass, PlaceOf, EndpointOf, Process, EndpointPuts, SawFull, SawWord, EndpointShuts}
 pub use Rattle.xh_place.proofs.Words.{on_err_weaker, on_ok_weaker, Some, StartsWith, Stays, EndpointTakes, TallyOf, Tests, [], accepted_on, alloc_tests, alone, among_back, among_front, ap, append_assoc}
 pub use Rattle.xh_place.proofs.Words.{ap₂, arena_tests, arith, away, bare, bytes, drop, drop_more, end_block, end_tests, ending_again, first_refusal, found_at, front}
 pub use Rattle.xh_place.proofs.Words.{front_at, gave, get_or, given_tests, header_of, ids_of, inl, inr, is_listed, is_over, is_running, is_some, item_at, item_in, item_of, keys, keys_push, kind_of}
-pub use Rattle.xh_place.proofs.Words.{last, length, length-append, length-keys, length-replicate, lens, less, less_all, list_all, list_any, map, map-append, next, part, passed_on, past, picked, put}
+pub use Rattle.xh_place.proofs.Words.{last, length, length-append, length-keys, length-replicate, lens, less, less_all, list_all, list_any, map, map-append, next, bytes_part, passed_on, past, picked, put}
 pub use Rattle.xh_place.proofs.Words.{put_at, MatchBool, MatchOption, Bool, false}
-pub use Rattle.xh_place.proofs.Words.{put_other, put_same, put_without, reclaimed, record_of, refl, replicate, rest, rules, set, set-get_or, settled, shown, slice_get, split_tests, start, stop}
+pub use Rattle.xh_place.proofs.Words.{put_other, put_same, put_without, reclaimed, record_got, refl, replicate, rest, rules, set, set-get_or, settled, shown, slice_get, split_tests, start, stop}
 pub use Rattle.xh_place.proofs.Words.{subst, suc, sym, take, take_more, took, total_of, true, value_at, vec_capacity, with_blocks, with_list, with_lots, with_more}
 pub use Rattle.xh_place.proofs.Words.{without, without_other, word_of, ℕ, ⊎_elim, ◌%◌, ◌*◌, ◌++◌, ◌+◌, ◌-◌, ◌/◌, ◌<◌, ◌==◌, ◌∙◌, ◌∷◌, ◌≡◌, ◌≢◌, ◌≤◌, ◌⊎◌}
 pub use Rattle.xh_place.proofs.Counted.{none_back, same_again, same_place, still_at}

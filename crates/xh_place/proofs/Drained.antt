@@ -1,8 +1,8 @@
 -- An endpoint of a place that takes one message after another.
 use Rattle.xh_place.specs.Seen.{Sight, bears, brings}
 use Rattle.xh_place.proofs.Words.{on_err_weaker, ◌≡◌, ℕ, ◌≤◌, inl, inr, List, [], ◌∷◌, ◌++◌, append_assoc, append-nil, length, refl, sym, ap, ◌∙◌, subst, Some, None, Option, Ok, Err, Result}
-use Rattle.xh_place.proofs.Words.{MatchResult, map, map-append, Message, EndpointOf, Refused, put, value_at, front_at, put_at, put_same, put_twice, Content, bytes, endpoint, kind_of, toward, Taken}
-use Rattle.xh_place.proofs.Words.{AreGot, Body, EndsWith, Event, IsDrained, EndpointShuts, Got, Shape, StartsWith, EndpointTakes, TakesEach, flat_map, record_of, EndDoes, end_block, toward_in}
+use Rattle.xh_place.proofs.Words.{MatchResult, map, map-append, Message, EndpointOf, Refused, put, value_at, front_at, put_at, put_same, put_twice, Content, bytes, endpoint, kind_of, direction_toward, Taken}
+use Rattle.xh_place.proofs.Words.{AreGot, Body, EndsWith, Event, IsDrained, EndpointShuts, Got, Shape, StartsWith, EndpointTakes, TakesEach, flat_map, record_got, EndDoes, end_block, toward_in}
 use Rattle.xh_place.proofs.Words.{AreFetched, Clears, away, suc, ⊎_elim}
 use Rattle.xh_place.proofs.Words.{Becomes, Did, Drains, IsUntaken, IsSeenAfter, IsSent, IsTaken, Item, PlaceOf, with_blocks, with_more, IsSeen, PlaceSeen, Stays, accepted_on, passed_on, picked}
 use Rattle.xh_place.proofs.Words.{true, false, ◌+◌, arith, Bool, IfErr, MatchBool, MatchOption, Status, Running, end_tests, first_refusal, found_at, header_of, option_map, start}
@@ -59,8 +59,8 @@ each_many : (ms : List Message) (old new : EndpointOf) → TakesEach ms old new 
 each_many ms old new each many =
     false_from_ne_true (is_some new.contract) (λ has. let few = each_few ms old new each (ap is_some (sym (each_stays ms old new each)) ∙ has) (omega arith) in absurd (omega (arith, few, many)))
 
-each_way : (ms : List Message) (old new : EndpointOf) → TakesEach ms old new → toward (endpoint new) ≡ toward (endpoint old)
-each_way [] old new each = ap (λ (p : EndpointOf). toward (endpoint p)) each
+each_way : (ms : List Message) (old new : EndpointOf) → TakesEach ms old new → direction_toward (endpoint new) ≡ direction_toward (endpoint old)
+each_way [] old new each = ap (λ (p : EndpointOf). direction_toward (endpoint p)) each
 each_way (m ∷ ms) old new each = each_way ms each.0 new each.2 ∙ way_taken m old each.0 each.1
 
 -- where it has taken these, after n others, and then ends so
@@ -74,7 +74,7 @@ blocks_more (n ∷ ms) m = ap (λ (l : List ℕ). n.blocks.items ++ l) (blocks_m
 
 -- until now the endpoint took these messages, and these came with them, to the end of the list
 abbrev pub Draining : (ℕ → Sight → Type 0) → ℕ → List Message → List (ℕ × Item) → PlaceOf → PlaceOf → Type 0
-Draining saw e ms ys old new = (mid : PlaceOf) × (gots : List Got) × EndDoes e old mid (TakesEach ms) × (map record_of gots ≡ flat_map (λ (m : Message). m.blocks.items) ms)
+Draining saw e ms ys old new = (mid : PlaceOf) × (gots : List Got) × EndDoes e old mid (TakesEach ms) × (map record_got gots ≡ flat_map (λ (m : Message). m.blocks.items) ms)
     × AreGot saw (toward_in (value_at e old.blocks)) ys gots × (new ≡ with_more ys mid)
 
 pub draining_none : (saw : ℕ → Sight → Type 0) (e : ℕ) (p : EndpointOf) (old : PlaceOf) → value_at e old.blocks ≡ Some (end_block p) → put e (end_block p) old.blocks ≡ old.blocks
@@ -116,8 +116,8 @@ module _ (saw : ℕ → Sight → Type 0) (e : ℕ) (ms : List Message) (ys : Li
   same_after : (p : EndpointOf) → value_at e mid.blocks ≡ Some (end_block p) → p ≡ after
   same_after p at = one_end p after (sym at ∙ draining_at)
 
-  pub draining_more : (next new : PlaceOf) (m : Message) (zs : List (ℕ × Item)) (gots : List Got) (does : EndDoes e mid next (EndpointTakes (Ok m))) → map record_of gots ≡ m.blocks.items
-      → AreGot saw (toward (endpoint does.0)) zs gots → new ≡ with_more zs next → Draining saw e (ms ++ m ∷ []) (ys ++ zs) old new
+  pub draining_more : (next new : PlaceOf) (m : Message) (zs : List (ℕ × Item)) (gots : List Got) (does : EndDoes e mid next (EndpointTakes (Ok m))) → map record_got gots ≡ m.blocks.items
+      → AreGot saw (direction_toward (endpoint does.0)) zs gots → new ≡ with_more zs next → Draining saw e (ms ++ m ∷ []) (ys ++ zs) old new
   draining_more next new m zs gots does records got list =
       let q : EndpointOf = does.1 in
       let one : EndpointTakes (Ok m) after q = subst (λ (p : EndpointOf). EndpointTakes (Ok m) p q) (same_after does.0 does.2) does.4 in
@@ -125,7 +125,7 @@ module _ (saw : ℕ → Sight → Type 0) (e : ℕ) (ms : List Message) (ys : Li
         base,
         is.1 ++ gots,
         (before, q, is.2.2, refl, each_more ms m before after q is.2.4 one),
-        map-append record_of is.1 gots ∙ (λ i. is.3 i ++ records i) ∙ sym (blocks_more ms m),
+        map-append record_got is.1 gots ∙ (λ i. is.3 i ++ records i) ∙ sym (blocks_more ms m),
         got_both saw d ys zs is.1 gots is.4 (subst (λ (n : ℕ). AreGot saw n zs gots) (sym (ap toward_in does.2) ∙ draining_way) got),
         list ∙ ap (with_more zs) (does.3 ∙ draining_put q) ∙ more_twice ys zs base,
       )
@@ -147,7 +147,7 @@ cleared saw r ys old mid new shut drain =
     let at : value_at r mid.blocks ≡ Some (end_block s) = ap (λ (z : PlaceOf). value_at r z.blocks) shut.3 ∙ put_at r (end_block s) (end_block p) old.blocks shut.2 in
     let one : does.0 ≡ s = one_end does.0 s (sym does.2 ∙ at) in
     let drained' : IsDrained 0 ms s q = subst (λ (z : EndpointOf). IsDrained 0 ms z q) one does.4 in
-    let turned : toward_in (value_at r mid.blocks) ≡ toward (endpoint p) = ap toward_in at ∙ way_shut p s shut.4 in
+    let turned : toward_in (value_at r mid.blocks) ≡ direction_toward (endpoint p) = ap toward_in at ∙ way_shut p s shut.4 in
     let base : drain.0 ≡ with_blocks old (put r (end_block q) old.blocks) =
     does.3 ∙ ap (λ (z : PlaceOf). with_blocks z (put r (end_block q) z.blocks)) shut.3 ∙ ap (with_blocks old) (put_twice r (end_block q) (end_block s) old.blocks) in (
       (
@@ -188,7 +188,7 @@ pub taken_from : (e : ℕ) (old mid new : PlaceSeen) (result : Result Taken Refu
 taken_from e old mid new (Ok taken) same is =
     let shape : mid.place.shape ≡ old.place.shape = ap (λ (p : PlaceOf). p.shape) same.0 in
     let wide = seen_wide mid new old new shape (ap (λ (p : PlaceOf). p.process) same.0) (did_starts old.place.process [] old.front mid.front same.1) (starts_same refl) in
-    let d : ℕ = toward (endpoint is.made.0) in record {
+    let d : ℕ = direction_toward (endpoint is.made.0) in record {
       mid = is.mid;
       m = is.m;
       gained = is.gained;

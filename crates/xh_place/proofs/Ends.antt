@@ -1,8 +1,8 @@
 -- An endpoint that a call works on in its lot, and what follows of the channel's clauses.
 use Rattle.xh_place.proofs.Words.{rules, refl, Content, bytes, ◌≡◌, ℕ, List, true, sym, ap, ◌∙◌, subst, Some, LotOf, Status, END_BYTES, put, value_at, Shape, IsLotOf, Held, with_lots}
 use Rattle.xh_place.proofs.Words.{EndpointOf, Body, End, content_of}
-use Rattle.xh_place.proofs.Words.{endpoint, fits_in, kind_of, IsEnd, LotDoes, bare, EndDoes, end_block, Item, PlaceOf, IsBlock, IsPlace, item_of, shown, with_blocks, Ok, Err, Result, IfErr}
-use Rattle.xh_place.proofs.Words.{MatchResult, Message, Refused, put_same, toward, Taken, EndpointShuts, EndpointTakes, IsTaken, IsUntaken, PlaceSeen, Did, []}
+use Rattle.xh_place.proofs.Words.{endpoint, fits_in, kind_of, IsEndLot, LotDoes, bare, EndDoes, end_block, Item, PlaceOf, IsBlock, IsPlace, item_of, shown, with_blocks, Ok, Err, Result, IfErr}
+use Rattle.xh_place.proofs.Words.{MatchResult, Message, Refused, put_same, direction_toward, Taken, EndpointShuts, EndpointTakes, IsTaken, IsUntaken, PlaceSeen, Did, []}
 use Rattle.xh_channel.specs.declared.refused.Refused.{Refused as NoMessage}
 use Rattle.xh_channel.specs.Refusals.{same_refusal}
 use Rattle.xh_core.specs.declared.refused.Refused.TheVariants.{Empty}
@@ -45,7 +45,7 @@ module _ (does : EndpointOf → EndpointOf → Type 0) {s : Shape} {e : ℕ} {l 
 -- an endpoint of the list, on whose lot a call works
 module _ {seat : Held Body} (rs : List ℕ) {room total : ℕ} {state : Status} (is : IsPlace seat (shown seat.lots rs) room total state) {p : PlaceOf} (view : view_of seat (shown seat.lots rs) state ≡ p)
     (e : ℕ) (end : (x : Item) × (value_at e p.blocks ≡ Some x) × (kind_of x.content ≡ kind.End)) where
-  pub end_held : (l : LotOf Body) × (value_at e seat.lots ≡ Some l) × IsLotOf seat.shape e l × IsEnd l
+  pub end_held : (l : LotOf Body) × (value_at e seat.lots ≡ Some l) × IsLotOf seat.shape e l × IsEndLot l
   end_held = let f = found is view e end.1 in (f.lot, f.held, f.block.lot, ap (λ (x : Item). kind_of x.content) f.same ∙ end.2)
 
   -- it did what its lot did
@@ -73,7 +73,7 @@ module _ {seat : Held Body} (rs : List ℕ) {room total : ℕ} {state : Status} 
       end_did rs is view e (listed.0, listed.1, ap (λ (x : Item). kind_of x.content) (sym f.same ∙ item_was rel f.block moved)) last rel did
 
   pub end_way : (way : Option ℕ) → ((l : LotOf Body) → value_at e seat.lots ≡ Some l
-      → MatchOption way (kind_of (content_of l.body) ≡ kind.Data) (λ d. (kind_of (content_of l.body) ≡ kind.End) × (d ≡ toward (content_of l.body)) × (d < DIRECTIONS)))
+      → MatchOption way (kind_of (content_of l.body) ≡ kind.Data) (λ d. (kind_of (content_of l.body) ≡ kind.End) × (d ≡ direction_toward (content_of l.body)) × (d < DIRECTIONS)))
       → MatchOption way (has_end (found_at p e) ≡ false) (λ d. (has_end (found_at p e) ≡ true) × (d ≡ toward_in (value_at e p.blocks)) × (d < DIRECTIONS))
   end_way way told = go way (told f.lot f.held) where
     f : Found seat (shown seat.lots rs) e listed.0
@@ -83,10 +83,10 @@ module _ {seat : Held Body} (rs : List ℕ) {room total : ℕ} {state : Status} 
     kind_at = ap (λ (o : Option Item). has_end (option_map header_of o)) listed.1 ∙ ap (λ (x : Item). not (is_data (kind_of x.content))) (sym f.same)
 
     go : (way : Option ℕ) → MatchOption way (kind_of (content_of f.lot.body) ≡ kind.Data)
-        (λ d. (kind_of (content_of f.lot.body) ≡ kind.End) × (d ≡ toward (content_of f.lot.body)) × (d < DIRECTIONS))
+        (λ d. (kind_of (content_of f.lot.body) ≡ kind.End) × (d ≡ direction_toward (content_of f.lot.body)) × (d < DIRECTIONS))
         → MatchOption way (has_end (found_at p e) ≡ false) (λ d. (has_end (found_at p e) ≡ true) × (d ≡ toward_in (value_at e p.blocks)) × (d < DIRECTIONS))
     go None h = kind_at ∙ ap (λ k. not (is_data k)) h
-    go (Some d) h = (kind_at ∙ ap (λ k. not (is_data k)) h.0, h.1 ∙ ap (λ (x : Item). toward x.content) f.same ∙ sym (ap toward_in listed.1), h.2)
+    go (Some d) h = (kind_at ∙ ap (λ k. not (is_data k)) h.0, h.1 ∙ ap (λ (x : Item). direction_toward x.content) f.same ∙ sym (ap toward_in listed.1), h.2)
 
 -- what is told where a take found an endpoint
 pub popped : (e : ℕ) (old new : PlaceOf) (does : EndpointOf → EndpointOf → Type 0) (way : Option ℕ) (d : ℕ) → way ≡ Some d → MatchOption way (new ≡ old) (λ _. EndDoes e old new does)
@@ -105,11 +105,11 @@ when_end {b} {X} Y e h = subst (λ (z : Bool). MatchBool z X Y) (sym e) h
 
 -- ---- an endpoint stays at its direction
 
-pub way_taken : (m : Message) (old new : EndpointOf) → EndpointTakes (Ok m) old new → toward (endpoint new) ≡ toward (endpoint old)
-way_taken m old new t = ap (λ (e : EndpointOf). toward (endpoint e)) t.1.0
+pub way_taken : (m : Message) (old new : EndpointOf) → EndpointTakes (Ok m) old new → direction_toward (endpoint new) ≡ direction_toward (endpoint old)
+way_taken m old new t = ap (λ (e : EndpointOf). direction_toward (endpoint e)) t.1.0
 
-pub way_shut : (old new : EndpointOf) → EndpointShuts old new → toward (endpoint new) ≡ toward (endpoint old)
-way_shut old new t = ap (λ (e : EndpointOf). toward (endpoint e)) t.0
+pub way_shut : (old new : EndpointOf) → EndpointShuts old new → direction_toward (endpoint new) ≡ direction_toward (endpoint old)
+way_shut old new t = ap (λ (e : EndpointOf). direction_toward (endpoint e)) t.0
 
 -- ---- a take that answers Empty changes nothing
 

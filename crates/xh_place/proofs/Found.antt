@@ -1,6 +1,6 @@
 -- What a call that names a block of the list knows of it, and what the value of a place keeps.
 use Rattle.xh_place.proofs.Words.{◌≡◌, ℕ, List, refl, sym, ap, ◌∙◌, subst, Some, None, Option, LotOf, Status, Among, value_at, put, put_same, Held, IsRecord, IsSeatOf, RecordsOf, with_lots, Body}
-use Rattle.xh_place.proofs.Words.{Item, PlaceOf, option_map, header_of, item_of, IsBlock, IsPlace, IsPlaceOf, ◌≤◌, true, rules, Shape, End, content_of, fits_in, AreBlocks, Fits, IsWhole, Lists}
+use Rattle.xh_place.proofs.Words.{Item, PlaceOf, option_map, header_of, item_of, IsBlock, IsPlace, IsPlaceOf, ◌≤◌, true, rules, Shape, End, content_of, fits_in, AreBlocks, FitsLength, IsWholeItem, Lists}
 use Rattle.xh_place.proofs.Words.{item_at, Bool}
 use Rattle.xh_place.proofs.Words.{eq-eqb, dite, ℕ_discrete, MatchBool, ◌==◌, Process, keys, word_of, Knows, SawAt, arith}
 use Rattle.xh_place.proofs.Words.{◌+◌, ◌*◌, ◌%◌, slice_index, SawFull, SawTaken}
@@ -44,11 +44,11 @@ unmoved seat last r l at new = new ∙ ap (with_lots seat) (put_same r l seat.lo
 
 -- ---- what the value of a place keeps, and how its list and its seat belong together
 
-fits_whole : (b : Body) (n : ℕ) → fits_in b n ≡ true → Fits (content_of b) n
+fits_whole : (b : Body) (n : ℕ) → fits_in b n ≡ true → FitsLength (content_of b) n
 fits_whole (End p) n e = search rules
 fits_whole b n e = (search rules, search rules)
 
-pub block_whole : {s : Shape} {r : ℕ} {l : LotOf Body} → IsBlock s r l → IsWhole (item_of l)
+pub block_whole : {s : Shape} {r : ℕ} {l : LotOf Body} → IsBlock s r l → IsWholeItem (item_of l)
 block_whole {s} {r} {l} is = (is.full.0, fits_whole l.body l.len is.full.1)
 
 module _ {seat : Held Body} {xs : List (ℕ × Item)} {room total : ℕ} {state : Status} (is : IsPlace seat xs room total state) where
@@ -58,7 +58,7 @@ module _ {seat : Held Body} {xs : List (ℕ × Item)} {room total : ℕ} {state 
   pub are_blocks : AreBlocks xs
   are_blocks = record {
     distinct = is.distinct;
-    whole = λ r x at. let f = has r x at in subst IsWhole f.same (f.block.full.0, fits_whole f.lot.body f.lot.len f.block.full.1);
+    whole = λ r x at. let f = has r x at in subst IsWholeItem f.same (f.block.full.0, fits_whole f.lot.body f.lot.len f.block.full.1);
     few = count_bound is;
     sum = subst (λ (n : ℕ). n ≤ 274877906944) is.sum (total_bound is);
   }

@@ -6,7 +6,7 @@ use Rattle.xh_place.proofs.Words.{dec_among, map-append, arith, eqb, eq-eqb, ◌
 use Rattle.xh_place.proofs.Words.{nat_tests, list_all, list_any, first_refusal, Among, Distinct, value_at, given_tests, is_listed, Item, ◌≢◌, ◌+◌, ◌*◌, ◌≤◌, inl, inr, length, subst, cond, dite}
 use Rattle.xh_place.proofs.Words.{ℕ_discrete, LotOf, Status, is_over, keys, put, without, distinct_without, put_at, put_keys, put_other, without_at, without_other, Held, with_lots, HasNow, AreBack}
 use Rattle.xh_place.proofs.Words.{lens, less_all, Body, item_at, item_of, item_in, shown, total_of, with_blocks, IsBlock, IsPlace, settle, settled, length-append, append-nil, append_assoc}
-use Rattle.xh_place.proofs.Words.{Err, Ok, Result, Refused, OnOk, MatchResult, refusal, ◌++◌, Acts, Did, Event, Accept, AreGot, Got, IsSeenAfter, IsSeenBy, Shape, map, place_of, record_of}
+use Rattle.xh_place.proofs.Words.{Err, Ok, Result, Refused, OnOk, MatchResult, refusal, ◌++◌, Acts, Did, Event, Accept, AreGot, Got, IsSeenAfter, IsSeenBy, Shape, map, place_of, record_got}
 use Rattle.xh_place.proofs.Words.{StartsWith, Pass, among_either, last_at, last_other, accepted_on, passed_on, SawAt, CameBack}
 use Rattle.xh_core.specs.Several.{has_twice}
 use Rattle.std.proofs.Math.Bool.{or-false}
@@ -232,7 +232,7 @@ IsAccepting d gone given more old seat back bytes = Acts (accepted_on old.proces
     × ((r : ℕ) → Among more r → value_at r seat.lots ≡ None)
     × ((r : ℕ) → (Among given r → ⊥) → value_at r seat.lots ≡ value_at r old.lots)
     × Distinct more × (bytes ≡ lens given (λ q. value_at q seat.lots))
-    × ((gots : List Got) × (map record_of gots ≡ gone) × AreGot (IsSeenBy old seat) d (shown seat.lots back) gots)
+    × ((gots : List Got) × (map record_got gots ≡ gone) × AreGot (IsSeenBy old seat) d (shown seat.lots back) gots)
 
 -- nothing of what went came back
 pub back_none : (given : List ℕ) (seat : Held Body) (back : List ℕ) → back ≡ [] → ((r : ℕ) → Among given r → value_at r seat.lots ≡ None) → AreBack given back seat
@@ -345,8 +345,8 @@ accepting d gone given more r bytes n old seat last back new once among is came 
       before : StartsWith last.front seat.front → AreGot (IsSeenBy old last) d (shown seat.lots back) is.6.0
       before after = all_got_as (IsSeenBy old seat) (IsSeenBy old last) (seen_wide old old seat last refl refl (starts_same refl) after) d (shown seat.lots back) is.6.0 is.6.2
 
-      records : (got : Got) → record_of got ≡ r → map record_of (is.6.0 ++ got ∷ []) ≡ gone ++ r ∷ []
-      records got e = map-append record_of is.6.0 (got ∷ []) ∙ (λ i. is.6.1 i ++ e i ∷ [])
+      records : (got : Got) → record_got got ≡ r → map record_got (is.6.0 ++ got ∷ []) ≡ gone ++ r ∷ []
+      records got e = map-append record_got is.6.0 (got ∷ []) ∙ (λ i. is.6.1 i ++ e i ∷ [])
 
 -- ---- what was seen after a pass
 

@@ -1,7 +1,7 @@
 -- A block cut in two, and one in which some bytes were overwritten.
 use Rattle.xh_place.proofs.Words.{◌≡◌, ◌≢◌, ℕ, ◌+◌, ◌-◌, ◌/◌, ◌<◌, ◌≤◌, List, [], ◌∷◌, ◌++◌, length, drop, take, true, refl, sym, ap, ◌∙◌, subst, arith, rules, length-take-le, length-drop, Some}
 use Rattle.xh_place.proofs.Words.{None, LotOf, start, Tests, first_refusal, is_over, Status, Running, Among, keys, value_at, put, at_key, front_at, keys_push, last_put, put_keys}
-use Rattle.xh_place.proofs.Words.{IsLotOf, Held, IsRecord, IsSeatOf, RecordsOf, with_lots, HasNow, IsCut, IsData, bare, Body, Nothing, Data, End, bytes, content_of, fits_in, front, kind_of, rest}
+use Rattle.xh_place.proofs.Words.{IsLotOf, Held, IsRecord, IsSeatOf, RecordsOf, with_lots, HasNow, CutsLot, IsData, bare, Body, Nothing, Data, End, bytes, content_of, fits_in, front, kind_of, rest}
 use Rattle.xh_place.proofs.Words.{Did, claimed, Item, item_at, item_of, shown, total_of, IsBlock, IsPlace, length-append, Shape, patched}
 use Rattle.xh_model.specs.Arena.{IsGoodCut}
 use Rattle.xh_place.proofs.Listing.{put_front, shown_keys, total_put}
@@ -81,7 +81,7 @@ pub is_cut : (all : RecordsOf) (seat mid last : Held Body) (r t k : ℕ) (l l0 h
     → (Among (keys seat.lots) t → ⊥) → IsBlock seat.shape r l
     → IsLotOf seat.shape t l0 → IsRecord seat.shape t → IsData l → IsGoodCut k l.len → t / 256 ≡ r / 256
     → h ≡ record l { len = k; body = h.body } → content_of h.body ≡ front k (content_of l.body) → m ≡ record l0 { len = l.len - k; body = b } → content_of b ≡ rest k (content_of l.body)
-    → last ≡ with_lots mid (put t m (put r h mid.lots)) → Did seat.process (claimed seat.process (t ∷ [])) seat.front mid.front → IsCut seat last r k l t
+    → last ≡ with_lots mid (put t m (put r h mid.lots)) → Did seat.process (claimed seat.process (t ∷ [])) seat.front mid.front → CutsLot seat last r k l t
 is_cut all seat mid last r t k l l0 h m b c fresh block lot exists held good arena head head_bytes tail tail_bytes new acted =
     let d = data_of l.body l.len held.0 held.1 in let xs : List ℕ = d.0 in
     let long : length xs ≡ l.len = d.2 in let most : l.len ≤ 134217728 = d.3 in let below : k < l.len = good.2 in let some : 0 < k = good.0 in

@@ -1,8 +1,8 @@
 -- What was seen stays seen, and a word that was seen between two fronts was seen between wider ones.
 use Rattle.xh_place.proofs.Words.{◌≡◌, ℕ, ⊎_elim, inl, inr, List, [], ◌∷◌, ◌++◌, append_assoc, append-nil, refl, sym, ap, ◌∙◌, subst, Event, Among, value_at, Shape}
-use Rattle.xh_place.proofs.Words.{StartsWith, Held, IsRecord, HasSeen, Body, Got, Content, bytes, endpoint, toward, IsSwept, Sweeps, AreFetched, drop, suc, zero, AreGot, Did, Message, flat_map, map, map-append}
+use Rattle.xh_place.proofs.Words.{StartsWith, Held, IsRecord, HasSeenWord, Body, Got, Content, bytes, endpoint, direction_toward, IsSwept, Sweeps, AreFetched, drop, suc, zero, AreGot, Did, Message, flat_map, map, map-append}
 use Rattle.xh_place.proofs.Words.{EndsWith, toward_in, Clears, Drains, Item, PlaceOf, Status, IsElsewhere, IsSeen, PlaceSeen, SawAt, SawFull, SawWord}
-use Rattle.xh_place.proofs.Words.{Accept, LotOf, dite, here_first, item_of, not_here, place_of, record_of, ℕ_discrete}
+use Rattle.xh_place.proofs.Words.{Accept, LotOf, dite, here_first, item_of, not_here, place_of, record_got, ℕ_discrete}
 use Rattle.xh_model.specs.Words.{process_of}
 use Rattle.xh_records.specs.Deeds.{Adds, deeds_by}
 use Rattle.xh_records.proofs.Deeds.{deeds_append}
@@ -66,7 +66,7 @@ arrived_wide p from to from' to' r d x before after h = (h.0, h.1, starts_more f
 -- ---- looks
 
 -- a look, as the seat says it
-pub looked : (x y : Held Body) (r word : ℕ) → HasSeen r word x y → SawAt x.shape x.front y.front r word
+pub looked : (x y : Held Body) (r word : ℕ) → HasSeenWord r word x y → SawAt x.shape x.front y.front r word
 looked x y r word h = (y.front, (h.2.1.0, h.2.1.1), starts_same refl, h.1)
 
 pub saw_wide : (s : Shape) (from to from' to' : List (Deed Body)) (r word : ℕ) → StartsWith from from' → StartsWith to' to → SawAt s from to r word → SawAt s from' to' r word
@@ -106,7 +106,7 @@ module _ (P Q : ℕ → Sight → Type 0) (f : (r : ℕ) (s : Sight) → P r s �
 
   pub ends_as : (c : Content) (came : List (ℕ × Item)) → EndsWith P c came → EndsWith Q c came
   ends_as (bytes xs) came h = h
-  ends_as (endpoint e) came h = (h.0, h.1, h.2, h.3, h.4, all_fetched_as (toward (endpoint e)) (flat_map (λ (m : Message). m.blocks.items) h.0) came h.5)
+  ends_as (endpoint e) came h = (h.0, h.1, h.2, h.3, h.4, all_fetched_as (direction_toward (endpoint e)) (flat_map (λ (m : Message). m.blocks.items) h.0) came h.5)
 
   sweeps_as : (p budget : ℕ) (xs left : List (ℕ × Item)) (n : ℕ) (log : List (Event × Item)) → Sweeps P p budget xs left n log → Sweeps Q p budget xs left n log
   sweeps_as p zero xs left n log h = h
@@ -123,7 +123,7 @@ module _ (P Q : ℕ → Sight → Type 0) (f : (r : ℕ) (s : Sight) → P r s �
   clears_as r ys old new h = (h.0, h.1, h.2, h.3, ends_as h.0.content ys h.4, h.5)
 
 -- the same, where it is so at the records that are told of
-pub given_got_as : (P Q : ℕ → Sight → Type 0) (d : ℕ) (ys : List (ℕ × Item)) (gots : List Got) → ((r : ℕ) → Among (map record_of gots) r → (s : Sight) → P r s → Q r s)
+pub given_got_as : (P Q : ℕ → Sight → Type 0) (d : ℕ) (ys : List (ℕ × Item)) (gots : List Got) → ((r : ℕ) → Among (map record_got gots) r → (s : Sight) → P r s → Q r s)
     → AreGot P d ys gots → AreGot Q d ys gots
 given_got_as P Q d ys [] f h = h
 given_got_as P Q d ys (Here block kind ∷ gots) f h = (h.0, h.1, h.2, h.3, f block.rec (inl refl) (brings d h.0) h.4, given_got_as P Q d h.1 gots (λ r a. f r (inr a)) h.5)
@@ -167,7 +167,7 @@ module _ (seat : Held Body) {xs : List (ℕ × Item)} {state : Status} {p : Plac
 
 module _ (saw : ℕ → Sight → Type 0) where
   -- where it isn't told what came
-  pub fetched : (d : ℕ) (ys : List (ℕ × Item)) (gots : List Got) → AreGot saw d ys gots → AreFetched saw d (map record_of gots) ys
+  pub fetched : (d : ℕ) (ys : List (ℕ × Item)) (gots : List Got) → AreGot saw d ys gots → AreFetched saw d (map record_got gots) ys
   fetched d ys [] h = h
   fetched d ys (Here block kind ∷ gots) h = inl (h.0, h.1, h.2, h.4, fetched d h.1 gots h.5)
   fetched d ys (Missing r word ∷ gots) h = inr (word, h.0, h.1, fetched d ys gots h.2)

@@ -5,7 +5,7 @@ use Rattle.xh_place.proofs.Words.{take-append-drop, Option, None, Result, Err, M
 use Rattle.xh_place.proofs.Words.{HasGivenBack, IsSwept, RefusedOr, ending_again, Item, PlaceOf, total_of, with_list, with_more, vacated}
 use Rattle.xh_place.proofs.Words.{append_assoc, Some}
 use Rattle.xh_place.proofs.Words.{drop-append-le, drop_at, length-take-le, take-append-le, take_at, Event, nat_tests, Among, Distinct, keys, put, value_at, without}
-use Rattle.xh_place.proofs.Words.{keys_append, absent, here_first, not_here, put_keys, put_without, toward, accepted_on, EndsWith, Clears, Sweeps, gave, ⊎_elim, ◌⊎◌}
+use Rattle.xh_place.proofs.Words.{keys_append, absent, here_first, not_here, put_keys, put_without, direction_toward, accepted_on, EndsWith, Clears, Sweeps, gave, ⊎_elim, ◌⊎◌}
 use Rattle.xh_place.proofs.Counted.{none_back}
 use Rattle.xh_arena.specs.Views.{VaultOf}
 use Rattle.xh_place.specs.Vaults.{AsksEach, BringsBack}
@@ -124,7 +124,7 @@ sweeps_then saw p (suc u) k (suc all) (y ∷ ys) one left a b first next sum h s
   h.2 ++ next,
   h.3,
   omega (arith, h.4),
-  ap (λ (l : List (Event × Item)). l ++ next) h.5 ∙ append_assoc (accepted_on p (toward y.1.content) h.0) (vacated p y.0 ++ h.2) next,
+  ap (λ (l : List (Event × Item)). l ++ next) h.5 ∙ append_assoc (accepted_on p (direction_toward y.1.content) h.0) (vacated p y.0 ++ h.2) next,
   sweeps_then saw p u k all (ys ++ h.0) one left h.1 b h.2 next (omega (arith, sum)) h.6 some two,
 )
 
@@ -204,7 +204,7 @@ cut_out (suc from) r x more (y ∷ w) d e =
 
 -- some came to an end at `from`, and then it went
 swept_one : (saw : ℕ → Sight → Type 0) (from r bytes d : ℕ) (x : Item) (more : List (ℕ × Item)) (old mid new : PlaceOf) (ys : List (ℕ × Item))
-    → from ≤ length old.blocks → drop from old.blocks ≡ (r, x) ∷ more → mid ≡ with_more ys old → Distinct (keys mid.blocks) → EndsWith saw x.content ys → d ≡ toward x.content
+    → from ≤ length old.blocks → drop from old.blocks ≡ (r, x) ∷ more → mid ≡ with_more ys old → Distinct (keys mid.blocks) → EndsWith saw x.content ys → d ≡ direction_toward x.content
     → new.blocks ≡ without r mid.blocks → bytes + total_of new.blocks ≡ total_of mid.blocks
     → IsSwept saw from 1 old new bytes (accepted_on old.process d ys ++ vacated old.process r)
 swept_one saw from r bytes d x more old mid new ys inside first came once ends way is sum =
@@ -243,7 +243,7 @@ pub swept_clear : (saw : ℕ → Sight → Type 0) (from r bytes : ℕ) (x : Ite
 swept_clear saw from r bytes x more old mid new ys inside first at clear once is sum =
     let z : Item = clear.0 in let y : Item = clear.1 in let xs : List (ℕ × Item) = old.blocks in
     let both : Some z ≡ Some x = sym clear.2 ∙ at in let one : z ≡ x = cc in
-    let d : ℕ = toward_in (value_at r xs) in let way : d ≡ toward x.content = ap toward_in at in
+    let d : ℕ = toward_in (value_at r xs) in let way : d ≡ direction_toward x.content = ap toward_in at in
     let list : mid.blocks ≡ put r y xs ++ ys = ap (λ (p : PlaceOf). p.blocks) clear.5 in
     let names : keys mid.blocks ≡ keys (xs ++ ys) =
     ap keys list ∙ keys_append (put r y xs) ys ∙ ap (λ (l : List ℕ). l ++ keys ys) (put_keys r y xs) ∙ sym (keys_append xs ys) in

@@ -29,14 +29,14 @@ pub use Rattle.xh_model.specs.declared.event.Event.{Event}
 pub use Rattle.xh_model.specs.declared.event.Event.TheVariants.{Accept, Claim, Pass, Vacate}
 pub use Rattle.xh_model.specs.declared.event.Holder.TheVariants.{Process}
 pub use Rattle.xh_model.specs.declared.limits.TheConstants.{END_BYTES, MAX_BUDGET}
-pub use Rattle.xh_place.specs.Bodies.{Content, away, bytes, content_of, endpoint, fits_in, front, kind_of, part, patched, rest, toward}
+pub use Rattle.xh_place.specs.Bodies.{Content, away, bytes, content_of, endpoint, fits_in, front, kind_of, bytes_part, patched, rest, direction_toward}
 pub use Rattle.xh_place.specs.Desk.{IsSameDesk, IsSeatAt}
 pub use Rattle.xh_place.specs.Ending.{HasGivenBack, IsClosed, IsSwept, Sweeps}
-pub use Rattle.xh_place.specs.Endpoints.{AreFetched, AreGot, EndsWith, IsDrained, record_of}
+pub use Rattle.xh_place.specs.Endpoints.{AreFetched, AreGot, EndsWith, IsDrained, record_got}
 pub use Rattle.xh_place.specs.Ends.{EndDoes, IsTooLate, RefusedOr, end_block, ending_again}
 pub use Rattle.xh_place.specs.Messages.{IsSent, IsTaken, IsUntaken, refusal, settled}
 pub use Rattle.xh_place.specs.Events.{accepted_on, claimed, let_go, passed_on, vacated}
-pub use Rattle.xh_place.specs.Places.{AreBlocks, Fits, IsBlock, IsPlace, IsPlaceOf, IsQuiet, IsWhole, Item, Lists, PlaceOf, found as found_at, header_of, item_at, item_in, item_of, shown}
+pub use Rattle.xh_place.specs.Places.{AreBlocks, FitsLength, IsBlock, IsPlace, IsPlaceOf, IsQuiet, IsWholeItem, Item, Lists, PlaceOf, found as found_at, header_of, item_at, item_in, item_of, shown}
 pub use Rattle.xh_place.specs.Places.{alone, picked, total_of}
 pub use Rattle.xh_place.proofs.Terms.{is_listed, last, nothing, settle, with_blocks, with_list, with_more}
 pub use Rattle.xh_place.specs.Seen.{Becomes, Did, FindsFull, Gains, IsElsewhere, IsSamePlace, IsSeen, IsSeenAfter, LetsGo, PlaceSeen, SawFull, SawWord, Stays}
@@ -47,10 +47,10 @@ pub use Rattle.xh_place.specs.declared.body.Body.TheVariants.{Data, End, Nothing
 pub use Rattle.xh_place.specs.declared.got.Got.{Got}
 pub use Rattle.xh_place.specs.declared.got.Taken.{Taken}
 pub use Rattle.xh_place.specs.inner.Lists.{AreBack, CameBack, IsSeenBy, lens, less, less_all}
-pub use Rattle.xh_place.specs.inner.Lots.{Acts, HasNow, IsCut, IsData, IsEnd, LotDoes, SeatFull, SeatLetsGo, bare}
+pub use Rattle.xh_place.specs.inner.Lots.{Acts, HasNow, CutsLot, IsData, IsEndLot, LotDoes, SeatFull, SeatLetsGo, bare}
 pub use Rattle.xh_place.specs.inner.Reclaiming.{Clears, Drains, IsSweptLate, TakesEach, toward_in}
 pub use Rattle.xh_records.specs.History.{StartsWith}
-pub use Rattle.xh_records.specs.Seats.{HasDone, HasGained, HasLooked, HasLost, HasSeen, Held, IsRecord, IsSeatOf, Knows, RecordsOf, SawAt, SawTaken, with_lots}
+pub use Rattle.xh_records.specs.Seats.{HasDone, HasGained, HasLooked, HasLost, HasSeenWord, Held, IsRecord, IsSeatOf, Knows, RecordsOf, SawAt, SawTaken, with_lots}
 pub use Rattle.xh_records.specs.Showing.{IsLotOf}
 pub use Rattle.xh_records.specs.declared.shape.Shape.{Shape}
 pub use mathlib.Core.Logic.{dite}

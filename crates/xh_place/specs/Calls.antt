@@ -17,7 +17,7 @@ use Rattle.xh_core.specs.Space.{rounded}
 use Rattle.xh_model.specs.declared.limits.TheConstants.{MAX_RECORDS}
 use Rattle.xh_model.specs.declared.event.Event.{Event}
 use Rattle.xh_model.specs.Keyed.{put, value_at, without}
-use Rattle.xh_place.specs.Bodies.{Content, bytes, endpoint, part, patched}
+use Rattle.xh_place.specs.Bodies.{Content, bytes, endpoint, bytes_part, patched}
 use Rattle.xh_place.specs.Ending.{IsClosed, Sweeps}
 use Rattle.xh_place.specs.Ends.{RefusedOr}
 use Rattle.xh_place.specs.Events.{claimed, vacated}
@@ -78,7 +78,7 @@ pub record Splits (status : Status) (r k : ℕ) (old new : PlaceSeen) (result : 
 pub record Reads (status : Status) (r at : ℕ) (shown : List ℕ) (old new : PlaceSeen) (result : Result (Unit {0}) Refused) : Type 0 where
   pub same : Stays old new
   pub read : Tested (start status ++ range_tests (found old.place r) at (length shown)) result
-      (λ _. (x : Item) × (value_at r old.place.blocks ≡ Some x) × (shown ≡ part at (length shown) x.content))
+      (λ _. (x : Item) × (value_at r old.place.blocks ≡ Some x) × (shown ≡ bytes_part at (length shown) x.content))
 
 -- these bytes stand in the block from `at` on
 pub record Writes (status : Status) (r at : ℕ) (xs : List ℕ) (old new : PlaceSeen) (result : Result (Unit {0}) Refused) : Type 0 where

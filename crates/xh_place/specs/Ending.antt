@@ -6,7 +6,7 @@ use Rattle.xh_model.specs.declared.event.Event.{Event}
 use Rattle.xh_model.specs.Keyed.{value_at, without}
 use Rattle.xh_core.specs.Calls.{reclaimed}
 use Rattle.xh_model.specs.declared.limits.TheConstants.{MAX_BUDGET}
-use Rattle.xh_place.specs.Bodies.{toward}
+use Rattle.xh_place.specs.Bodies.{direction_toward}
 use Rattle.xh_place.specs.Endpoints.{EndsWith}
 use Rattle.xh_place.specs.Events.{accepted_on, vacated}
 use Rattle.xh_place.specs.Places.{Item, PlaceOf}
@@ -18,7 +18,7 @@ module _ (saw : ℕ → Sight → Type 0) where
   -- to go with the others; then its record was vacated. These are left, and so many bytes went.
   abbrev pub Sweeps : ℕ → ℕ → List (ℕ × Item) → List (ℕ × Item) → ℕ → List (Event × Item) → Type 0
   Sweeps p (suc budget) (y ∷ ys) left bytes log = (came : List (ℕ × Item)) × (more : ℕ) × (later : List (Event × Item)) × EndsWith saw y.1.content came × (bytes ≡ y.1.len + more)
-      × (log ≡ accepted_on p (toward y.1.content) came ++ (vacated p y.0 ++ later)) × Sweeps p budget (ys ++ came) left more later
+      × (log ≡ accepted_on p (direction_toward y.1.content) came ++ (vacated p y.0 ++ later)) × Sweeps p budget (ys ++ came) left more later
   Sweeps p budget ys left bytes log = (left ≡ ys) × (bytes ≡ 0) × (log ≡ [])
 
   -- a sweep of the list from `from` on

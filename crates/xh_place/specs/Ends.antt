@@ -18,7 +18,7 @@ use Rattle.xh_arena.specs.Views.{TallyOf, VaultOf}
 use Rattle.xh_place.specs.Vaults.{BringsBack}
 use Rattle.xh_place.specs.declared.opening.Unopened.{Unopened}
 use Rattle.xh_place.specs.Tallies.{took}
-use Rattle.xh_place.specs.Places.{IsWhole, Item, PlaceOf}
+use Rattle.xh_place.specs.Places.{IsWholeItem, Item, PlaceOf}
 use Rattle.xh_place.specs.Events.{accepted_on, claimed}
 use Rattle.xh_place.specs.Seen.{Becomes, Gains, IsElsewhere, IsSeen, LetsGo, PlaceSeen, SawWord, Stays, brings}
 use Rattle.xh_place.specs.Ending.{IsSwept}
@@ -82,14 +82,14 @@ IsTooLate d r old new sum = (x : Item) × (log : List (Event × Item))
     × IsSwept (IsSeen old new) (length old.place.blocks) MAX_BUDGET (record old.place { blocks = old.place.blocks ++ (r, x) ∷ [] }) new.place sum log
     × Becomes (record old.place { blocks = new.place.blocks; state = ending_again old.place.state (length new.place.blocks) })
     (accepted_on old.place.process d ((r, x) ∷ []) ++ log) old new
-    × IsWhole x × (x.len ≤ sum) × IsSeen old new r (brings d x)
+    × IsWholeItem x × (x.len ≤ sum) × IsSeen old new r (brings d x)
 
 -- It came on the direction to the end of the list of the process, which runs here; or the process doesn't, and then it came too late;
 -- or nothing has changed, since nobody has the place, or another word was seen than "in flight on the direction".
 pub record Accepts {V : Type 0} (changes : V → V → ℕ → VaultOf → VaultOf → Type 0) (tallies : V → List TallyOf) (process r direction : ℕ) (old new : PlaceSeen) (from to : V)
     (result : Result Block Refused) : Type 0 where
   pub here : IfOk result (λ b. (is_here old.place process ≡ true) × (b.rec ≡ r)
-      × ((x : Item) × (x.len ≡ b.len) × Gains direction ((r, x) ∷ []) old new × IsWhole x × IsSeen old new r (brings direction x))
+      × ((x : Item) × (x.len ≡ b.len) × Gains direction ((r, x) ∷ []) old new × IsWholeItem x × IsSeen old new r (brings direction x))
       × (to ≡ from))
   pub away : IfErr result (λ e. (e ≡ Ended) × ((Stays old new × (to ≡ from) × ((old.place.state ≡ status.Vacant) ⊎ IsElsewhere (SawWord old new) direction r))
       ⊎ ((is_here old.place process ≡ false) × (old.place.state ≢ status.Vacant)

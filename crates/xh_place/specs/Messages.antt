@@ -12,8 +12,8 @@ use Rattle.xh_core.specs.declared.refused.Refused.TheVariants.{Protocol, PeerClo
 use Rattle.xh_core.specs.declared.status.Status.{Status}
 use Rattle.xh_model.specs.Keyed.{keys, put, value_at, without}
 use Rattle.xh_channel.specs.Calls.{EndpointPuts, EndpointTakes}
-use Rattle.xh_place.specs.Bodies.{away, endpoint, toward}
-use Rattle.xh_place.specs.Endpoints.{AreFetched, AreGot, record_of}
+use Rattle.xh_place.specs.Bodies.{away, endpoint, direction_toward}
+use Rattle.xh_place.specs.Endpoints.{AreFetched, AreGot, record_got}
 use Rattle.xh_place.specs.Ends.{EndDoes, RefusedOr}
 use Rattle.xh_place.specs.Events.{accepted_on, passed_on}
 use Rattle.xh_place.specs.declared.got.Taken.{Taken}
@@ -60,9 +60,9 @@ pub record IsTaken (e : ℕ) (old new : PlaceSeen) (taken : Taken) : Type 0 wher
   pub m : Message
   pub gained : List (ℕ × Item)
   pub made : EndDoes e old.place mid (EndpointTakes (Ok m))
-  pub told : (taken.no ≡ m.no) × (taken.tag ≡ m.tag) × (map record_of taken.blocks.items ≡ m.blocks.items)
-  pub list : Becomes (record mid { blocks = mid.blocks ++ gained }) (accepted_on old.place.process (toward (endpoint made.0)) gained) old new
-  pub got : AreGot (IsSeen old new) (toward (endpoint made.0)) gained taken.blocks.items
+  pub told : (taken.no ≡ m.no) × (taken.tag ≡ m.tag) × (map record_got taken.blocks.items ≡ m.blocks.items)
+  pub list : Becomes (record mid { blocks = mid.blocks ++ gained }) (accepted_on old.place.process (direction_toward (endpoint made.0)) gained) old new
+  pub got : AreGot (IsSeen old new) (direction_toward (endpoint made.0)) gained taken.blocks.items
 
 -- the endpoint took nothing, and the answer is that of the take
 abbrev pub IsUntaken : ℕ → PlaceOf → PlaceOf → Refused → Type 0

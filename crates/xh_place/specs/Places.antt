@@ -73,17 +73,17 @@ shown lots [] = []
 shown lots (r ∷ rs) = (r, item_in (value_at r lots)) ∷ shown lots rs
 
 -- a block has bytes, and what it carries is of its length
-abbrev pub Fits : Content → ℕ → Type 0
-Fits (bytes xs) n = (length xs ≡ n) × (n ≤ MAX_BYTES)
-Fits (endpoint e) n = n ≡ END_BYTES
+abbrev pub FitsLength : Content → ℕ → Type 0
+FitsLength (bytes xs) n = (length xs ≡ n) × (n ≤ MAX_BYTES)
+FitsLength (endpoint e) n = n ≡ END_BYTES
 
-abbrev pub IsWhole : Item → Type 0
-IsWhole x = (0 < x.len) × Fits x.content x.len
+abbrev pub IsWholeItem : Item → Type 0
+IsWholeItem x = (0 < x.len) × FitsLength x.content x.len
 
 -- what a list of blocks keeps: each record stands once, each block is whole, and there are at most 2,048
 pub record AreBlocks (xs : List (ℕ × Item)) : Type 0 where
   pub distinct : Distinct (keys xs)
-  pub whole : (r : ℕ) (x : Item) → value_at r xs ≡ Some x → IsWhole x
+  pub whole : (r : ℕ) (x : Item) → value_at r xs ≡ Some x → IsWholeItem x
   pub few : length xs ≤ MAX_ARENAS * MAX_RECORDS
   pub sum : total_of xs ≤ MAX_ARENAS * MAX_RECORDS * MAX_BYTES
 
@@ -97,8 +97,8 @@ pub record Lists (seat : Held Body) (xs : List (ℕ × Item)) : Type 0 where
 abbrev pub glance_of : PlaceOf → Glance
 glance_of p = record { process = p.process; state = p.state; blocks = length p.blocks; bytes = total_of p.blocks }
 
-abbrev pub line : PlaceOf → PlaceLine
-line p = line_of (glance_of p)
+abbrev pub place_line : PlaceOf → PlaceLine
+place_line p = line_of (glance_of p)
 
 -- a place that nobody has had has no line
 abbrev pub line_in : Status → PlaceLine → Option PlaceLine

@@ -6,7 +6,7 @@ ghost use Rattle.xh_core.specs.Calls.{range_tests};
 ghost use Rattle.xh_core.specs.declared.header.Kind.TheVariants as kind;
 ghost use Rattle.xh_core.specs.Refusing.{Tested};
 ghost use Rattle.xh_model.specs.Keyed.{value_at, put};
-ghost use Rattle.xh_place.specs.Bodies.{bytes, content_of, fits_in, kind_of, part, patched, rest};
+ghost use Rattle.xh_place.specs.Bodies.{bytes, content_of, fits_in, kind_of, bytes_part, patched, rest};
 ghost use Rattle.xh_place.specs.Calls.{bytes_in, made_of};
 ghost use Rattle.xh_place.specs.Places.{Item, header_of, item_of};
 ghost use Rattle.xh_place.specs.declared.body.Body.{Body};
@@ -49,7 +49,7 @@ pub(crate) fn read_lot(
     requires held { (l : LotOf Body) × (value_at r seat.old.lots ≡ Some l) × IsLotOf seat.old.shape r l × IsFull fits_in l }
     ensures same { seat.new ≡ seat.old }
     ensures read { (l : LotOf Body) → value_at r seat.old.lots ≡ Some l → Tested (range_tests (Some (header_of (item_of l))) at (length out.old)) result
-        (λ _. (kind_of (content_of l.body) ≡ kind.Data) × (out.new ≡ part at (length out.old) (content_of l.body))) }
+        (λ _. (kind_of (content_of l.body) ≡ kind.Data) × (out.new ≡ bytes_part at (length out.old) (content_of l.body))) }
     ensures refused { OnErr result (out.new ≡ out.old) }
 {
     records.with_lot(
@@ -59,7 +59,7 @@ pub(crate) fn read_lot(
             requires { IsFull fits_in lot.old }
             ensures lot { lot.new ≡ lot.old }
             ensures read { Tested (range_tests (Some (header_of (item_of lot.old))) at (length out.entry.now)) result
-                (λ _. (kind_of (content_of lot.old.body) ≡ kind.Data) × (out.exit.now ≡ part at (length out.entry.now) (content_of lot.old.body))) }
+                (λ _. (kind_of (content_of lot.old.body) ≡ kind.Data) × (out.exit.now ≡ bytes_part at (length out.entry.now) (content_of lot.old.body))) }
             ensures refused { OnErr result (out.exit.now ≡ out.entry.now) }
         {
             check_range(header_of(lot), at, out.len())?;

@@ -5,7 +5,7 @@ ghost use Rattle.xh_arena.specs.Views.{LotOf};
 ghost use Rattle.xh_model.specs.Keyed.{Among, Distinct, value_at};
 ghost use Rattle.xh_model.specs.declared.limits.TheConstants.{DIRECTIONS, MAX_BLOCKS};
 ghost use Rattle.xh_place.specs.Bodies.{IsEndAt, away, content_of};
-ghost use Rattle.xh_place.specs.Endpoints.{AreGot, record_of};
+ghost use Rattle.xh_place.specs.Endpoints.{AreGot, record_got};
 ghost use Rattle.xh_place.specs.Messages.{refusal};
 ghost use Rattle.xh_place.specs.Places.{IsBlock, item_in, shown};
 ghost use Rattle.xh_place.specs.Seen.{IsSeenAfter};
@@ -83,7 +83,7 @@ pub(crate) fn accept_back(
     requires gone { (r : ℕ) → Among given.now r → value_at r seat.old.lots ≡ None }
     requires records { (r : ℕ) → Among given.now r → IsRecord records.now.shape r }
     ensures came { Acts (accepted_on seat.old.process direction (shown seat.new.lots result.0.items)) seat.new.lots seat.old seat.new }
-    ensures seen { (gots : List Got) × (map record_of gots ≡ given.now) × AreGot (IsSeenBy seat.old seat.new) direction (shown seat.new.lots result.0.items) gots }
+    ensures seen { (gots : List Got) × (map record_got gots ≡ given.now) × AreGot (IsSeenBy seat.old seat.new) direction (shown seat.new.lots result.0.items) gots }
     ensures back { AreBack given.now result.0.items seat.new }
     ensures others { (r : ℕ) → (Among given.now r → ⊥) → value_at r seat.new.lots ≡ value_at r seat.old.lots }
     ensures bytes { result.1 ≡ lens given.now (λ r. value_at r seat.new.lots) }
@@ -159,7 +159,7 @@ pub(crate) fn give_all<R: Wait, V, G: Gate>(
     ensures lost { result.lost ≡ lens given.now (λ r. value_at r seat.old.lots) }
     ensures gained { result.gained ≡ lens given.now (λ r. value_at r seat.new.lots) }
     ensures sent { OnOk result.put (result.back.items ≡ []) }
-    ensures seen { OnErr result.put ((gots : List Got) × (map record_of gots ≡ given.now)
+    ensures seen { OnErr result.put ((gots : List Got) × (map record_got gots ≡ given.now)
         × AreGot (IsSeenAfter (away (item_in (value_at e seat.old.lots)).content) seat.old.process seat.old.shape seat.old.front seat.new.front)
         (away (item_in (value_at e seat.old.lots)).content) (shown seat.new.lots result.back.items) gots) }
 {

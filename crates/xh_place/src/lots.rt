@@ -13,7 +13,7 @@ ghost use Rattle.xh_place.specs.Splitting.{IsUncut};
 ghost use Rattle.xh_place.specs.Tallies.{gave, took};
 ghost use Rattle.xh_place.specs.Vaults.{Asks, IsNoBlock, IsRefusedAt};
 ghost use Rattle.xh_place.specs.declared.body.Body.{Body};
-ghost use Rattle.xh_place.specs.inner.Lots.{Acts, IsCut, IsData, SeatFull, SeatLetsGo};
+ghost use Rattle.xh_place.specs.inner.Lots.{Acts, CutsLot, IsData, SeatFull, SeatLetsGo};
 ghost use Rattle.xh_records.specs.Seats.{IsSeatOf, IsRecord, SawAt, with_lots};
 ghost use Rattle.xh_records.specs.Showing.{IsLotOf, IsFull};
 ghost use Rattle.xh_place.specs.Events.{accepted_on, claimed, passed_on, vacated};
@@ -360,7 +360,7 @@ pub(crate) fn cut_block<R, V: Vaults, G: Gate>(
     requires held { (l : LotOf Body) × (value_at r seat.old.lots ≡ Some l) × IsBlock seat.old.shape r l × IsData l × IsGoodCut k l.len }
     ensures same { IsSameDesk V.names V.extent desk.old desk.new }
     ensures tallies { V.tallies desk.new.vaults ≡ V.tallies desk.old.vaults }
-    ensures cut { IfOk result (λ t. (l : LotOf Body) → value_at r seat.old.lots ≡ Some l → IsCut seat.old seat.new r k l t) }
+    ensures cut { IfOk result (λ t. (l : LotOf Body) → value_at r seat.old.lots ≡ Some l → CutsLot seat.old seat.new r k l t) }
     ensures asked { OnOk result (Asks V.changes (r / MAX_RECORDS) desk.old.vaults desk.new.vaults) }
     ensures refused { OnErr result (SeatLetsGo (λ claims. length claims ≤ 1) (r / MAX_RECORDS) seat.old seat.new × (desk.new.vaults ≡ desk.old.vaults)) }
     ensures why { IfErr result (IsUncut (SeatFull 0 seat.old seat.new (r / MAX_RECORDS))) }

@@ -3,7 +3,7 @@ ghost use Rattle.std.specs.Prelude.{◌≡◌, ◌⊎◌, ◌+◌, ◌*◌, ◌<
 ghost use Rattle.xh_core.specs.Statuses.{is_over};
 ghost use Rattle.xh_model.specs.Keyed.{keys, value_at};
 ghost use Rattle.xh_model.specs.declared.limits.TheConstants.{GENERATIONS, MAX_ARENAS, MAX_RECORDS};
-ghost use Rattle.xh_place.specs.Places.{AreBlocks, IsPlaceOf, Item, Lists, found, line, line_in, started, total_of};
+ghost use Rattle.xh_place.specs.Places.{AreBlocks, IsPlaceOf, Item, Lists, found, place_line, line_in, started, total_of};
 ghost use Rattle.xh_place.specs.Seen.{Stays};
 ghost use Rattle.xh_model.specs.Words.{generation_of};
 ghost use Rattle.xh_core.specs.declared.status.Status.TheVariants as status;
@@ -161,7 +161,7 @@ impl Place {
         ensures same { (result.0.table ≡ self.place.table) × (result.0.shape ≡ self.place.shape) × (result.0.process ≡ self.place.process) × (result.0.front ≡ self.front) }
         ensures lists { Lists result.0 self.place.blocks }
         ensures nothing { is_over self.place.state ≡ true → result.0.lots ≡ [] }
-        ensures line { result.1 ≡ line_in self.place.state (line self.place) }
+        ensures line { result.1 ≡ line_in self.place.state (place_line self.place) }
     {
         let line = self.line();
         let Place {
@@ -178,7 +178,7 @@ impl Place {
 
     // What the ledger says of it.
     fn line(&self) -> PlaceLine
-        ensures { result ≡ line self.now.place }
+        ensures { result ≡ place_line self.now.place }
     {
         let glance = Glance {
             process: self.process(),

@@ -11,17 +11,17 @@ use xh_books::close_kernel;
 use xh_core::Config;
 use xh_kernel::{Account, Kernel, Look, Names, Parts};
 use xh_runner::{Machine, Report, hire, leave_all};
-use xh_script::{Answered, Fault, Name, Script};
+use xh_script::{Fault, Name, NumberedReply, Script};
 use xh_session::{Bindings, Session};
 
 // The replies, and the name of the latest process of each place.
-type Told = (Vec<Answered>, Vec<Name>);
+type RepliesAndNames = (Vec<NumberedReply>, Vec<Name>);
 
 /// The machine, the replies, and the name of the latest process of each place.
 #[derive(Drop)]
-struct Played<M> {
+struct PlayedCalls<M> {
     machine: M,
-    answers: Vec<Answered>,
+    answers: Vec<NumberedReply>,
     names: Vec<Name>,
 }
 
@@ -31,14 +31,14 @@ fn answer_all<M: Machine>(
     session: &mut Session<'_, M>,
     script: &Script,
     points: &Points,
-) -> Result<Told, AllocError>
+) -> Result<RepliesAndNames, AllocError>
     ensures { IfOk result (λ r. length r.1.items ≡ PLACES) }
 {
     let mut answers = Vec::with_capacity(alloc, script.lines.len())?;
     for line in &script.lines {
         points.begin(line.number);
         let reply = session.step(alloc, &line.command);
-        answers.push(Answered {
+        answers.push(NumberedReply {
             line: line.number,
             reply,
         })?;
@@ -53,7 +53,7 @@ fn play_on<M: Machine>(
     machine: M,
     script: &Script,
     points: &Points,
-) -> Result<Played<M>, AllocError>
+) -> Result<PlayedCalls<M>, AllocError>
     ensures { IfOk result (λ played. length played.names.items ≡ PLACES) }
 {
     let mut session = Session {
@@ -68,7 +68,7 @@ fn play_on<M: Machine>(
         contracts: _,
     } = session;
     let (answers, names) = answered?;
-    Ok(Played {
+    Ok(PlayedCalls {
         machine,
         answers,
         names,
@@ -84,14 +84,14 @@ fn play_by_worker<N: Names, R: Wait>(
     looks: Vec<Look>,
     script: &Script,
     points: &Points,
-) -> Result<(Told, Vec<Account<N>>, Vec<Look>), AllocError>
+) -> Result<(RepliesAndNames, Vec<Account<N>>, Vec<Look>), AllocError>
     requires count { (vec_len accounts ≡ 1) × (vec_len looks ≡ 1) }
     requires own { All (λ l. l.table ≡ N.parts.histories) looks.items }
     ensures count { IfOk result (λ r. (vec_len r.1 ≡ 1) × (length r.0.1.items ≡ PLACES)) }
     ensures own { IfOk result (λ r. All (λ l. l.table ≡ N.parts.histories) r.2.items) }
 {
     let mut workers = hire(rt, alloc, kernel, points, accounts, looks)?;
-    let Played {
+    let PlayedCalls {
         machine,
         answers,
         names,

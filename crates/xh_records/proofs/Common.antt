@@ -28,15 +28,15 @@ pub use Rattle.xh_records.specs.After.{IsAfter, LeadsOnStores, Wants}
 pub use Rattle.xh_records.specs.Deeds.{Adds, Arrives, Deed, IsLast, IsLeft, deeds_by, events}
 pub use Rattle.xh_records.specs.Encoding.{holder_of}
 pub use Rattle.xh_records.specs.History.{IsOneLog, LeadsTo, StartsWith, TellsWord}
-pub use Rattle.xh_records.specs.Seats.{Ends, EndsAs, HasDone, HasGained, HasLooked, HasLost, HasSeen, Held, IsRecord, IsSeatOf, Knows, RecordsOf, SawAt, SawTaken, lot_in, with_lots}
+pub use Rattle.xh_records.specs.Seats.{Ends, EndsAs, HasDone, HasGained, HasLooked, HasLost, HasSeenWord, Held, IsRecord, IsSeatOf, Knows, RecordsOf, SawAt, SawTaken, lot_in, with_lots}
 pub use Rattle.xh_records.specs.Showing.{HomeFits, IsEmpty, IsHistory, IsLotAt, IsLotOf, IsSmall, Owns, Shown, Shows, Sits, ViewFits, ViewTells}
 pub use Rattle.xh_records.specs.declared.shape.Shape.{Shape}
 pub use Rattle.xh_records.specs.declared.view.View.{View}
 pub use Rattle.xh_records.specs.inner.Events.{IsAway, IsHomeLot, giving, seen, taking}
 pub use Rattle.xh_records.specs.inner.Gathering.{IsGathered, or_else, slot_at}
-pub use Rattle.xh_records.specs.inner.Steps.{IsOthers, KnowsAt, SeesMore, aged, compared, gave, looked, took}
+pub use Rattle.xh_records.specs.inner.Steps.{IsOthers, KnowsAt, SeesMore, aged, compared, gave_slot, looked, took_slot}
 pub use Rattle.xh_records.specs.inner.Tokens.{AllBelow, AllLots, IsListed, IsSeat, IsTurned, in_slot, numbered, turns, with_lot}
-pub use Rattle.xh_records.specs.inner.Views.{IsAlone, IsDealer, adds, all_places, dealer, dealt, dealt_from, doing, first_of, front_in, gained, head_of, joined, knowing, lost}
+pub use Rattle.xh_records.specs.inner.Views.{IsAlone, IsDealer, adds, all_places, dealer, dealt, dealt_from, doing, first_history, front_in, gained, head_of, joined, knowing, lost}
 pub use Rattle.xh_records.specs.inner.Views.{indices, none_yet, note_of, owned_by, places_from, renewed, spent, tail_of, view_of}
 pub use lib.ListN.{get_elem?}
 pub use mathlib.Core.Logic.{dite}

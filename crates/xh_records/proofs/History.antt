@@ -1,7 +1,7 @@
 -- The log of all events, as it grows, and the views' fronts.
 use Rattle.xh_records.proofs.Common.{nat_tests, ◌≡◌, ℕ, ◌<◌, ◌≢◌, List, [], ◌∷◌, ◌++◌, length, set, get_or, sym, refl, ap, ◌∙◌, subst, inl, inr, arith, append_assoc}
 use Rattle.xh_records.proofs.Common.{append-nil, mod-lt, some, get_elem?, at_set, Event, Ownership, IsDone, place_of, Among, among_either, Shape, View, IsOneLog, LeadsTo}
-use Rattle.xh_records.proofs.Common.{StartsWith, None, replicate, process_of, Sits, ViewTells, IsHistory, IsOthers, IsAlone, adds, first_of, front_in, none_yet, tail_of, Accept, Deed}
+use Rattle.xh_records.proofs.Common.{StartsWith, None, replicate, process_of, Sits, ViewTells, IsHistory, IsOthers, IsAlone, adds, first_history, front_in, none_yet, tail_of, Accept, Deed}
 use Rattle.xh_records.proofs.Common.{◌%◌, MAX_RECORDS, IsHolder, record_of, to_of, IsLeft, deeds_by, events}
 use Rattle.xh_records.proofs.Deeds.{arrives_more, deeds_append, deeds_same, events_more}
 use Rattle.xh_records.proofs.Elements.{either_way, only_one}
@@ -90,7 +90,7 @@ more_history s o o' views log id w d old done there long inside sits one was apa
 }
 
 -- the one front of a view, and more events in it
-pub adds_one : {X : Type 0} (es : List X) (q : ℕ) (l : List (ℕ × List X)) → l ≡ (q, first_of l) ∷ [] → (first_of (adds es l) ≡ first_of l ++ es) × (adds es l ≡ (q, first_of (adds es l)) ∷ [])
+pub adds_one : {X : Type 0} (es : List X) (q : ℕ) (l : List (ℕ × List X)) → l ≡ (q, first_history l) ∷ [] → (first_history (adds es l) ≡ first_history l ++ es) × (adds es l ≡ (q, first_history (adds es l)) ∷ [])
 adds_one es q l one = grind (arith, nat_tests)
 
 -- of places with nothing yet

@@ -5,7 +5,7 @@ use Rattle.xh_records.proofs.Common.{keeps, step, stepped, Allows, at_set, set_h
 use Rattle.xh_records.proofs.Common.{View, Holder, Process, Direction, Event, index_of, Ownership, IsHeldBy, IsHolder, IsDone, word_of, place_of, number_of, record_of, from_of, to_of}
 use Rattle.xh_records.proofs.Common.{word_injective, index_back, number_inside, LeadsTo, replicate, process_of, Sits, Owns, IsLotAt, HomeFits, ViewFits, ViewTells, IsSmall, Shows, Shown}
 use Rattle.xh_records.proofs.Common.{KnowsAt}
-use Rattle.xh_records.proofs.Common.{taking, giving, IsAway, IsHomeLot, IsAlone, first_of, gained, head_of, knowing, lost, SeesMore, took, gave, looked, compared}
+use Rattle.xh_records.proofs.Common.{taking, giving, IsAway, IsHomeLot, IsAlone, first_history, gained, head_of, knowing, lost, SeesMore, took_slot, gave_slot, looked, compared}
 use mathlib.Core.Option as maybe
 use lib.Seq.{map-set}
 use Rattle.xh_records.proofs.History.{Unseen, more_history, one_log, tells_all, unseen}
@@ -250,7 +250,7 @@ module _ {B : Type 0} (fits : B → ℕ → Bool) (s : Shape) where
             (
               o,
               subst (λ (z : Shape × List (Deed B)). LeadsTo z.0.records (replicate (length o) None) (events z.1) o)
-                  (λ i. (sym (fit.knows p new_to_it.sits) i, sym (ap first_of front) i)) shown.history.leads,
+                  (λ i. (sym (fit.knows p new_to_it.sits) i, sym (ap first_history front) i)) shown.history.leads,
               a.holder,
               a.held,
               a.found,
@@ -261,7 +261,7 @@ module _ {B : Type 0} (fits : B → ℕ → Bool) (s : Shape) where
 
   -- a compare that takes
   pub takes_lot : (slots id : ℕ) (me : M) (r old new p : ℕ) (h : Option Holder) (said : maybe.Option S) → old ≡ word_of h → new ≡ word_of (Some (Process p)) → IsAway h → r < slots → IsAlone me.0 p
-      → Allows (Shown fits s) slots id me r (λ n. either (eqb n old) new n) (took fits (step slots r old new said) me)
+      → Allows (Shown fits s) slots id me r (λ n. either (eqb n old) new n) (took_slot fits (step slots r old new said) me)
   takes_lot slots id me r old new p h said is_old is_new free inside alone t holds long seen small =
       let mine : me.0.processes ≡ p ∷ [] = alone.0 in
       let o = holds.0 in let shown = holds.1 in let a : At t o r = at t o r slots shown long inside in let n : ℕ = get_or t.words r 0 in
@@ -294,7 +294,7 @@ module _ {B : Type 0} (fits : B → ℕ → Bool) (s : Shape) where
             )),
             subst (λ (z : Shape). IsLotAt z r l.0) (sym (fit.knows p sits)) l.2,
             (λ q owns. free q (one_holder o r h (Some (Process q)) held (fit.is_owner r q owns).0)),
-            subst (λ (z : List (ℕ × List (Deed B))). Arrives (first_of z)) (sym (new_to_it.now ((taking p (number_of me.0.shape.records r) h, l.0) ∷ [])))
+            subst (λ (z : List (ℕ × List (Deed B))). Arrives (first_history z)) (sym (new_to_it.now ((taking p (number_of me.0.shape.records r) h, l.0) ∷ [])))
                 (subst (λ (z : Shape). Arrives (shown.log ++ (taking p (number_of z.records r) h, l.0) ∷ [])) (sym (fit.knows p sits))
                 (arrives_more shown.log (taking p (number_of s.records r) h, l.0) shown.history.arrives was)),
           )),
@@ -317,7 +317,7 @@ module _ {B : Type 0} (fits : B → ℕ → Bool) (s : Shape) where
   -- a store that gives
   pub gives_lot : (slots id : ℕ) (me : M) (r new p : ℕ) (k : Option Holder) (lot : LotOf B) (rest_of : List (ℕ × S)) → new ≡ word_of k → IsAway k → IsHolder k → me.1 ≡ (r, Some lot) ∷ rest_of
       → IsAlone me.0 p → Owns me.0 r p → IsLotAt me.0.shape r lot → IsHomeLot fits k lot
-      → Allows (Shown fits s) slots id me r (λ _. new) (λ _. gave (step slots r new 0 none) me new)
+      → Allows (Shown fits s) slots id me r (λ _. new) (λ _. gave_slot (step slots r new 0 none) me new)
   gives_lot slots id me r new p k lot rest_of is_new free good front alone owns is_lot home t holds long seen small =
       let o = holds.0 in let shown = holds.1 in let fit = shown.views_fit id me.0 seen in let was = fit.is_owner r p owns in
       let new_to_it : Unseen shown.log me.0 p = unseen shown.log me.0 p (shown.history.tells id me.0 seen) alone in let w : View B = lost me.0 r p k lot new_to_it.others in

@@ -1,5 +1,5 @@
 -- A seat that looked before it did something.
-use Rattle.xh_records.proofs.Common.{ℕ, List, [], ◌∷◌, ◌++◌, ap, ◌∙◌, subst, LotOf, Deed, Event, place_of, record_of, StartsWith, IsLotOf, Held, HasSeen, Knows, TellsWord, events, index_of}
+use Rattle.xh_records.proofs.Common.{ℕ, List, [], ◌∷◌, ◌++◌, ap, ◌∙◌, subst, LotOf, Deed, Event, place_of, record_of, StartsWith, IsLotOf, Held, HasSeenWord, Knows, TellsWord, events, index_of}
 use Rattle.xh_records.proofs.Common.{HasGained, HasLooked, MAX_RECORDS, SawTaken, get_or, sym, ◌+◌, ◌*◌, ◌<◌}
 use Rattle.xh_records.proofs.Common.{Adds, seen}
 use Rattle.xh_records.proofs.Deeds.{adds_more}
@@ -27,7 +27,7 @@ module _ {B : Type 0} (x y : Held B) (look : HasLooked x y) where
   pub starts_on : (front : List (Deed B)) → StartsWith front y.front → StartsWith front x.front
   starts_on front later = starts_twice x.front y.front front (look.1.0, look.1.1) later
 
-  pub seen_on : (r word : ℕ) (z : Held B) → HasSeen r word y z → HasSeen r word x z
+  pub seen_on : (r word : ℕ) (z : Held B) → HasSeenWord r word y z → HasSeenWord r word x z
   seen_on r word z saw = (
     subst (λ h. Knows h r word) look.0 saw.0,
     subst (λ h. TellsWord h.shape.records (events z.front) (index_of h.shape.records r) word) look.0 saw.1,

@@ -1,7 +1,7 @@
 -- A seat's lots by the numbers of their records.
 use Rattle.xh_records.proofs.Common.{nat_tests, arith, ◌≡◌, ℕ, suc, length, ◌%◌, ◌<◌, ◌≤◌, List, [], ◌∷◌, ◌++◌, map, sym, refl, ap, ◌∙◌, subst, Option, Some, None, Me, TableId, LotOf}
 use Rattle.xh_records.proofs.Common.{index_of, Deed, IsLast, append_assoc, number_of, place_of, number_inside, index_back, number_back, Among, keys, put, value_at, without, Shape, View, IsLotOf, IsLotAt, IsSmall}
-use Rattle.xh_records.proofs.Common.{Holder, Process, Direction, taking, giving, HasDone, HasGained, HasLost, HasSeen, Held, view_of, with_lots, IsRecord, adds, front_in}
+use Rattle.xh_records.proofs.Common.{Holder, Process, Direction, taking, giving, HasDone, HasGained, HasLost, HasSeenWord, Held, view_of, with_lots, IsRecord, adds, front_in}
 use Rattle.xh_records.proofs.Common.{IsOthers, SeesMore, TellsWord, in_slot, with_lot, numbered, AllLots, IsSeat, events}
 use Rattle.xh_records.specs.inner.Steps.{process_in}
 use Rattle.xh_records.proofs.Common.{deeds_by, get_or, inl, word_of, Knows, KnowsAt}
@@ -180,7 +180,7 @@ module _ {B : Type 0} (x : Held B) (t : TableId) (id process : ℕ) (me : Me (Op
 
   -- and after a look, which found a word
   pub held_seen : (order : List ℕ) (capacity slots : ℕ) (seat : IsSeat process order capacity slots me) (t' : TableId) (id' : ℕ) (me' : Me (Option (LotOf B)) (View B)) (slot r word : ℕ) → t' ≡ t
-      → id' ≡ id → slot ≡ index_of x.shape.records r → r % 256 < x.shape.records → SeesMore slot word me me' → HasSeen r word x (held t' id' process me')
+      → id' ≡ id → slot ≡ index_of x.shape.records r → r % 256 < x.shape.records → SeesMore slot word me me' → HasSeenWord r word x (held t' id' process me')
   held_seen order capacity slots seat t' id' me' slot r word et en at inside sees =
       let shape : me'.0.shape ≡ x.shape = ap (λ (m : Me (Option (LotOf B)) (View B)). m.0.shape) sees.2 ∙ ap (λ (y : Held B). y.shape) is in (
         known order capacity slots seat slot r at word inside sees.3.0,

@@ -79,8 +79,8 @@ SawTaken arena words x y = (length words ≡ x.shape.records) × ((k : ℕ) → 
     × Knows x (arena * MAX_RECORDS + k) (slice_index words k) × SawAt x.shape x.front y.front (arena * MAX_RECORDS + k) (slice_index words k))
 
 -- the seat looked at the record r, whose word at that step was this: that of its holder
-abbrev pub HasSeen : {B : Type 0} → ℕ → ℕ → Held B → Held B → Type 0
-HasSeen r word x y = Knows x r word × TellsWord x.shape.records (events y.front) (index_of x.shape.records r) word × HasLooked x y
+abbrev pub HasSeenWord : {B : Type 0} → ℕ → ℕ → Held B → Held B → Type 0
+HasSeenWord r word x y = Knows x r word × TellsWord x.shape.records (events y.front) (index_of x.shape.records r) word × HasLooked x y
 
 -- the lot of the record at an index, by its holder at the end: that of the seat of its process, or the one at home
 module _ {B : Type 0} (fits : B → ℕ → Bool) (s : Shape) (seats : List (Held B)) where

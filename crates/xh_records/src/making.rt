@@ -21,7 +21,7 @@ use std::alloc::{AllocError, Global};
 use xh_arena::{Fits, Lot};
 
 /// The table itself, which its seats share.
-pub(crate) type Home<B> = Table<Option<Lot<B>>, View<B>, Shape, Showing<B>, Global>;
+pub(crate) type LotTable<B> = Table<Option<Lot<B>>, View<B>, Shape, Showing<B>, Global>;
 
 // A word of no holder and a slot for each lot.
 fn homes_of<L: Drop>(alloc: Global, lots: Vec<L>) -> Result<(Vec<u64>, Vec<Option<L>>), AllocError>
@@ -37,7 +37,7 @@ pub(crate) fn table_of<B: Fits + Drop>(
     alloc: Global,
     lots: Vec<Lot<B>>,
     shape: &Shape,
-) -> Result<(Home<B>, Token<B>), Refused>
+) -> Result<(LotTable<B>, Token<B>), Refused>
     requires limits { (shape.now.places ≤ PLACES) × IsSmall shape.now }
     requires empty { (k : ℕ) (l : LotOf B) → get_elem? lots.items k ≡ some l → IsLotAt shape.now k l × IsEmpty B.is_fit l }
     ensures { IfOk result (λ t. (t.0.shared.table_id.words ≡ length lots.items) × (t.0.shared.table_id.slots ≡ length lots.items) × (t.0.shared.key ≡ shape.now)

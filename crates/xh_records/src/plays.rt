@@ -7,24 +7,24 @@ use xh_arena::{Fits, Lot};
 pub(crate) struct Takes;
 
 impl<B: Fits> Play<Option<Lot<B>>, View<B>> for Takes {
-    ghost use Rattle.xh_records.specs.inner.Steps.{took};
+    ghost use Rattle.xh_records.specs.inner.Steps.{took_slot};
 
-    ghost then = { took B.is_fit };
+    ghost then = { took_slot B.is_fit };
 }
 
 /// Pass, to in flight, or vacate, to free.
 pub(crate) struct Gives;
 
 impl<B> Play<Option<Lot<B>>, View<B>> for Gives {
-    ghost use Rattle.xh_records.specs.inner.Steps.{gave};
+    ghost use Rattle.xh_records.specs.inner.Steps.{gave_slot};
 
-    ghost then = { gave };
+    ghost then = { gave_slot };
 }
 
 /// A plain load.
-pub(crate) struct Looks;
+pub(crate) struct LooksAtRecord;
 
-impl<B> Play<Option<Lot<B>>, View<B>> for Looks {
+impl<B> Play<Option<Lot<B>>, View<B>> for LooksAtRecord {
     ghost use Rattle.xh_records.specs.inner.Steps.{looked};
 
     ghost then = { looked };

@@ -13,8 +13,8 @@ ghost use Rattle.xh_records.specs.History.{IsOneLog};
 ghost use Rattle.xh_records.specs.Seats.{SawTaken};
 ghost use Rattle.xh_records.specs.inner.Events.{taking, giving, IsAway, IsHomeLot};
 
-use crate::making::{Home, seats_of, table_of};
-use crate::plays::{Looks, Notes, Renews};
+use crate::making::{LotTable, seats_of, table_of};
+use crate::plays::{LooksAtRecord, Notes, Renews};
 use crate::refused::Refused;
 use crate::seat::Seat;
 use crate::seen::Seen;
@@ -25,13 +25,13 @@ use arrayvec::ArrayVec;
 use std::alloc::Global;
 use std::collections::LinkedList;
 use std::marker::Model;
-use xh_arena::{Fits, Lot, Name};
+use xh_arena::{Fits, Lot, VaultName};
 use xh_model::limits::{MAX_RECORDS, PLACES};
 
 /// The owner words of all records, and the slots of their lots.
 #[derive(Drop)]
 pub struct Records<B: Fits> {
-    pub(crate) table: Home<B>,
+    pub(crate) table: LotTable<B>,
     pub(crate) arenas: u8,
     pub(crate) records: u16,
 }
@@ -57,7 +57,7 @@ fn number_at(arena: u8, index: u16) -> u16
 
 impl<B: Fits + Drop> Records<B> {
     ghost use Rattle.xh_records.specs.Deeds.{Arrives};
-    ghost use Rattle.xh_records.specs.Seats.{Held, IsSeatOf, IsRecord, HasGained, HasLooked, HasLost, HasSeen};
+    ghost use Rattle.xh_records.specs.Seats.{Held, IsSeatOf, IsRecord, HasGained, HasLooked, HasLost, HasSeenWord};
 
     /// A table over the empty lots of whole vaults, one after the other, each of `records` lots (1 to
     /// 256), which have these names; and a seat for each of the `places` (1 to 32) at its first
@@ -65,7 +65,7 @@ impl<B: Fits + Drop> Records<B> {
     pub fn new(
         alloc: Global,
         lots: Vec<Lot<B>>,
-        names: LinkedList<Name>,
+        names: LinkedList<VaultName>,
         records: u16,
         places: u8,
     ) -> Result<(Records<B>, Vec<Seat<B>>), Refused>
@@ -133,7 +133,7 @@ impl<B: Fits + Drop> Records<B> {
         ensures arrives { OnOk result (Arrives seat.new.front) }
         ensures taken { OnOk result (HasGained (taking seat.old.process number (holder_of from)) (IsHomeLot B.is_fit (holder_of from)) seat.old seat.new) }
         ensures fresh { OnOk result (Among (keys seat.old.lots) number → ⊥) }
-        ensures missed { IfErr result (λ word. (word ≢ word_of (holder_of from)) × HasSeen number word seat.old seat.new) }
+        ensures missed { IfErr result (λ word. (word ≢ word_of (holder_of from)) × HasSeenWord number word seat.old seat.new) }
     {
         let slot = self.slot_of(number);
         match take_slot(
@@ -175,7 +175,7 @@ impl<B: Fits + Drop> Records<B> {
         requires at { (slot ≡ index_of self.now.shape.records number) × (slot < self.now.table.words) × (slot < self.now.table.slots) }
         ensures claimed { OnOk result (HasGained (Claim seat.old.process number) (IsEmpty B.is_fit) seat.old seat.new) }
         ensures fresh { OnOk result (Among (keys seat.old.lots) number → ⊥) }
-        ensures missed { IfErr result (λ word. (word ≢ 0) × HasSeen number word seat.old seat.new) }
+        ensures missed { IfErr result (λ word. (word ≢ 0) × HasSeenWord number word seat.old seat.new) }
     {
         let word = self.word_at(seat, slot, number);
         if word != OwnerWord::Free.encode() {
@@ -243,7 +243,7 @@ impl<B: Fits + Drop> Records<B> {
         ensures accepted { OnOk result (HasGained (Accept seat.old.process number direction) (IsFull B.is_fit) seat.old seat.new) }
         ensures arrives { OnOk result (Arrives seat.new.front) }
         ensures fresh { OnOk result (Among (keys seat.old.lots) number → ⊥) }
-        ensures missed { IfErr result (λ word. (word ≢ word_of (Some (Direction direction))) × HasSeen number word seat.old seat.new) }
+        ensures missed { IfErr result (λ word. (word ≢ word_of (Some (Direction direction))) × HasSeenWord number word seat.old seat.new) }
     {
         self.take(seat, number, OwnerWord::InFlight(direction))
     }
@@ -276,10 +276,10 @@ impl<B: Fits + Drop> Records<B> {
         requires own { IsSeatOf self.now seat.old }
         requires exists { IsRecord self.now.shape number }
         requires at { (slot ≡ index_of self.now.shape.records number) × (slot < self.now.table.words) × (slot < self.now.table.slots) }
-        ensures { HasSeen number result seat.old seat.new }
+        ensures { HasSeenWord number result seat.old seat.new }
     {
         let board = &self.table.shared;
-        board.load::<Looks>(&mut seat.token, slot)
+        board.load::<LooksAtRecord>(&mut seat.token, slot)
     }
 
     /// A record's word at one moment, by any seat: `OwnerWord::decode` says what it means. It names the
@@ -287,7 +287,7 @@ impl<B: Fits + Drop> Records<B> {
     pub fn owner_word(&self, seat: &mut Seat<B>, number: u16) -> u64
         requires own { IsSeatOf self.now seat.old }
         requires exists { IsRecord self.now.shape number }
-        ensures { HasSeen number result seat.old seat.new }
+        ensures { HasSeenWord number result seat.old seat.new }
     {
         let slot = usize::from(self.slot_of(number));
         self.word_at(seat, slot, number)

@@ -1,5 +1,5 @@
 use std::collections::LinkedList;
-use xh_arena::Name;
+use xh_arena::VaultName;
 
 /// How the records lie: how many each arena has (1 to 256), how many process places there are (1 to
 /// 32), and the name of each arena's vault.
@@ -7,5 +7,5 @@ use xh_arena::Name;
 pub struct Shape {
     pub records: u64,
     pub places: u64,
-    pub names: LinkedList<Name>,
+    pub names: LinkedList<VaultName>,
 }

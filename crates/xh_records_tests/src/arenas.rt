@@ -1,8 +1,8 @@
 //! An arena's calls with figures.
 mod calls;
 
-use crate::answers::Answer;
-use crate::answers::Answer::{At, Bytes, No, Nothing, Number, Run};
+use crate::answers::TableAnswer;
+use crate::answers::TableAnswer::{At, Bytes, No, Nothing, Number, Run};
 use calls::Call::{Books, Carve, Cut, Extent, GiveBack, Hole, Records, Size};
 use calls::{Call, assert_answers, assert_on};
 use std::alloc::Global;
@@ -11,7 +11,7 @@ use xh_arena::{Arena, Refused};
 
 #[test]
 fn holes_merge(rt: HostRuntime) {
-    const CALLS: &[(Call, Answer)] = &[
+    const CALLS: &[(Call, TableAnswer)] = &[
         (Carve(0, 16), At(0)),
         (Carve(1, 16), At(16)),
         (Carve(2, 16), At(32)),
@@ -37,7 +37,7 @@ fn holes_merge(rt: HostRuntime) {
 
 #[test]
 fn a_record_is_cut(rt: HostRuntime) {
-    const CALLS: &[(Call, Answer)] = &[
+    const CALLS: &[(Call, TableAnswer)] = &[
         (Records, Number(2)),
         (Carve(0, 48), At(0)),
         (Extent(1), Nothing),
@@ -52,7 +52,7 @@ fn a_record_is_cut(rt: HostRuntime) {
 #[test]
 fn the_largest_is_carved_whole(rt: HostRuntime) {
     const MOST: u32 = 134_217_728;
-    const CALLS: &[(Call, Answer)] = &[
+    const CALLS: &[(Call, TableAnswer)] = &[
         (Size, Number(134_217_728)),
         (Carve(0, 134_217_712), At(0)),
         (Carve(1, 32), No(Refused::NoSpace)),
@@ -73,7 +73,7 @@ fn the_largest_is_carved_whole(rt: HostRuntime) {
 
 /// Makes an arena and looks at it, unless a growth was refused.
 fn is_made(rt: &impl Abort, alloc: Global) -> bool {
-    const CALLS: &[(Call, Answer)] = &[
+    const CALLS: &[(Call, TableAnswer)] = &[
         (Size, Number(256)),
         (Records, Number(8)),
         (Books, Bytes(0, 0)),

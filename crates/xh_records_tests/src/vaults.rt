@@ -1,8 +1,8 @@
 //! A vault's calls with figures.
 mod hand;
 
-use crate::answers::Answer;
-use crate::answers::Answer::{At, Bytes, Has, No, Nothing, Number, Run};
+use crate::answers::TableAnswer;
+use crate::answers::TableAnswer::{At, Bytes, Has, No, Nothing, Number, Run};
 use hand::Call::{Audit, Books, Carve, Cut, GiveBack, Hole, Mark, Moved, Records, Sees, Size};
 use hand::{Call, assert_answers, assert_on, collect, dealt, made};
 use std::alloc::Global;
@@ -26,7 +26,7 @@ impl Fits for Any {
 
 #[test]
 fn worn_vault(rt: HostRuntime) {
-    const CALLS: &[(u8, Call, Answer)] = &[
+    const CALLS: &[(u8, Call, TableAnswer)] = &[
         (0, Audit, Has(0, None, 0)),
         (1, Audit, Has(1, None, 0)),
         (0, Carve(64), At(0)),
@@ -48,7 +48,7 @@ fn worn_vault(rt: HostRuntime) {
 /// is none, and a refusal changes neither the lot nor the tally.
 #[test]
 fn carved_to_its_limit(rt: HostRuntime) {
-    const CALLS: &[(u8, Call, Answer)] = &[
+    const CALLS: &[(u8, Call, TableAnswer)] = &[
         (0, Carve(64), At(0)),
         (1, Carve(16), No(Refused::NoSpace)),
         (1, Audit, Has(1, None, 0)),
@@ -66,7 +66,7 @@ fn carved_to_its_limit(rt: HostRuntime) {
 
 #[test]
 fn a_lot_is_cut(rt: HostRuntime) {
-    const CALLS: &[(u8, Call, Answer)] = &[
+    const CALLS: &[(u8, Call, TableAnswer)] = &[
         (0, Carve(48), At(0)),
         (0, Cut(16), Nothing),
         (0, Audit, Has(0, Some((0, 16)), 16)),
@@ -91,7 +91,7 @@ fn workers_are_1_to_33(rt: HostRuntime) {
 
 /// Makes a vault and looks at it, unless a growth was refused.
 fn is_made(rt: &impl Abort, alloc: Global) -> bool {
-    const CALLS: &[(u8, Call, Answer)] = &[
+    const CALLS: &[(u8, Call, TableAnswer)] = &[
         (0, Size, Number(64)),
         (0, Records, Number(4)),
         (0, Books, Bytes(0, 0)),

@@ -1,40 +1,33 @@
 -- Lemmas on how lines are played, and on which reply is whose.
-use Rattle.xh_runner.proofs.Common.{Answered, Bool, Line, List, Plays, Processes, Reply, World, [], add-one, ap, append-nil, append_assoc, arith, drop, drop-cons, drop_of_length-le, false}
+use Rattle.xh_runner.proofs.Common.{NumberedReply, Bool, Line, List, Plays, Processes, Reply, World, [], add-one, ap, append-nil, append_assoc, arith, drop, drop-cons, false}
 use Rattle.xh_runner.proofs.Common.{filter, get_or, if◌then◌else◌, length, map, nat_tests, nil_from_length, part, part_of, refl, set, subst, suc, sym, true, zero, ℕ, ◌++◌, ◌+◌, ◌<◌, ◌==◌}
 use Rattle.xh_runner.proofs.Common.{◌∙◌, ◌∷◌, ◌≡◌, ◌≤◌}
 use Rattle.std.proofs.Common.{take, ◌≢◌}
-use Rattle.std.proofs.lemmas.List.{get_or-set_other, get_or-set_same}
+use Rattle.std.proofs.lemmas.List.{Elements.filter_more, get_or-set_other, get_or-set_same}
 use Rattle.xh_runner.specs.Plays.{AllZipFrom, replies_in}
 
 -- ---- a loop that plays those of the lines that pass a test
 
--- whatever is played of the rest, with what was played so far it is played from the beginning
-abbrev pub Continues : {S : Type 0} → (World S → Line → Reply → World S → Type 0) → (Line → Bool) → World S → List Line → List Reply → World S → ℕ → Type 0
-Continues {S} Step own old lines so_far now i = (later : List Reply) (end : World S) → Plays Step now (filter own (drop i lines)) later end → Plays Step old (filter own lines) (so_far ++ later) end
-
 pub drop_at : (lines : List Line) (i : ℕ) (line : Line) → i < length lines → get_or lines i line ≡ line → drop i lines ≡ line ∷ drop (i + 1) lines
 drop_at lines i line below e = rw (drop-cons lines i line below, e, add-one i) refl
 
-pub continues_own : {S : Type 0} (Step : World S → Line → Reply → World S → Type 0) (own : Line
-    → Bool) (old now mid : World S) (lines : List Line) (so_far : List Reply) (reply : Reply) (i : ℕ) (line : Line)
-    → i < length lines → get_or lines i line ≡ line → own line ≡ true → Step now line reply mid
-    → Continues Step own old lines so_far now i → Continues Step own old lines (so_far ++ reply ∷ []) mid (i + 1)
-continues_own Step own old now mid lines so_far reply i line below e is step h = λ later end p.
-    let first : filter own (drop i lines) ≡ line ∷ filter own (drop (i + 1) lines) = ap (filter own) (drop_at lines i line below e) ∙ (rw is refl) in
-    subst (λ rs. Plays Step old (filter own lines) rs end) (sym (append_assoc so_far (reply ∷ []) later))
-    (h (reply ∷ later) end (subst (λ ls. Plays Step now ls (reply ∷ later) end) (sym first) (mid, step, p)))
+-- one more line is played
+plays_one : {S : Type 0} (Step : World S → Line → Reply → World S → Type 0) (old now new : World S) (lines : List Line) (replies : List Reply) (line : Line) (reply : Reply)
+    → Plays Step old lines replies now → Step now line reply new → Plays Step old (lines ++ line ∷ []) (replies ++ reply ∷ []) new
+plays_one Step old now new [] [] line reply p step = (new, subst (λ w. Step w line reply new) p step, refl)
+plays_one Step old now new [] (r ∷ rs) line reply p step = absurd p
+plays_one Step old now new (l ∷ ls) [] line reply p step = absurd p
+plays_one Step old now new (l ∷ ls) (r ∷ rs) line reply (mid, first, p) step = (mid, first, plays_one Step mid now new ls rs line reply p step)
 
-pub continues_other : {S : Type 0} (Step : World S → Line → Reply → World S → Type 0) (own : Line → Bool) (old now : World S) (lines : List Line) (so_far : List Reply) (i : ℕ) (line : Line)
-    → i < length lines → get_or lines i line ≡ line → own line ≡ false
-    → Continues Step own old lines so_far now i → Continues Step own old lines so_far now (i + 1)
-continues_other Step own old now lines so_far i line below e is h = λ later end p.
-    let first : filter own (drop i lines) ≡ filter own (drop (i + 1) lines) = ap (filter own) (drop_at lines i line below e) ∙ (rw is refl) in
-    h later end (subst (λ ls. Plays Step now ls later end) (sym first) p)
+pub plays_own : {S : Type 0} (Step : World S → Line → Reply → World S → Type 0) (own : Line → Bool) (old now new : World S) (lines : List Line) (replies : List Reply) (reply : Reply) (i : ℕ) (line : Line)
+    → i < length lines → get_or lines i line ≡ line → own line ≡ true → Plays Step old (filter own (take i lines)) replies now → Step now line reply new
+    → Plays Step old (filter own (take (i + 1) lines)) (replies ++ reply ∷ []) new
+plays_own Step own old now new lines replies reply i line below e is p step =
+    rw (filter_more own lines i line below, e, is) (plays_one Step old now new _ replies line reply p step)
 
-pub continues_end : {S : Type 0} (Step : World S → Line → Reply → World S → Type 0) (own : Line → Bool) (old now : World S) (lines : List Line) (so_far : List Reply) (i : ℕ)
-    → length lines ≤ i → Continues Step own old lines so_far now i → Plays Step old (filter own lines) so_far now
-continues_end Step own old now lines so_far i past h =
-    subst (λ rs. Plays Step old (filter own lines) rs now) (append-nil so_far) (h [] now (subst (λ ls. Plays Step now (filter own ls) [] now) (sym (drop_of_length-le lines past)) refl))
+pub plays_other : {S : Type 0} (Step : World S → Line → Reply → World S → Type 0) (own : Line → Bool) (old now : World S) (lines : List Line) (replies : List Reply) (i : ℕ) (line : Line)
+    → i < length lines → get_or lines i line ≡ line → own line ≡ false → Plays Step old (filter own (take i lines)) replies now → Plays Step old (filter own (take (i + 1) lines)) replies now
+plays_other Step own old now lines replies i line below e is p = rw (filter_more own lines i line below, e, is, append-nil (filter own (take i lines))) p
 
 pub is_own : (p k n : ℕ) → n ≡ p → n ≡ k → (p == k) ≡ true
 is_own p k n is same = grind (arith, nat_tests)
@@ -95,7 +88,7 @@ if_more false x rs more late e = e
 
 module _ (b : Processes) (k : ℕ) where
   -- one more answer is the next of its part, and of no other
-  replies_more : (lines : List Line) (answers : List Answered) (i : ℕ) (line : Line) (a : Answered) → i < length lines → get_or lines i line ≡ line → length answers ≡ i
+  replies_more : (lines : List Line) (answers : List NumberedReply) (i : ℕ) (line : Line) (a : NumberedReply) → i < length lines → get_or lines i line ≡ line → length answers ≡ i
       → replies_in b k (take (suc i) lines) (answers ++ a ∷ []) ≡ replies_in b k (take i lines) answers ++ (if part_of b line == k then a.reply ∷ [] else [])
   replies_more [] answers i line a below e long = absurd (omega arith)
   replies_more (l ∷ lines) [] zero line a below e long = ap (λ z. if part_of b z == k then a.reply ∷ [] else []) e
@@ -105,7 +98,7 @@ module _ (b : Processes) (k : ℕ) where
       if_more (part_of b l == k) x.reply _ _ _ (replies_more lines answers i line a (omega arith) e (omega arith))
 
   -- what is told of a part, and then what is left of it, is all of it; and each of its lines that are left has one
-  abbrev pub Deals : List Line → List Answered → List (List Reply) → List Reply → ℕ → Type 0
+  abbrev pub Deals : List Line → List NumberedReply → List (List Reply) → List Reply → ℕ → Type 0
   Deals lines answers parts all i = (replies_in b k (take i lines) answers ++ get_or parts k [] ≡ all) × (length (get_or parts k []) ≡ length (part b k (drop i lines)))
 
   dealt : (own : Bool) (p : ℕ) (told : List Reply) (reply : Reply) (rest : List Reply) (parts : List (List Reply)) (all : List Reply) (line : Line) (lines : List Line) → (p == k) ≡ own
@@ -120,7 +113,7 @@ module _ (b : Processes) (k : ℕ) where
       let apart : k ≢ p = grind (arith, nat_tests) in
       (rw (get_or-set_other parts p k rest [] apart, append-nil told) h, rw (get_or-set_other parts p k rest [] apart) enough)
 
-  pub deals_more : (lines : List Line) (answers : List Answered) (i : ℕ) (line : Line) (reply : Reply) (rest : List Reply) (parts : List (List Reply)) (all : List Reply) → i < length lines
+  pub deals_more : (lines : List Line) (answers : List NumberedReply) (i : ℕ) (line : Line) (reply : Reply) (rest : List Reply) (parts : List (List Reply)) (all : List Reply) → i < length lines
       → get_or lines i line ≡ line → length answers ≡ i → part_of b line < length parts → get_or parts (part_of b line) [] ≡ reply ∷ rest → Deals lines answers parts all i
       → Deals lines (answers ++ record { line = line.number; reply = reply } ∷ []) (set parts (part_of b line) rest) all (i + 1)
   deals_more lines answers i line reply rest parts all below e long within first (h, enough) =

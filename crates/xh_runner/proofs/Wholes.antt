@@ -1,5 +1,5 @@
 -- Lemmas on whole runs: what all have played is what the answers tell.
-use Rattle.xh_runner.proofs.Common.{Answered, ArePlayed, Bool, DoesLine, DoesAmong, IsHand, Joins, LAST, Left, Line, List, None, PLACES, PlaceIsDone, Plays, Processes, Reply}
+use Rattle.xh_runner.proofs.Common.{NumberedReply, ArePlayed, Bool, DoesLine, DoesAmong, IsHand, Joins, LAST, Left, Line, List, None, PLACES, PlaceIsDone, Plays, Processes, Reply}
 use Rattle.xh_runner.proofs.Common.{ap, arith, began, began_at, false, get_or, if◌then◌else◌, length, map, nat_tests, number_at, part, process_at, refl, subst, suc, sym, true, world_of, zero, ℕ, ◌+◌, ◌++◌}
 use Rattle.xh_runner.proofs.Common.{World, [], ◌<◌, ◌==◌, ◌∙◌, ◌∷◌, ◌≡◌, ◌≤◌}
 use Rattle.std.proofs.Math.Dec.{eqb-suc-zero}
@@ -66,7 +66,7 @@ module _ {M S : Type 0} (state : M → S) (did : S → (q : Question) → Answer
 
   module _ (lines : List Line) (ready : World S) where
     abbrev AreDone : ℕ → List M → List (Done M) → Type 0
-    AreDone = AllZipFrom (PlaceIsDone state did ready lines)
+    AreDone = AllZipFrom (PlaceIsDone state did ready.names ready.contracts lines)
 
     enough_behind : (k : ℕ) (olds : List M) (dones : List (Done M)) (rests : List Reply) → AreDone k olds dones → k + length dones ≡ PLACES → length rests ≡ length (part ready.names.processes LAST lines)
         → (j : ℕ) → k + j ≤ PLACES → length (get_or (behind dones rests) j []) ≡ length (part ready.names.processes (suc (k + j)) lines)
@@ -86,7 +86,7 @@ module _ {M S : Type 0} (state : M → S) (did : S → (q : Question) → Answer
         enough_behind 0 olds dones rests places (omega (arith, count)) rest k (omega arith) ∙ ap (λ n. length (part ready.names.processes (suc n) lines)) (omega arith)
 
     -- and each place has its replies
-    module _ (contracts : List (List Row)) (answers : List Answered) where
+    module _ (contracts : List (List Row)) (answers : List NumberedReply) where
       places_played : (k : ℕ) (olds : List M) (dones : List (Done M)) (rests : List Reply) → AreDone k olds dones
           → ((j : ℕ) → j < length dones → get_or (behind dones rests) j [] ≡ replies_in ready.names.processes (suc (k + j)) lines answers)
           → AllZipFrom (PlaysPlace did contracts lines answers ready) k (map state olds) (map state (map (λ done. done.machine) dones))
@@ -114,7 +114,7 @@ module _ {M S : Type 0} (state : M → S) (did : S → (q : Question) → Answer
       }
 
 -- as many machines are left
-pub played_count : {S : Type 0} (did : S → (q : Question) → AnswerTo q → S → Type 0) (contracts : List (List Row)) (lines : List Line) (answers : List Answered) (olds news : List S)
+pub played_count : {S : Type 0} (did : S → (q : Question) → AnswerTo q → S → Type 0) (contracts : List (List Row)) (lines : List Line) (answers : List NumberedReply) (olds news : List S)
     → ArePlayed did contracts lines answers olds news → length news ≡ length olds
 played_count did contracts lines answers [] news p = absurd p
 played_count did contracts lines answers (first ∷ olds) [] p = absurd p

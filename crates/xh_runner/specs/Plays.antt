@@ -9,13 +9,13 @@ use Rattle.xh_script.specs.declared.fault.Fault.{Fault}
 use Rattle.xh_script.specs.declared.fault.Fault.TheVariants.{Gate, Memory}
 use Rattle.xh_script.specs.declared.form.Form.{Form}
 use Rattle.xh_script.specs.declared.form.Form.TheVariants.{Again, Glance, Kill}
-use Rattle.xh_script.specs.declared.replies.Answered.{Answered}
+use Rattle.xh_script.specs.declared.replies.NumberedReply.{NumberedReply}
 use Rattle.xh_script.specs.declared.replies.Reply.{Reply}
 use Rattle.xh_script.specs.declared.replies.Reply.TheVariants.{Started}
 use Rattle.xh_script.specs.Forms.{is_head}
 use Rattle.xh_script.specs.Operands.{name}
 use Rattle.xh_session.specs.declared.bindings.Bindings.{Bindings}
-use Rattle.xh_session.specs.Bindings.{names_by_place, names_of, no_bindings, no_processes, number_at, process_at, renumbered, started}
+use Rattle.xh_session.specs.Bindings.{names_by_place, names_of, no_bindings, no_processes, number_at, process_at, renumbered, with_started}
 use Rattle.xh_session.specs.declared.bindings.Processes.{Processes}
 use Rattle.xh_session.specs.Plans.{FollowsPlan, World, plan}
 use Rattle.xh_session.specs.Questions.{Question, AnswerTo}
@@ -48,13 +48,13 @@ abbrev pub part : Processes → ℕ → List Line → List Line
 part s k lines = filter (λ line. part_of s line == k) lines
 
 -- the replies to them
-abbrev pub replies_in : Processes → ℕ → List Line → List Answered → List Reply
+abbrev pub replies_in : Processes → ℕ → List Line → List NumberedReply → List Reply
 replies_in s k [] answers = []
 replies_in s k (line ∷ lines) [] = []
 replies_in s k (line ∷ lines) (a ∷ answers) = if part_of s line == k then a.reply ∷ replies_in s k lines answers else replies_in s k lines answers
 
 -- there is one reply for each line, in the order of the lines, with its number
-abbrev pub AreAnswersTo : List Line → List Answered → Type 0
+abbrev pub AreAnswersTo : List Line → List NumberedReply → Type 0
 AreAnswersTo lines answers = map (λ a. a.line) answers ≡ map (λ l. l.number) lines
 
 -- ---- which process is the latest of a place
@@ -70,17 +70,17 @@ numbers_after numbers reply = numbers
 
 -- and what the names of processes stand for, where it is the line's process
 abbrev pub processes_after : List ℕ → Processes → Line → Reply → Processes
-processes_after numbers s line (Started n) = if is_latest numbers n then started s (line_process line) n else s
+processes_after numbers s line (Started n) = if is_latest numbers n then with_started s (line_process line) n else s
 processes_after numbers s line reply = s
 
 -- once all replies were told
-abbrev pub told : List ℕ → Processes → List Line → List Answered → Processes
+abbrev pub told : List ℕ → Processes → List Line → List NumberedReply → Processes
 told numbers s [] answers = s
 told numbers s (line ∷ lines) [] = s
 told numbers s (line ∷ lines) (a ∷ answers) = told (numbers_after numbers a.reply) (processes_after numbers s line a.reply) lines answers
 
 -- the names are those of the script's processes that are the latest of the places, by what the replies tell
-abbrev pub HasNames : List (List ℕ) → List Line → List Answered → List (List ℕ) → Type 0
+abbrev pub HasNames : List (List ℕ) → List Line → List NumberedReply → List (List ℕ) → Type 0
 HasNames processes lines answers names = names ≡ names_by_place processes (told (replicate PLACES 0) no_processes lines answers)
 
 -- ---- how they were played
@@ -155,7 +155,7 @@ module _ {S : Type 0} (did : S → (q : Question) → AnswerTo q → S → Type 
       × DoesLine (if names_renewed lines line then renamed old (other_of line) n else old) line reply new
 
   -- a script's lines, with the answers of a report
-  module _ (contracts : List (List Row)) (lines : List Line) (answers : List Answered) where
+  module _ (contracts : List (List Row)) (lines : List Line) (answers : List NumberedReply) where
     -- a part of the lines was played, with its replies
     abbrev pub PlaysPart : (World S → Line → Reply → World S → Type 0) → Processes → ℕ → World S → World S → Type 0
     PlaysPart Step s k old new = Plays Step old (part s k lines) (replies_in s k lines answers) new

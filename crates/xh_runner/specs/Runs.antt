@@ -15,7 +15,7 @@ use Rattle.xh_model.specs.declared.config.Config.{Config}
 use Rattle.xh_model.specs.declared.limits.TheConstants.{MAX_WORKERS, PLACES, USUAL_GENERATIONS}
 use Rattle.xh_runner.specs.Plays.{AreAnswersTo, ArePlayed, HasNames}
 use Rattle.xh_runner.specs.Workers.{WorkerState, did}
-use Rattle.xh_script.specs.declared.replies.Answered.{Answered}
+use Rattle.xh_script.specs.declared.replies.NumberedReply.{NumberedReply}
 use Rattle.xh_script.specs.Scripts.{Listing}
 use Rattle.xh_session.specs.declared.report.Report.{Report}
 use Rattle.xh_session.specs.Output.{told_text}
@@ -28,12 +28,12 @@ looks_of = map (λ w. w.look)
 
 -- the workers of a kernel of these parts, before they did anything
 pub record AreNew (parts : PartsOf) (workers : List WorkerState) : Type 0 where
-  pub accounts : AreFresh parts.records.shape.names (accounts_of workers)
+  pub accounts : AreFresh parts (accounts_of workers)
   pub looks : All (λ l. l ≡ fresh_look parts.histories) (looks_of workers)
   pub count : length workers ≡ MAX_WORKERS
 
 -- new workers of a kernel of these parts, whose histories lead so, played a script's lines with these replies, and left these accounts and looks
-pub record HasPlayed (parts : PartsOf) (leads : Leading) (script : Listing) (answers : List Answered) (accounts : List AccountOf) (looks : List (LookOf Entry)) : Type 0 where
+pub record HasPlayed (parts : PartsOf) (leads : Leading) (script : Listing) (answers : List NumberedReply) (accounts : List AccountOf) (looks : List (LookOf Entry)) : Type 0 where
   pub workers : List WorkerState
   pub left : List WorkerState
   pub are_new : AreNew parts workers
@@ -55,7 +55,7 @@ abbrev pub HasRun : Config → Listing → Report → Type 0
 HasRun config script report = (parts : PartsOf) × RanOn parts (LeadsToPlace parts) config script report
 
 -- there is one reply for each line of the script, in order, and for each place the name of the process that by these replies is its latest
-pub record AnswersScript (script : Listing) (answers : List Answered) (names : List (List ℕ)) : Type 0 where
+pub record AnswersScript (script : Listing) (answers : List NumberedReply) (names : List (List ℕ)) : Type 0 where
   pub lines : AreAnswersTo script.lines answers
   pub named : HasNames script.processes script.lines answers names
   pub count : length names ≡ PLACES

@@ -1,9 +1,9 @@
 //! How a worker does its task.
-ghost use Rattle.std.specs.Prelude.{◌≡◌, ◌<◌, ◌≤◌, [], suc, IfOk, IfErr};
+ghost use Rattle.std.specs.Prelude.{◌≡◌, ◌<◌, ◌≤◌, [], IfOk, IfErr};
 ghost use Rattle.std.specs.List.{list_any};
 ghost use Rattle.xh_model.specs.declared.limits.TheConstants.{PLACES};
-ghost use Rattle.xh_runner.specs.Plays.{DoesAmong, LAST, MayStop, Plays, is_placed, names_renewed, part, part_of, renews};
-ghost use Rattle.xh_runner.specs.inner.Tasks.{Hears, LeavesTask};
+ghost use Rattle.xh_runner.specs.Plays.{DoesAmong, LAST, MayStop, is_placed, names_renewed, part_of, renews};
+ghost use Rattle.xh_runner.specs.inner.Tasks.{Hears, LeavesTask, PlaysAt};
 ghost use Rattle.xh_session.specs.Plans.{world_of};
 
 use crate::task::{Crew, Done, Task};
@@ -103,8 +103,7 @@ fn play<'a, M: Machine, R: Wait, G: Gate>(
     mut replies: Vec<Reply>,
 ) -> Result<Vec<Reply>, Fault>
     requires { (place < PLACES) × (replies.items ≡ []) }
-    ensures played { IfOk result (λ replies. Plays (DoesAmong M.did crew.now.lines.now) (world_of M.state session.old) (part crew.now.ready.now.processes (suc place) crew.now.lines.now) replies.items
-        (world_of M.state session.new)) }
+    ensures played { IfOk result (λ replies. PlaysAt M.did crew.now place (world_of M.state session.old) replies.items (world_of M.state session.new)) }
     ensures stopped { IfErr result (MayStop G.always) }
 {
     let mut command = 0u32;

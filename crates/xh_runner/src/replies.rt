@@ -12,7 +12,7 @@ use std::alloc::{AllocError, Global};
 use std::vec::IntoIter;
 use xh_core::PLACE_LINES;
 use xh_model::limits::{MAX_WORKERS, PLACES};
-use xh_script::{Answered, Line, Reply};
+use xh_script::{Line, NumberedReply, Reply};
 use xh_session::Processes;
 
 /// The machines of the places, and the replies of all parts. There is room for one more machine.
@@ -43,7 +43,7 @@ pub(crate) fn answers_of(
     processes: &Processes,
     lines: &[Line],
     mut parts: Vec<IntoIter<Reply>>,
-) -> Result<Vec<Answered>, AllocError>
+) -> Result<Vec<NumberedReply>, AllocError>
     requires count { vec_len parts ≡ suc LAST }
     requires enough { AreEnough processes.now lines.now (map into_iter_items parts.items) }
     ensures same { IfOk result (λ answers. AreAnswersTo lines.now answers.items) }
@@ -55,7 +55,7 @@ pub(crate) fn answers_of(
         let Some(reply) = parts[part].next() else {
             unreachable!()
         };
-        answers.push(Answered {
+        answers.push(NumberedReply {
             line: line.number,
             reply,
         })?;
@@ -79,7 +79,7 @@ fn tell(line: &Line, reply: &Reply, numbers: &mut [u16; PLACE_LINES], processes:
 }
 
 /// What the names of processes stand for once all replies were told.
-pub(crate) fn latest(lines: &[Line], answers: &[Answered]) -> Processes
+pub(crate) fn latest(lines: &[Line], answers: &[NumberedReply]) -> Processes
     requires { AreAnswersTo lines.now answers.now }
     ensures { result ≡ told (replicate PLACES 0) no_processes lines.now answers.now }
 {

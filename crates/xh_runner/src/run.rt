@@ -1,8 +1,8 @@
 //! The run itself: the head, the workers, and what they leave.
-ghost use Rattle.std.specs.Prelude.{◌≡◌, ◌≤◌, IfErr, IfOk, MatchResult, length, map, vec_len};
+ghost use Rattle.std.specs.Prelude.{◌≡◌, ◌≤◌, IfErr, IfOk, MatchResult, length, vec_len};
 ghost use Rattle.xh_model.specs.declared.limits.TheConstants.{MAX_WORKERS, PLACES};
-ghost use Rattle.xh_runner.specs.Plays.{AllZipFrom, AreAnswersTo, ArePlayed, DoesLine, HasNames, MayStop, PlayAll, Plays, part};
-ghost use Rattle.xh_runner.specs.inner.Tasks.{PlaceIsDone};
+ghost use Rattle.xh_runner.specs.Plays.{AreAnswersTo, DoesLine, HasNames, MayStop, Plays, part};
+ghost use Rattle.xh_runner.specs.inner.Tasks.{AllPlay, LeavesPlaces, PlayScript};
 ghost use Rattle.xh_session.specs.Bindings.{no_bindings};
 ghost use Rattle.xh_session.specs.Plans.{world_of};
 
@@ -15,14 +15,14 @@ use std::sync::{Mutex, Wait};
 use std::thread::Threads;
 use xh_model::limits::{MAX_WORKERS, PLACES};
 use xh_place::Gate;
-use xh_script::{Answered, Fault, Line, Name, Reply, Script};
+use xh_script::{Fault, Line, Name, NumberedReply, Reply, Script};
 use xh_session::{Bindings, Machine, Processes, Session};
 
 /// What a run leaves: the machines, the replies, and the name of the latest process of each place.
 #[derive(Drop)]
 pub(crate) struct Remains<M> {
     pub(crate) machines: Vec<M>,
-    pub(crate) answers: Vec<Answered>,
+    pub(crate) answers: Vec<NumberedReply>,
     pub(crate) names: Vec<Name>,
 }
 
@@ -34,7 +34,7 @@ fn run_part<'a, M: Machine>(
     lines: &[Line],
     number: u8,
 ) -> Result<Vec<Reply>, AllocError>
-    ensures { IfOk result (λ replies. Plays (DoesLine M.did) (world_of M.state head.old) (part processes.now number lines.now) replies.items (world_of M.state head.new)) }
+    ensures { IfOk result (λ r. Plays (DoesLine M.did) (world_of M.state head.old) (part processes.now number lines.now) r.items (world_of M.state head.new)) }
 {
     let mut replies = Vec::new(alloc);
     for line in lines {
@@ -55,7 +55,7 @@ fn work<'a, M: Machine + Send, R: Threads + Wait + Sync, G: Gate + Sync>(
     gate: &'a G,
 ) -> Result<Vec<Done<M>>, Fault>
     requires { vec_len machines ≤ PLACES }
-    ensures { MatchResult result (λ dones. AllZipFrom (PlaceIsDone M.state M.did (world_of M.state head.entry.now) lines.entry.now) 0 machines.items dones.items) (MayStop G.always) }
+    ensures { MatchResult result (λ dones. LeavesPlaces M.state M.did head.entry.now lines.entry.now machines.items dones.items) (MayStop G.always) }
 {
     let crew = Crew {
         lines,
@@ -76,11 +76,10 @@ fn play_all<M: Machine + Send, R: Threads + Wait + Sync, G: Gate + Sync>(
     head: &mut Session<'_, M>,
     lines: &[Line],
     gate: &G,
-) -> Result<(Vec<M>, Vec<Answered>), Fault>
+) -> Result<(Vec<M>, Vec<NumberedReply>), Fault>
     requires count { vec_len machines ≡ PLACES }
     requires names { head.old.names ≡ no_bindings }
-    ensures played { IfOk result (λ r. PlayAll M.did head.old.contracts.now lines.now r.1.items
-        (M.state head.old.machine) (map M.state machines.items) (M.state head.new.machine) (map M.state r.0.items)) }
+    ensures played { IfOk result (λ r. AllPlay M.state M.did head.old lines.now r.1.items machines.items head.new r.0.items) }
     ensures answers { IfOk result (λ r. AreAnswersTo lines.now r.1.items) }
     ensures stopped { IfErr result (MayStop G.always) }
 {
@@ -106,7 +105,7 @@ pub(crate) fn run_on<M: Machine + Send, R: Threads + Wait + Sync, G: Gate + Sync
     gate: &G,
 ) -> Result<Remains<M>, Fault>
     requires { vec_len machines ≡ MAX_WORKERS }
-    ensures played { IfOk result (λ o. ArePlayed M.did script.now.contracts.items script.now.lines.items o.answers.items (map M.state machines.items) (map M.state o.machines.items)) }
+    ensures played { IfOk result (λ o. PlayScript M.state M.did script.now o.answers.items machines.items o.machines.items) }
     ensures answers { IfOk result (λ o. AreAnswersTo script.now.lines.items o.answers.items) }
     ensures names { IfOk result (λ o. HasNames script.now.processes.items script.now.lines.items o.answers.items o.names.items × (length o.names.items ≡ PLACES)) }
     ensures stopped { IfErr result (MayStop G.always) }

@@ -26,11 +26,11 @@ use xh_kernel::{Account, Kernel, Look, Names, Parts};
 use xh_model::limits::MAX_WORKERS;
 use xh_place::{Gate, OpenGate};
 use xh_script::limits::is_in_script_limits;
-use xh_script::{Answered, Fault, Name, Script, Watched};
-use xh_session::{Report, Run, read_input, write_report};
+use xh_script::{Fault, Name, NumberedReply, Script, Watched};
+use xh_session::{Report, RunOptions, read_input, write_report};
 
 // The replies, and the name of the latest process of each place.
-type Played = (Vec<Answered>, Vec<Name>);
+type Played = (Vec<NumberedReply>, Vec<Name>);
 
 // Runs a script with a worker for each account: what was played, and what the workers had of their own.
 fn run_script<N: Names + Send + Sync, R: Threads + Wait + Sync, G: Gate + Sync>(
@@ -42,7 +42,7 @@ fn run_script<N: Names + Send + Sync, R: Threads + Wait + Sync, G: Gate + Sync>(
     script: &Script,
     gate: &G,
 ) -> Result<(Played, Vec<Account<N>>, Vec<Look>), Fault>
-    requires accounts { (vec_len accounts ≡ MAX_WORKERS) × AreFresh N.parts.records.shape.names accounts.items }
+    requires accounts { (vec_len accounts ≡ MAX_WORKERS) × AreFresh N.parts accounts.items }
     requires looks { (vec_len looks ≡ MAX_WORKERS) × All (λ l. l ≡ fresh_look N.parts.histories) looks.items }
     ensures played { IfOk result (λ r. HasPlayed N.parts N.leads (listing_of script.now) r.0.0.items r.1.items r.2.items) }
     ensures answers { IfOk result (λ r. AnswersScript (listing_of script.now) r.0.0.items r.0.1.items) }
@@ -131,7 +131,7 @@ pub fn run_parallel<T: Threads + Wait + Sync, R: Read, W: Write>(
     alloc: Global,
     reader: &mut Watched<R>,
     writer: &mut Watched<W>,
-    run: Run,
+    run: RunOptions,
 ) -> Result<(), Fault>
     ensures ok { OnOk result (Done R.remaining W.contents (IsReportTold run.flight run.config) reader.old reader.new writer.old writer.new) }
     ensures err { IfErr result (Stopped R.remaining W.contents (IsReportTold run.flight run.config) run.config reader.old reader.new writer.old writer.new) }

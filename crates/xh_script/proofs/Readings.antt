@@ -1,15 +1,15 @@
 -- Lemmas on readings that may stop.
-use Rattle.xh_script.proofs.Common.{Bor, Fails, Fault, Kind, List, MAX_SCRIPT, Ok, Result, add-one, after_line, after_lines, ap, arith, at_line, count_by-le-length, drop, drop-cons, get_or}
+use Rattle.xh_script.proofs.Common.{Bor, Fails, Fault, FaultKind, List, MAX_SCRIPT, Ok, Result, add-one, after_line, after_lines, ap, arith, at_line, count_by-le-length, drop, drop-cons, get_or}
 use Rattle.xh_script.proofs.Common.{length, length-map, length-slice_split, map, refl, slice_split, suc, ℕ, ◌+◌, ◌<◌, ◌==◌, ◌>>=◌, ◌≡◌, ◌≤◌}
 use Rattle.xh_script.proofs.WordLemmas.{no_word}
-use Rattle.xh_script.specs.inner.Stops.{Stops}
+use Rattle.xh_script.specs.inner.Stops.{StopsReading}
 use Rattle.xh_script.specs.SoFar.{SoFar}
 use Rattle.xh_script.specs.declared.fault.Fault.TheVariants.{BadConfig, Gate, Memory, Read, Script, Write}
 use Rattle.xh_script.specs.declared.fault.Stop.{Stop}
 use Rattle.xh_script.specs.declared.fault.Stop.TheVariants.{Bad, Memory as StopMemory}
 
 -- a stop is that of all that follows
-pub stops_then : {A B : Type 0} (stop : Stop) (r : Result A Kind) (f : A → Result B Kind) → Stops stop r → Stops stop (r >>= f)
+pub stops_then : {A B : Type 0} (stop : Stop) (r : Result A FaultKind) (f : A → Result B FaultKind) → StopsReading stop r → StopsReading stop (r >>= f)
 stops_then StopMemory r f h = tt
 stops_then (Bad kind) r f h = ap (λ x. x >>= f) h
 

@@ -1,7 +1,7 @@
 -- Lemmas on what is written in several calls.
-use Rattle.xh_script.proofs.Common.{Err, Fault, IsErrAnd, List, None, Ok, Option, Result, Some, Writes, WritesFront, WritesOrFails, add-one, answer_texts, ap, append_assoc, drop, drop-cons}
+use Rattle.xh_script.proofs.Common.{Err, Fault, IsErrAnd, List, None, Ok, Option, Result, Some, WritesBytes, WritesFront, WritesOrFails, add-one, answer_texts, ap, append_assoc, drop, drop-cons}
 use Rattle.xh_script.proofs.Common.{get_or, inner_of, length, reply_text, suc, sym, ℕ, ◌++◌, ◌+◌, ◌<◌, ◌∙◌, ◌≡◌}
-use Rattle.xh_script.specs.declared.replies.Answered.{Answered}
+use Rattle.xh_script.specs.declared.replies.NumberedReply.{NumberedReply}
 use Rattle.std.specs.Io.KnownBytes.{Appends}
 use Rattle.xh_script.specs.declared.streams.Watched.{Watched}
 
@@ -12,14 +12,14 @@ Appends-then (Some k) (Some l) None x y p q = absurd q
 Appends-then (Some k) (Some l) (Some m) x y p q = q ∙ ap (λ t. t ++ y) p ∙ append_assoc k x y
 
 module _ {T : Type 0} (contents : T → Option (List ℕ)) where
-  pub Writes-then : (a b c : Watched T) (x y : List ℕ) → Writes contents a b x → Writes contents b c y → Writes contents a c (x ++ y)
+  pub Writes-then : (a b c : Watched T) (x y : List ℕ) → WritesBytes contents a b x → WritesBytes contents b c y → WritesBytes contents a c (x ++ y)
   Writes-then a b c x y p q = record {
     held = Appends-then (contents (inner_of a)) (contents (inner_of b)) (contents (inner_of c)) x y p.held q.held;
     still = q.still ∙ p.still;
   }
 
   -- a front of what follows is a front of the whole
-  pub WritesFront-then : (a b c : Watched T) (x y : List ℕ) → Writes contents a b x → WritesFront contents b c y → WritesFront contents a c (x ++ y)
+  pub WritesFront-then : (a b c : Watched T) (x y : List ℕ) → WritesBytes contents a b x → WritesFront contents b c y → WritesFront contents a c (x ++ y)
   WritesFront-then a b c x y p q = record {
     front = x ++ q.front;
     rest = q.rest;
@@ -38,16 +38,16 @@ module _ {T : Type 0} (contents : T → Option (List ℕ)) where
     failed = q.failed;
   }
 
-  pub WritesOrFails-then : (a b c : Watched T) (r : Result (Unit {0}) Fault) (x y : List ℕ) → Writes contents a b x → WritesOrFails contents b c r y → WritesOrFails contents a c r (x ++ y)
+  pub WritesOrFails-then : (a b c : Watched T) (r : Result (Unit {0}) Fault) (x y : List ℕ) → WritesBytes contents a b x → WritesOrFails contents b c r y → WritesOrFails contents a c r (x ++ y)
   WritesOrFails-then a b c (Ok u) x y p q = Writes-then a b c x y p q
   WritesOrFails-then a b c (Err e) x y p q = (q.0, WritesFront-then a b c x y p q.1)
 
   -- so much of a whole was written that this rest of it is left
   abbrev pub Wrote : Watched T → Watched T → List ℕ → List ℕ → Type 0
-  Wrote a b whole rest = (written : List ℕ) × Writes contents a b written × (whole ≡ written ++ rest)
+  Wrote a b whole rest = (written : List ℕ) × WritesBytes contents a b written × (whole ≡ written ++ rest)
 
   -- of what is written piece by piece, one piece is the next
-  pub goes_on : (a b c : Watched T) (piece more rest whole : List ℕ) → Wrote a b whole rest → rest ≡ piece ++ more → Writes contents b c piece → Wrote a c whole more
+  pub goes_on : (a b c : Watched T) (piece more rest whole : List ℕ) → Wrote a b whole rest → rest ≡ piece ++ more → WritesBytes contents b c piece → Wrote a c whole more
   goes_on a b c piece more rest whole w s q = (w.0 ++ piece, Writes-then a b c w.0 piece w.1 q, w.2 ∙ ap (λ t. w.0 ++ t) s ∙ sym (append_assoc w.0 piece more))
 
   -- the rest is all that follows
@@ -66,6 +66,6 @@ module _ {T : Type 0} (contents : T → Option (List ℕ)) where
       WritesOrFails contents b c (Err e) piece → WritesOrFails contents a c r whole
   stops_at a b c r e piece more rest whole w s h q = ends a b c r rest whole w (rw s (stops b c r e piece more h q))
 
-pub answers_at : (answers : List Answered) (i : ℕ) (a : Answered) → a ≡ get_or answers i a → i < length answers
+pub answers_at : (answers : List NumberedReply) (i : ℕ) (a : NumberedReply) → a ≡ get_or answers i a → i < length answers
     → answer_texts (drop i answers) ≡ reply_text a.line a.reply ++ answer_texts (drop (i + 1) answers)
 answers_at answers i a item below = rw (drop-cons answers i a, add-one i) (ap (λ b. reply_text b.line b.reply ++ answer_texts (drop (suc i) answers)) (sym item))

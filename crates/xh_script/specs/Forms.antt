@@ -3,8 +3,8 @@ use Rattle.std.specs.Prelude.{ℕ, ◌+◌, ◌&&◌, Bool, true, false, List, [
 use Rattle.std.specs.Str.{bytes_eq}
 use Rattle.xh_model.specs.declared.limits.TheConstants.{MAX_BLOCKS, MAX_BUDGET, MAX_ROWS}
 use Rattle.xh_script.specs.declared.limits.TheConstants.{MAX_GIVEN, MAX_LEN, MAX_NUMBER, MAX_TAG}
-use Rattle.xh_script.specs.declared.fault.Kind.{Kind}
-use Rattle.xh_script.specs.declared.fault.Kind.TheVariants.{BadWord}
+use Rattle.xh_script.specs.declared.fault.FaultKind.{FaultKind}
+use Rattle.xh_script.specs.declared.fault.FaultKind.TheVariants.{BadWord}
 use Rattle.xh_script.specs.declared.form.Sort.{Sort}
 use Rattle.xh_script.specs.declared.form.Sort.TheVariants as sort
 use Rattle.xh_script.specs.declared.form.Form.{Form}
@@ -12,7 +12,7 @@ use Rattle.xh_script.specs.declared.form.Form.TheVariants.{Contract, Process, Wi
 
 -- what the words of a form are: these in order, and then `least` to `most` words of the sort `more`. The form's own word does not count, and the process
 -- ahead of a verb is the first word
-pub record Shape : Type 0 where
+pub record FormShape : Type 0 where
   pub words : List Sort
   pub more : Sort
   pub least : ℕ
@@ -24,28 +24,28 @@ number = sort.Number 0 MAX_NUMBER
 abbrev pub tag : Sort
 tag = sort.Number 0 MAX_TAG
 
-abbrev pub len : Sort
-len = sort.Number 1 MAX_LEN
+abbrev pub len_sort : Sort
+len_sort = sort.Number 1 MAX_LEN
 
 abbrev pub budget : Sort
 budget = sort.Number 1 MAX_BUDGET
 
 -- these words, and then some more
-abbrev pub and_more : List Sort → Sort → ℕ → ℕ → Shape
+abbrev pub and_more : List Sort → Sort → ℕ → ℕ → FormShape
 and_more words more least most = record { words = words; more = more; least = least; most = most }
 
 -- these words and no more
-abbrev pub just : List Sort → Shape
+abbrev pub just : List Sort → FormShape
 just words = and_more words sort.Block 0 0
 
-unfoldable pub shape : Form → Shape
+unfoldable pub shape : Form → FormShape
 shape Contract = and_more (sort.Contract ∷ []) sort.Row 1 MAX_ROWS
 shape Process = just (sort.Process ∷ [])
 shape Wire = and_more (sort.Process ∷ sort.Block ∷ sort.Process ∷ sort.Block ∷ number ∷ []) sort.Contract 0 1
 shape Open = and_more (sort.Process ∷ sort.Block ∷ sort.Block ∷ number ∷ []) sort.Contract 0 1
 shape Alloc = just (sort.Process ∷ sort.Block ∷ number ∷ number ∷ [])
 shape Split = just (sort.Process ∷ sort.Block ∷ number ∷ sort.Block ∷ [])
-shape Read = just (sort.Process ∷ sort.Block ∷ number ∷ len ∷ [])
+shape Read = just (sort.Process ∷ sort.Block ∷ number ∷ len_sort ∷ [])
 shape Write = just (sort.Process ∷ sort.Block ∷ number ∷ sort.Bytes ∷ [])
 shape Give = and_more (sort.Process ∷ sort.Block ∷ tag ∷ []) sort.Block 0 MAX_GIVEN
 shape Take = and_more (sort.Process ∷ sort.Block ∷ []) sort.Block 0 MAX_BLOCKS
@@ -58,11 +58,11 @@ shape Glance = just (sort.Process ∷ sort.Process ∷ [])
 shape Again = just (sort.Process ∷ [])
 
 -- what the word at a place has to be
-abbrev pub sort_at : Shape → ℕ → Sort
+abbrev pub sort_at : FormShape → ℕ → Sort
 sort_at row i = slice_index_or row.words i row.more
 
 -- whether a line of the form may have so many words
-abbrev pub has_count : Shape → ℕ → Bool
+abbrev pub has_count : FormShape → ℕ → Bool
 has_count row count = nat_le (length row.words + row.least) count && nat_le count (length row.words + row.most)
 
 -- the text of a form's own word
@@ -109,6 +109,6 @@ abbrev pub verbs : List Form
 verbs = Open ∷ Alloc ∷ Split ∷ Read ∷ Write ∷ Give ∷ Take ∷ Await ∷ Free ∷ Close ∷ Exit ∷ Kill ∷ Glance ∷ Again ∷ []
 
 -- the first of these forms whose own word this is
-abbrev pub form_among : List Form → List ℕ → Result Form Kind
+abbrev pub form_among : List Form → List ℕ → Result Form FaultKind
 form_among [] word = Err BadWord
 form_among (form ∷ forms) word = if has_text word form then Ok form else form_among forms word

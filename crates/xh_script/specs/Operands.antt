@@ -8,36 +8,36 @@ abbrev pub name_in : Word → ℕ
 name_in (Name n) = n
 name_in _ = 0
 
-abbrev pub name_of : Option Word → ℕ
-name_of (Some word) = name_in word
-name_of None = 0
+abbrev pub name_said : Option Word → ℕ
+name_said (Some word) = name_in word
+name_said None = 0
 
 -- the number of a process or of a block
 abbrev pub name : List Word → ℕ → ℕ
-name words i = name_of (slice_get words i)
+name words i = name_said (slice_get words i)
 
-abbrev pub number_of : ℕ → Option Word → ℕ
-number_of other (Some (Number n)) = n
-number_of other _ = other
+abbrev pub number_said : ℕ → Option Word → ℕ
+number_said other (Some (Number n)) = n
+number_said other _ = other
 
 -- a number, or another one where the line ends before it
 abbrev pub number_or : List Word → ℕ → ℕ → ℕ
-number_or words i other = number_of other (slice_get words i)
+number_or words i other = number_said other (slice_get words i)
 
 abbrev pub number : List Word → ℕ → ℕ
 number words i = number_or words i 0
 
-abbrev pub contract_of : Option Word → Option ℕ
-contract_of (Some (Name n)) = Some n
-contract_of _ = None
+abbrev pub contract_said : Option Word → Option ℕ
+contract_said (Some (Name n)) = Some n
+contract_said _ = None
 
 -- the number of a contract, where the line names one
 abbrev pub contract : List Word → ℕ → Option ℕ
-contract words i = contract_of (slice_get words i)
+contract words i = contract_said (slice_get words i)
 
-abbrev pub bytes_of : Option Word → List ℕ
-bytes_of (Some (Bytes bytes)) = bytes.items
-bytes_of _ = []
+abbrev pub bytes_said : Option Word → List ℕ
+bytes_said (Some (Bytes bytes)) = bytes.items
+bytes_said _ = []
 
 abbrev pub bytes : List Word → ℕ → List ℕ
-bytes words i = bytes_of (slice_get words i)
+bytes words i = bytes_said (slice_get words i)

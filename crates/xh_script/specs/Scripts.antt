@@ -7,8 +7,8 @@ use Rattle.xh_script.specs.Steps.{◌>>=◌}
 use Rattle.xh_script.specs.SoFar.{SoFar}
 use Rattle.xh_script.specs.Grammar.{is_filled, is_printable, is_skipped, said}
 use Rattle.xh_script.specs.Numbering.{placed}
-use Rattle.xh_script.specs.declared.fault.Kind.{Kind}
-use Rattle.xh_script.specs.declared.fault.Kind.TheVariants.{TooLong, LongLine, BadByte, BadWord}
+use Rattle.xh_script.specs.declared.fault.FaultKind.{FaultKind}
+use Rattle.xh_script.specs.declared.fault.FaultKind.TheVariants.{TooLong, LongLine, BadByte, BadWord}
 use Rattle.xh_script.specs.declared.fault.Fault.{Fault}
 use Rattle.xh_script.specs.declared.fault.Fault.TheVariants.{Script as ScriptFault, Memory, Read as ReadFault, Write as WriteFault, Gate, BadConfig}
 use Rattle.xh_script.specs.declared.command.Word.{Word}
@@ -17,24 +17,24 @@ use Rattle.xh_script.specs.declared.command.Line.{Line}
 use Rattle.xh_script.specs.declared.script.Script.{Script}
 
 -- one more command
-unfoldable pub with_command : SoFar → ℕ → Form → List Word → Result SoFar Kind
+unfoldable pub with_command : SoFar → ℕ → Form → List Word → Result SoFar FaultKind
 with_command r number form words =
     if nat_lt (length r.lines) MAX_COMMANDS then
     Ok (record r { lines = r.lines ++ record { number = number; command = record { form = form; words = record { items = words } } } ∷ [] })
     else Err TooLong
 
 -- what the words of a line say
-unfoldable pub with_words : SoFar → ℕ → List (List ℕ) → Result SoFar Kind
+unfoldable pub with_words : SoFar → ℕ → List (List ℕ) → Result SoFar FaultKind
 with_words r number words =
     if list_all is_filled words then (said words >>= λ s. placed r s.0 s.1 >>= λ c. with_command c.1 number s.0 c.0)
     else Err BadWord
 
-abbrev pub at_line : {A : Type 0} → ℕ → Result A Kind → Result A Fault
+abbrev pub at_line : {A : Type 0} → ℕ → Result A FaultKind → Result A Fault
 at_line number (Ok x) = Ok x
 at_line number (Err kind) = Err (ScriptFault number kind)
 
 -- a line was read, which may be skipped
-unfoldable pub after_line : SoFar → ℕ → List ℕ → Result SoFar Kind
+unfoldable pub after_line : SoFar → ℕ → List ℕ → Result SoFar FaultKind
 after_line r number line =
     if nat_lt MAX_LINE (length line) then Err LongLine
     else if is_skipped line then Ok r
@@ -78,6 +78,6 @@ Fails WriteFault reading = ⊥
 Fails Gate reading = ⊥
 Fails BadConfig reading = ⊥
 
-abbrev pub Gives : {A B : Type 0} → (A → B) → Result A Fault → Result B Fault → Type 0
-Gives view (Ok x) reading = reading ≡ Ok (view x)
-Gives view (Err fault) reading = Fails fault reading
+abbrev pub ReadingGives : {A B : Type 0} → (A → B) → Result A Fault → Result B Fault → Type 0
+ReadingGives view (Ok x) reading = reading ≡ Ok (view x)
+ReadingGives view (Err fault) reading = Fails fault reading

@@ -1,7 +1,7 @@
 -- The text of replies, of ledgers and of what is in flight.
 use Rattle.std.specs.Prelude.{ℕ, ◌+◌, ◌/◌, ◌%◌, List, [], ◌∷◌, ◌++◌, codes, length, map, nat_lt, if◌then◌else◌, Option, Some, None, slice_index_or}
 use Rattle.std.specs.Fmt.{decimal}
-use Rattle.xh_core.specs.Refusals.{number_of, name_of}
+use Rattle.xh_core.specs.Refusals.{refusal_number, name_of}
 use Rattle.xh_core.specs.declared.ledger.State.{State}
 use Rattle.xh_core.specs.declared.ledger.State.TheVariants.{Running, Ending, Ended as EndedState}
 use Rattle.xh_core.specs.declared.ledger.ArenaLine.{ArenaLine}
@@ -12,7 +12,7 @@ use Rattle.xh_core.specs.declared.refused.Refused.{Refused}
 use Rattle.xh_core.specs.declared.refused.Refused.TheVariants.{Full, PeerClosed, Unfinished}
 use Rattle.xh_script.specs.declared.replies.Reply.{Reply}
 use Rattle.xh_script.specs.declared.replies.Reply.TheVariants.{Done, Started, Bytes, Taken, NotGiven, No}
-use Rattle.xh_script.specs.declared.replies.Answered.{Answered}
+use Rattle.xh_script.specs.declared.replies.NumberedReply.{NumberedReply}
 
 -- ---- lines
 
@@ -64,7 +64,7 @@ count_words (Some n) = decimal n ∷ []
 
 -- a line with `no NUMBER NAME`, and the number behind it
 abbrev pub refusal_text : List ℕ → Refused → Option ℕ → List ℕ
-refusal_text line e count = line_text line (codes "no" ∷ decimal (number_of e) ∷ name_of e ∷ count_words count)
+refusal_text line e count = line_text line (codes "no" ∷ decimal (refusal_number e) ∷ name_of e ∷ count_words count)
 
 -- a command is done, and these numbers tell of it
 abbrev pub done : List ℕ → Reply
@@ -80,7 +80,7 @@ reply_text line (NotGiven e) = refusal_text (decimal line) e (give_count_of e)
 reply_text line (No e) = refusal_text (decimal line) e (count_of e)
 
 -- the replies in their order
-abbrev pub answer_texts : List Answered → List ℕ
+abbrev pub answer_texts : List NumberedReply → List ℕ
 answer_texts [] = []
 answer_texts (a ∷ answers) = reply_text a.line a.reply ++ answer_texts answers
 

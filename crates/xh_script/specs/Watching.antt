@@ -14,12 +14,12 @@ module _ {T : Type 0} where
   inner_of w = w.inner
 
   -- a read gave these bytes, the next of those that remain
-  pub record Reads (remaining : T → Option (List ℕ)) (old new : Watched T) (bytes : List ℕ) : Type 0 where
+  pub record ReadsBytes (remaining : T → Option (List ℕ)) (old new : Watched T) (bytes : List ℕ) : Type 0 where
     pub taken : Consumes (remaining (inner_of old)) (remaining (inner_of new)) bytes
     pub still : failures new ≡ failures old
 
   -- these bytes were written behind what was there
-  pub record Writes (contents : T → Option (List ℕ)) (old new : Watched T) (bytes : List ℕ) : Type 0 where
+  pub record WritesBytes (contents : T → Option (List ℕ)) (old new : Watched T) (bytes : List ℕ) : Type 0 where
     pub held : Appends (contents (inner_of old)) (contents (inner_of new)) bytes
     pub still : failures new ≡ failures old
 
@@ -33,5 +33,5 @@ module _ {T : Type 0} where
 
   -- all of the bytes were written at Ok, and a front of them at Err, which is Write
   abbrev pub WritesOrFails : (T → Option (List ℕ)) → Watched T → Watched T → Result (Unit {0}) Fault → List ℕ → Type 0
-  WritesOrFails contents old new (Ok done) bytes = Writes contents old new bytes
+  WritesOrFails contents old new (Ok done) bytes = WritesBytes contents old new bytes
   WritesOrFails contents old new (Err e) bytes = (e ≡ Write) × WritesFront contents old new bytes

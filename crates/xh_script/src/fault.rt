@@ -8,7 +8,7 @@ use std::fmt;
 
 /// What is wrong with a line of a script, or with the whole.
 #[derive(Clone, Copy, Debug, PartialEq, Eq)]
-pub enum Kind {
+pub enum FaultKind {
     /// More bytes (a fault of line 0), commands, names of processes, names of blocks of one process
     /// or contracts than `limits` has.
     TooLong,
@@ -30,19 +30,19 @@ pub enum Kind {
     BadContract,
 }
 
-impl Kind {
+impl FaultKind {
     /// Its name.
     pub fn name(self) -> &'static str {
         match self {
-            Kind::TooLong => "TooLong",
-            Kind::LongLine => "LongLine",
-            Kind::BadByte => "BadByte",
-            Kind::BadWord => "BadWord",
-            Kind::BadCount => "BadCount",
-            Kind::BadNumber => "BadNumber",
-            Kind::BadHex => "BadHex",
-            Kind::LateHead => "LateHead",
-            Kind::BadContract => "BadContract",
+            FaultKind::TooLong => "TooLong",
+            FaultKind::LongLine => "LongLine",
+            FaultKind::BadByte => "BadByte",
+            FaultKind::BadWord => "BadWord",
+            FaultKind::BadCount => "BadCount",
+            FaultKind::BadNumber => "BadNumber",
+            FaultKind::BadHex => "BadHex",
+            FaultKind::LateHead => "LateHead",
+            FaultKind::BadContract => "BadContract",
         }
     }
 }
@@ -51,7 +51,7 @@ impl Kind {
 #[derive(Clone, Copy, Debug, PartialEq, Eq)]
 pub enum Fault {
     /// The lowest line of the script with a fault; 0 for the script as a whole.
-    Script { line: u32, kind: Kind },
+    Script { line: u32, kind: FaultKind },
     /// A growth of memory was refused.
     Memory,
     /// The reader failed.
@@ -95,14 +95,14 @@ impl<T: Drop> From<AllocFailed<T>> for Fault {
 /// Why a reading stops: at a fault of the script, or because a growth of memory was refused.
 #[derive(Clone, Copy)]
 pub enum Stop {
-    Bad(Kind),
+    Bad(FaultKind),
     Memory,
 }
 
-impl From<Kind> for Stop {
+impl From<FaultKind> for Stop {
     ghost from_gives = { λ kind s. s ≡ stop.Bad kind };
 
-    fn from(kind: Kind) -> Stop {
+    fn from(kind: FaultKind) -> Stop {
         Stop::Bad(kind)
     }
 }

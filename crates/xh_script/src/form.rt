@@ -3,7 +3,7 @@ ghost use Rattle.std.specs.Prelude.{◌≡◌, ◌≤◌, ◌+◌, length, true}
 ghost use Rattle.xh_script.specs.Forms.{just, and_more, form_among, form_text, shape, is_head, sort_at, has_count};
 ghost use Rattle.xh_script.specs.declared.limits.TheConstants.{MAX_WORDS};
 
-use crate::Kind;
+use crate::FaultKind;
 use crate::limits::{MAX_GIVEN, MAX_LEN, MAX_NUMBER, MAX_TAG};
 use std::marker::Model;
 use xh_model::limits::{MAX_BLOCKS, MAX_BUDGET, MAX_ROWS};
@@ -51,17 +51,17 @@ pub enum Form {
 /// The words of a form: these in order, and then `least` to `most` words of the sort `more`. The
 /// form's own word does not count, and the process ahead of a verb is the first word.
 #[derive(Drop)]
-pub(crate) struct Shape {
+pub(crate) struct FormShape {
     words: &'static [Sort],
     more: Sort,
     least: usize,
     most: usize,
 }
 
-impl Model for Shape {
-    ghost use Rattle.xh_script.specs.Forms.{Shape};
+impl Model for FormShape {
+    ghost use Rattle.xh_script.specs.Forms.{FormShape};
 
-    ghost Value = { Shape };
+    ghost Value = { FormShape };
 
     ghost view = { λ s. record { words = s.words.now; more = s.more; least = s.least; most = s.most } };
 }
@@ -116,7 +116,7 @@ pub(crate) const VERBS: &[Form] = &[
 ];
 
 /// The first of these forms whose own word this is.
-pub(crate) fn form_among(forms: &[Form], word: &[u8]) -> Result<Form, Kind>
+pub(crate) fn form_among(forms: &[Form], word: &[u8]) -> Result<Form, FaultKind>
     ensures { result ≡ form_among forms.now word.now }
 {
     for form in forms {
@@ -124,21 +124,21 @@ pub(crate) fn form_among(forms: &[Form], word: &[u8]) -> Result<Form, Kind>
             return Ok(*form);
         }
     }
-    Err(Kind::BadWord)
+    Err(FaultKind::BadWord)
 }
 
 /// These words and no more.
-fn just(words: &'static [Sort]) -> Shape
+fn just(words: &'static [Sort]) -> FormShape
     ensures { result ≡ just words.now }
 {
     and_more(words, BLOCK, 0, 0)
 }
 
 /// These words, and then some more.
-fn and_more(words: &'static [Sort], more: Sort, least: usize, most: usize) -> Shape
+fn and_more(words: &'static [Sort], more: Sort, least: usize, most: usize) -> FormShape
     ensures { result ≡ and_more words.now more least most }
 {
-    Shape {
+    FormShape {
         words,
         more,
         least,
@@ -149,7 +149,7 @@ fn and_more(words: &'static [Sort], more: Sort, least: usize, most: usize) -> Sh
 impl Form {
     /// Its row of the table.
     #[tactic(auto, unfolding(crate::specs::Forms::shape))]
-    pub(crate) fn shape(self) -> Shape
+    pub(crate) fn shape(self) -> FormShape
         ensures is { result ≡ shape self }
         ensures fits { (length (shape self).words + (shape self).most ≤ MAX_WORDS) × ((shape self).least ≤ (shape self).most) }
     {
@@ -205,7 +205,7 @@ impl Form {
     }
 }
 
-impl Shape {
+impl FormShape {
     /// What the word at this place has to be.
     pub(crate) fn sort(&self, i: usize) -> Sort
         ensures { result ≡ sort_at self.now i }

@@ -5,7 +5,7 @@ ghost use Rattle.xh_script.specs.Words.{is_hex_letter, is_hex_digit, is_hex, hex
 ghost use Rattle.xh_script.specs.Sorts.{bytes_at};
 ghost use Rattle.xh_script.specs.declared.limits.TheConstants.{MAX_HEX};
 
-use crate::Kind;
+use crate::FaultKind;
 use crate::limits::MAX_HEX;
 use arrayvec::ArrayVec;
 
@@ -56,12 +56,12 @@ fn hex_bytes(word: &[u8]) -> ArrayVec<u8, MAX_HEX>
 
 /// The bytes that a word says in hexadecimal digits.
 #[tactic(auto, unfolding(crate::specs::Sorts::bytes_at))]
-pub(crate) fn bytes_at(word: &[u8]) -> Result<ArrayVec<u8, MAX_HEX>, Kind>
+pub(crate) fn bytes_at(word: &[u8]) -> Result<ArrayVec<u8, MAX_HEX>, FaultKind>
     ensures { result ≡ bytes_at word.now }
 {
     if is_hex(word) {
         Ok(hex_bytes(word))
     } else {
-        Err(Kind::BadHex)
+        Err(FaultKind::BadHex)
     }
 }

@@ -21,11 +21,11 @@ mod writing;
 
 pub use command::{Command, Line, Word};
 use fault::Stop;
-pub use fault::{Fault, Kind};
+pub use fault::{Fault, FaultKind};
 pub use form::{Form, Sort};
 pub use ledgers::{write_flight, write_ledger};
 pub use name::Name;
-pub use replies::{Answered, Reply, write_answers, write_reply};
+pub use replies::{NumberedReply, Reply, write_answers, write_reply};
 pub use script::{Script, read_script};
 pub use streams::Watched;
 pub use writing::put as write_bytes;

@@ -11,7 +11,7 @@ ghost use Rattle.std.proofs.Common.{rules};
 ghost use Rattle.std.proofs.lemmas.Slice.Eq.{bytes_eq-Decides};
 ghost use Rattle.xh_script.specs.declared.limits.TheConstants.{MAX_NAME};
 
-use crate::Kind;
+use crate::FaultKind;
 use crate::limits::MAX_NAME;
 use arrayvec::ArrayVec;
 use std::hash::{Hash, Hasher};
@@ -99,11 +99,11 @@ fn copy_of<const N: usize>(bytes: &[u8]) -> ArrayVec<u8, N>
 impl Name {
     /// The name that a word is, else `BadWord`.
     #[tactic(auto, unfolding(crate::specs::Sorts::name_at))]
-    pub fn read(word: &[u8]) -> Result<Name, Kind>
+    pub fn read(word: &[u8]) -> Result<Name, FaultKind>
         ensures { result ≡ name_at word.now }
     {
         if !is_name(word) {
-            return Err(Kind::BadWord);
+            return Err(FaultKind::BadWord);
         }
         Ok(Name {
             letters: copy_of(word),

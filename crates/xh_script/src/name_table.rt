@@ -1,10 +1,10 @@
 //! Names in the order in which they first come.
 ghost use Rattle.std.specs.Prelude.{◌≡◌, ◌≤◌, ◌<◌, ◌++◌, ◌∷◌, [], None, IfOk, IfErr, OnOk, IfSome, length};
-ghost use Rattle.xh_script.specs.inner.Stops.{Answers};
+ghost use Rattle.xh_script.specs.inner.Stops.{WordGives};
 ghost use Rattle.xh_script.specs.Names.{number_in, entered};
 ghost use Rattle.xh_script.specs.declared.limits.TheConstants.{MAX_BLOCK_NAMES};
 
-use crate::{Kind, Name, Stop};
+use crate::{FaultKind, Name, Stop};
 use std::alloc::Global;
 use std::collections::HashMap;
 use std::marker::Model;
@@ -71,7 +71,7 @@ impl NameTable {
     #[tactic(auto, unfolding(crate::specs::Names::entered))]
     pub(crate) fn enter(&mut self, most: usize, name: &Name) -> Result<u8, Stop>
         requires { most ≤ MAX_BLOCK_NAMES }
-        ensures gives { Answers (λ n. (n, self.new)) result (entered most self.old name.now) }
+        ensures gives { WordGives (λ n. (n, self.new)) result (entered most self.old name.now) }
         ensures within { length self.old ≤ most → IfOk result (λ n. n < most) }
         ensures short { length self.old ≤ most → length self.new ≤ most }
     {
@@ -80,7 +80,7 @@ impl NameTable {
         }
         let number = self.names.len();
         if number >= most {
-            return Err(Stop::Bad(Kind::TooLong));
+            return Err(Stop::Bad(FaultKind::TooLong));
         }
         self.add(name)?;
         Ok(number as u8)

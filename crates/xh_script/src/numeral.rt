@@ -5,7 +5,7 @@ ghost use Rattle.xh_script.specs.Words.{is_digit, has_no_zero_in_front, is_numer
 ghost use Rattle.xh_script.specs.Sorts.{number_between};
 ghost use Rattle.xh_script.specs.declared.limits.TheConstants.{MAX_DIGITS};
 
-use crate::Kind;
+use crate::FaultKind;
 use crate::limits::MAX_DIGITS;
 
 fn has_no_zero_in_front(word: &[u8]) -> bool
@@ -42,17 +42,17 @@ fn value_of(digits: &[u8]) -> u64
 
 /// The number that a word is, if it is in this range.
 #[tactic(auto, unfolding(crate::specs::Sorts::number_between))]
-pub(crate) fn number_between(low: u32, high: u32, word: &[u8]) -> Result<u32, Kind>
+pub(crate) fn number_between(low: u32, high: u32, word: &[u8]) -> Result<u32, FaultKind>
     ensures is { result ≡ number_between low high word.now }
     ensures within { IfOk result (λ n. n ≤ high) }
 {
     if !is_numeral(word) {
-        return Err(Kind::BadNumber);
+        return Err(FaultKind::BadNumber);
     }
     let number = value_of(word);
     if u64::from(low) <= number && number <= u64::from(high) {
         Ok(number as u32)
     } else {
-        Err(Kind::BadNumber)
+        Err(FaultKind::BadNumber)
     }
 }

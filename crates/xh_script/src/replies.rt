@@ -57,7 +57,7 @@ pub enum Reply {
 
 /// A reply with the number of its command's line.
 #[derive(Drop)]
-pub struct Answered {
+pub struct NumberedReply {
     pub line: u32,
     pub reply: Reply,
 }
@@ -188,7 +188,10 @@ pub fn write_reply<W: Write>(writer: &mut Watched<W>, line: u32, reply: &Reply) 
 }
 
 /// Writes replies in their order, as `write_reply` does.
-pub fn write_answers<W: Write>(writer: &mut Watched<W>, answers: &[Answered]) -> Result<(), Fault>
+pub fn write_answers<W: Write>(
+    writer: &mut Watched<W>,
+    answers: &[NumberedReply],
+) -> Result<(), Fault>
     ensures { WritesOrFails W.contents writer.old writer.new result (answer_texts answers.now) }
 {
     for answered in answers {

@@ -1,15 +1,15 @@
 //! Rows of contracts, and the contracts that they are.
 ghost use Rattle.std.specs.Prelude.{◌≡◌, ◌≤◌, Some, None, if◌then◌else◌, length, map};
-ghost use Rattle.xh_script.specs.Sorts.{row_said, row_of, row_at};
+ghost use Rattle.xh_script.specs.Sorts.{row_said, row_of, row_of_word};
 ghost use Rattle.xh_script.specs.Numbering.{rows_in};
 ghost use Rattle.xh_script.specs.Tables.{is_table};
-ghost use Rattle.xh_script.specs.inner.Stops.{Answers};
+ghost use Rattle.xh_script.specs.inner.Stops.{WordGives};
 ghost use Rattle.xh_script.specs.declared.limits.TheConstants.{MAX_WORDS};
 
 use crate::limits::{MAX_TAG, MAX_WORDS};
 use crate::numeral::number_between;
 use crate::split::pieces;
-use crate::{Kind, Stop};
+use crate::{FaultKind, Stop};
 use arrayvec::ArrayVec;
 use std::alloc::Global;
 use xh_core::Contract;
@@ -17,7 +17,7 @@ use xh_model::Row;
 use xh_model::limits::STATES;
 
 #[tactic(auto, unfolding(crate::specs::Sorts::row_said))]
-fn row_said(state: &[u8], tag: &[u8], side: &[u8], next: &[u8]) -> Result<Row, Kind>
+fn row_said(state: &[u8], tag: &[u8], side: &[u8], next: &[u8]) -> Result<Row, FaultKind>
     ensures { result ≡ row_said state.now tag.now side.now next.now }
 {
     let last = u32::from(STATES) - 1;
@@ -30,18 +30,18 @@ fn row_said(state: &[u8], tag: &[u8], side: &[u8], next: &[u8]) -> Result<Row, K
 }
 
 #[tactic(auto, unfolding(crate::specs::Sorts::row_of))]
-fn row_of(numbers: &[&[u8]]) -> Result<Row, Kind>
+fn row_of(numbers: &[&[u8]]) -> Result<Row, FaultKind>
     ensures { result ≡ row_of (map (λ w. w.now) numbers.now) }
 {
     let [state, tag, side, next] = numbers else {
-        return Err(Kind::BadNumber);
+        return Err(FaultKind::BadNumber);
     };
     row_said(state, tag, side, next)
 }
 
 /// The row that a word says.
 pub(crate) fn row_at(alloc: Global, word: &[u8]) -> Result<Row, Stop>
-    ensures { Answers (λ row. row) result (row_at word.now) }
+    ensures { WordGives (λ row. row) result (row_of_word word.now) }
 {
     let numbers = pieces(alloc, word, b':')?;
     Ok(row_of(&numbers)?)
@@ -51,7 +51,7 @@ pub(crate) fn row_at(alloc: Global, word: &[u8]) -> Result<Row, Stop>
 #[tactic(auto, using(crate::proofs::Readings::stops_then))]
 pub(crate) fn rows_in(alloc: Global, words: &[&[u8]]) -> Result<ArrayVec<Row, MAX_WORDS>, Stop>
     requires { length words.now ≤ MAX_WORDS }
-    ensures { Answers (λ rows. rows.items) result (rows_in (map (λ w. w.now) words.now)) }
+    ensures { WordGives (λ rows. rows.items) result (rows_in (map (λ w. w.now) words.now)) }
 {
     let mut rows = ArrayVec::new();
     for word in words {

@@ -1,13 +1,13 @@
 //! Scripts, and how they are read.
 ghost use Rattle.std.specs.Prelude.{◌≤◌, ◌==◌, length};
-ghost use Rattle.xh_script.specs.Scripts.{at_line, after_line, after_lines, nothing_read, script_of, listing_of, Gives};
+ghost use Rattle.xh_script.specs.Scripts.{at_line, after_line, after_lines, nothing_read, script_of, listing_of, ReadingGives};
 ghost use Rattle.std.specs.List.{slice_split};
 ghost use Rattle.xh_script.specs.declared.limits.TheConstants.{MAX_SCRIPT};
 
 use crate::limits::{MAX_COMMANDS, MAX_SCRIPT};
 use crate::so_far::SoFar;
 use crate::split::pieces;
-use crate::{Fault, Kind, Line, Name, Stop};
+use crate::{Fault, FaultKind, Line, Name, Stop};
 use std::alloc::Global;
 use xh_core::Contract;
 
@@ -22,7 +22,7 @@ pub struct Script {
 
 /// Reads one more line, and gives its number with a fault.
 fn read_line(alloc: Global, so_far: &mut SoFar, number: u32, line: &[u8]) -> Result<(), Fault>
-    ensures { Gives (λ _. so_far.new) result (at_line number (after_line so_far.old number line.now)) }
+    ensures { ReadingGives (λ _. so_far.new) result (at_line number (after_line so_far.old number line.now)) }
 {
     match so_far.read(alloc, number, line) {
         Ok(()) => Ok(()),
@@ -34,7 +34,7 @@ fn read_line(alloc: Global, so_far: &mut SoFar, number: u32, line: &[u8]) -> Res
 /// Reads all lines of a text.
 fn read_lines(alloc: Global, text: &[u8]) -> Result<SoFar, Fault>
     requires { length text.now ≤ MAX_SCRIPT }
-    ensures { Gives (λ r. r) result (after_lines nothing_read 1 (slice_split (λ b. b == 10) text.now)) }
+    ensures { ReadingGives (λ r. r) result (after_lines nothing_read 1 (slice_split (λ b. b == 10) text.now)) }
 {
     let lines = pieces(alloc, text, b'\n')?;
     let mut so_far = SoFar::new(alloc, lines.len().min(MAX_COMMANDS))?;
@@ -48,12 +48,12 @@ fn read_lines(alloc: Global, text: &[u8]) -> Result<SoFar, Fault>
 /// is that of the lowest line with one; `Memory` comes only where a growth was refused.
 #[tactic(auto, unfolding(crate::specs::Scripts::script_of), using(crate::proofs::Readings::fails_then))]
 pub fn read_script(alloc: Global, text: &[u8]) -> Result<Script, Fault>
-    ensures { Gives listing_of result (script_of text.now) }
+    ensures { ReadingGives listing_of result (script_of text.now) }
 {
     if text.len() > MAX_SCRIPT {
         return Err(Fault::Script {
             line: 0,
-            kind: Kind::TooLong,
+            kind: FaultKind::TooLong,
         });
     }
     let so_far = read_lines(alloc, text)?;

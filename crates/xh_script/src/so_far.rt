@@ -1,11 +1,11 @@
 //! What has been read of a script, and how a line is added to it.
 ghost use Rattle.std.specs.Prelude.{◌≡◌, ◌<◌, ◌≤◌, [], IfOk, length, map, replicate};
-ghost use Rattle.xh_script.specs.inner.Stops.{Answers};
-ghost use Rattle.xh_script.specs.Numbering.{contract_in, word_in, words_in, is_known, are_known, declared, placed};
+ghost use Rattle.xh_script.specs.inner.Stops.{WordGives};
+ghost use Rattle.xh_script.specs.Numbering.{contract_in, word_in, words_in, is_word_known, are_known, declared, placed};
 ghost use Rattle.xh_script.specs.Scripts.{after_line, with_words, with_command, nothing_read, listing_of, listing_so_far};
 ghost use Rattle.xh_script.specs.declared.limits.TheConstants.{MAX_PROCESSES, MAX_WORDS};
 
-use crate::form::{Shape, Sort};
+use crate::form::{FormShape, Sort};
 use crate::hex::bytes_at;
 use crate::limits::{
     MAX_BLOCK_NAMES, MAX_COMMANDS, MAX_CONTRACTS, MAX_LINE, MAX_PROCESSES, MAX_WORDS,
@@ -15,7 +15,7 @@ use crate::name_table::NameTable;
 use crate::numeral::number_between;
 use crate::rows::{contract_of, rows_in};
 use crate::split::pieces;
-use crate::{Command, Form, Kind, Line, Name, Script, Stop, Word};
+use crate::{Command, FaultKind, Form, Line, Name, Script, Stop, Word};
 use arrayvec::ArrayVec;
 use std::alloc::{AllocError, Global};
 use std::marker::Model;
@@ -47,7 +47,7 @@ impl Model for SoFar {
 }
 
 /// What the words of a line say.
-type Words = ArrayVec<Word, MAX_WORDS>;
+type LineWords = ArrayVec<Word, MAX_WORDS>;
 
 /// No block names yet, of each process by number.
 fn no_names(alloc: Global) -> Result<Vec<NameTable>, AllocError>
@@ -77,19 +77,19 @@ impl SoFar {
 
     /// The number of the contract that a word names, which an earlier line declares.
     #[tactic(auto, unfolding(crate::specs::Numbering::contract_in))]
-    fn contract(&self, word: &[u8]) -> Result<u8, Kind>
+    fn contract(&self, word: &[u8]) -> Result<u8, FaultKind>
         ensures { result ≡ contract_in self.now word.now }
     {
         let name = Name::read(word)?;
-        self.declared.number(&name).ok_or(Kind::BadContract)
+        self.declared.number(&name).ok_or(FaultKind::BadContract)
     }
 
     /// What a word of a sort says, where `process` was named last; and the process that is named last
     /// then.
-    #[tactic(auto, unfolding(crate::specs::Numbering::word_in, crate::specs::Numbering::process_in, crate::specs::Numbering::block_in), using(crate::proofs::Readings::stops_then))]
+    #[tactic(auto, unfolding(crate::specs::Numbering::word_in, crate::specs::Numbering::process_said, crate::specs::Numbering::block_in), using(crate::proofs::Readings::stops_then))]
     fn word(&mut self, process: u8, sort: Sort, word: &[u8]) -> Result<(u8, Word), Stop>
         requires { process < MAX_PROCESSES }
-        ensures gives { Answers (λ w. (w.0, w.1, self.new)) result (word_in self.old process sort word.now) }
+        ensures gives { WordGives (λ w. (w.0, w.1, self.new)) result (word_in self.old process sort word.now) }
         ensures within { IfOk result (λ w. w.0 < MAX_PROCESSES) }
     {
         match sort {
@@ -108,15 +108,20 @@ impl SoFar {
                 Ok((process, Word::Number(number)))
             }
             Sort::Bytes => Ok((process, Word::Bytes(bytes_at(word)?))),
-            Sort::Row => Err(Stop::Bad(Kind::BadContract)),
+            Sort::Row => Err(Stop::Bad(FaultKind::BadContract)),
         }
     }
 
     /// Adds what words say, from left to right.
-    fn add_words(&mut self, shape: &Shape, words: &[&[u8]], said: &mut Words) -> Result<(), Stop>
+    fn add_words(
+        &mut self,
+        shape: &FormShape,
+        words: &[&[u8]],
+        said: &mut LineWords,
+    ) -> Result<(), Stop>
         requires none { said.old.items ≡ [] }
         requires room { length words.now ≤ MAX_WORDS }
-        ensures { Answers (λ _. (said.new.items, self.new)) result (words_in self.old 0 shape.now 0 (map (λ w. w.now) words.now)) }
+        ensures { WordGives (λ _. (said.new.items, self.new)) result (words_in self.old 0 shape.now 0 (map (λ w. w.now) words.now)) }
     {
         let mut process = 0;
         for (i, word) in words.iter().enumerate() {
@@ -129,7 +134,7 @@ impl SoFar {
 
     /// Whether a contract that a word of this sort names is declared on an earlier line.
     fn is_known(&self, sort: Sort, word: &[u8]) -> bool
-        ensures { result ≡ is_known self.now sort word.now }
+        ensures { result ≡ is_word_known self.now sort word.now }
     {
         match sort {
             Sort::Contract => self.contract(word).is_ok(),
@@ -137,7 +142,7 @@ impl SoFar {
         }
     }
 
-    fn are_known(&self, shape: &Shape, words: &[&[u8]]) -> bool
+    fn are_known(&self, shape: &FormShape, words: &[&[u8]]) -> bool
         ensures { result ≡ are_known self.now shape.now 0 (map (λ w. w.now) words.now) }
     {
         for (i, word) in words.iter().enumerate() {
@@ -150,20 +155,20 @@ impl SoFar {
 
     /// The contract that a line declares.
     #[tactic(auto, unfolding(crate::specs::Numbering::declared), using(crate::proofs::Readings::stops_then))]
-    fn declare(&mut self, alloc: Global, words: &[&[u8]], said: &mut Words) -> Result<(), Stop>
+    fn declare(&mut self, alloc: Global, words: &[&[u8]], said: &mut LineWords) -> Result<(), Stop>
         requires none { said.old.items ≡ [] }
         requires room { length words.now ≤ MAX_WORDS }
-        ensures { Answers (λ _. (said.new.items, self.new)) result (declared self.old (map (λ w. w.now) words.now)) }
+        ensures { WordGives (λ _. (said.new.items, self.new)) result (declared self.old (map (λ w. w.now) words.now)) }
     {
         let [first, rows @ ..] = words else {
-            return Err(Stop::Bad(Kind::BadContract));
+            return Err(Stop::Bad(FaultKind::BadContract));
         };
         let name = Name::read(first)?;
         let Some(contract) = contract_of(&rows_in(alloc, rows)?) else {
-            return Err(Stop::Bad(Kind::BadContract));
+            return Err(Stop::Bad(FaultKind::BadContract));
         };
         if self.declared.number(&name).is_some() {
-            return Err(Stop::Bad(Kind::BadContract));
+            return Err(Stop::Bad(FaultKind::BadContract));
         }
         let number = self.declared.enter(MAX_CONTRACTS, &name)?;
         self.contracts.push(contract)?;
@@ -178,22 +183,22 @@ impl SoFar {
         alloc: Global,
         form: Form,
         words: &[&[u8]],
-        said: &mut Words,
+        said: &mut LineWords,
     ) -> Result<(), Stop>
         requires { said.old.items ≡ [] }
-        ensures { Answers (λ _. (said.new.items, self.new)) result (placed self.old form (map (λ w. w.now) words.now)) }
+        ensures { WordGives (λ _. (said.new.items, self.new)) result (placed self.old form (map (λ w. w.now) words.now)) }
     {
         let shape = form.shape();
         check_all(alloc, &shape, words)?;
         let head = form.is_head();
         if head && self.begun {
-            return Err(Stop::Bad(Kind::LateHead));
+            return Err(Stop::Bad(FaultKind::LateHead));
         }
         if matches!(form, Form::Contract) {
             return self.declare(alloc, words, said);
         }
         if !self.are_known(&shape, words) {
-            return Err(Stop::Bad(Kind::BadContract));
+            return Err(Stop::Bad(FaultKind::BadContract));
         }
         self.begun = self.begun || !head;
         self.add_words(&shape, words, said)
@@ -201,11 +206,11 @@ impl SoFar {
 
     /// Adds a command.
     #[tactic(auto, unfolding(crate::specs::Scripts::with_command))]
-    fn push(&mut self, number: u32, form: Form, words: Words) -> Result<(), Stop>
-        ensures { Answers (λ _. self.new) result (with_command self.old number form words.items) }
+    fn push(&mut self, number: u32, form: Form, words: LineWords) -> Result<(), Stop>
+        ensures { WordGives (λ _. self.new) result (with_command self.old number form words.items) }
     {
         if self.lines.len() >= MAX_COMMANDS {
-            return Err(Stop::Bad(Kind::TooLong));
+            return Err(Stop::Bad(FaultKind::TooLong));
         }
         let command = Command { form, words };
         self.lines.push(Line { number, command })?;
@@ -215,10 +220,10 @@ impl SoFar {
     /// Adds what the words of a line say.
     #[tactic(auto, unfolding(crate::specs::Scripts::with_words), using(crate::proofs::Readings::stops_then))]
     fn add_line(&mut self, alloc: Global, number: u32, words: &mut Vec<&[u8]>) -> Result<(), Stop>
-        ensures { Answers (λ _. self.new) result (with_words self.old number (map (λ w. w.now) words.old.items)) }
+        ensures { WordGives (λ _. self.new) result (with_words self.old number (map (λ w. w.now) words.old.items)) }
     {
         if !are_filled(words) {
-            return Err(Stop::Bad(Kind::BadWord));
+            return Err(Stop::Bad(FaultKind::BadWord));
         }
         let form = take_form(words)?;
         let mut said = ArrayVec::new();
@@ -229,16 +234,16 @@ impl SoFar {
     /// Reads one more line.
     #[tactic(auto, unfolding(crate::specs::Scripts::after_line), using(crate::proofs::Readings::stops_then))]
     pub(crate) fn read(&mut self, alloc: Global, number: u32, line: &[u8]) -> Result<(), Stop>
-        ensures { Answers (λ _. self.new) result (after_line self.old number line.now) }
+        ensures { WordGives (λ _. self.new) result (after_line self.old number line.now) }
     {
         if line.len() > MAX_LINE {
-            return Err(Stop::Bad(Kind::LongLine));
+            return Err(Stop::Bad(FaultKind::LongLine));
         }
         if is_skipped(line) {
             return Ok(());
         }
         if !has_printable(line) {
-            return Err(Stop::Bad(Kind::BadByte));
+            return Err(Stop::Bad(FaultKind::BadByte));
         }
         let mut words = pieces(alloc, line, b' ')?;
         self.add_line(alloc, number, &mut words)

@@ -1,7 +1,7 @@
 //! Readers and writers that count which of their calls failed.
 ghost use Rattle.std.specs.Prelude.{◌≡◌, ◌≢◌, ◌<◌, ◌≤◌, [], take, length, IfSome, IfNone};
 ghost use Rattle.std.specs.Io.KnownBytes.{Appends, IsAtEnd, Keeps};
-ghost use Rattle.xh_script.specs.Watching.{failures, inner_of, Reads, Writes, WritesOrFails};
+ghost use Rattle.xh_script.specs.Watching.{failures, inner_of, ReadsBytes, WritesBytes, WritesOrFails};
 
 use crate::Fault;
 use std::io::{Read, Write};
@@ -31,7 +31,7 @@ impl<R: Read> Watched<R> {
     /// Reads some bytes, and none only at the end. `None` where the reader failed.
     pub fn read(&mut self, room: &mut [u8]) -> Option<usize>
         ensures bound { IfSome result (λ n. n ≤ length room.new) }
-        ensures some { IfSome result (λ n. Reads R.remaining self.old self.new (take n room.new)) }
+        ensures some { IfSome result (λ n. ReadsBytes R.remaining self.old self.new (take n room.new)) }
         ensures end { IfSome result (λ n. n ≡ 0 → 0 < length room.new → IsAtEnd (R.remaining (inner_of self.new))) }
         ensures none { IfNone result (Keeps (R.remaining (inner_of self.old)) (R.remaining (inner_of self.new))
             × (failures self.new ≢ failures self.old)) }
@@ -51,7 +51,7 @@ impl<W: Write> Watched<W> {
     pub fn write(&mut self, bytes: &[u8]) -> Option<usize>
         requires { 0 < length bytes.now }
         ensures bound { IfSome result (λ n. (0 < n) × (n ≤ length bytes.now)) }
-        ensures some { IfSome result (λ n. Writes W.contents self.old self.new (take n bytes.now)) }
+        ensures some { IfSome result (λ n. WritesBytes W.contents self.old self.new (take n bytes.now)) }
         ensures none { IfNone result (Appends (W.contents (inner_of self.old)) (W.contents (inner_of self.new)) []
             × (failures self.new ≢ failures self.old)) }
     {

@@ -1,5 +1,5 @@
 -- What a change of a list, of a status or of free records leaves: a whole machine; and what a stop and a close reclaim.
-use Rattle.xh_serial.proofs.Common.{relisted, Bool, Carve, Claim, Cut, Direction, Ending, Frees, Gained, Holder, IsRunning, IsWhole, List, Machine, None, Process, Some, Status, Store, Sweeps, []}
+use Rattle.xh_serial.proofs.Common.{relisted, Bool, Carve, Claim, Cut, Direction, Ending, Frees, Gained, Holder, IsRunning, IsWhole, List, Machine, None, Process, Some, Status, Store, SweepsOver, []}
 use Rattle.xh_serial.proofs.Common.{after, allocated, ap, append-nil, arith, arriving, at_set, blocks, buffer, cond, count_append, drop, end_of, eq-eqb, false≢true, freed_block, holds, in_range}
 use Rattle.xh_serial.proofs.Common.{is_known, is_over, is_some, last, len, length, length-drop, length-remove, length-replicate, length-set, length-take-le, listed, moved_last, nat_tests, ne_eqb}
 use Rattle.xh_serial.proofs.Common.{nil_from_length, not, one_time, owner, parted, passes_at_first, place, position, position_or_len, prefix_len-le-length, refl, remove, replicate, rules}
@@ -68,9 +68,9 @@ ending_whole m p w = status_whole m p Ending w (λ h. absurd (false≢true h))
 -- ---- a stop: the sweep of a list hangs on no status
 
 -- what is left is swept, and machines that list the same for p are as one
-pub stop_sweeps : (m n k : Machine) (p budget : ℕ) → IsWhole m → n ≡ sweep p 0 budget (ending p m) → blocks k p ≡ blocks n p → Sweeps p 0 budget m k
+pub stop_sweeps : (m n k : Machine) (p budget : ℕ) → IsWhole m → n ≡ sweep p 0 budget (ending p m) → blocks k p ≡ blocks n p → SweepsOver p 0 budget m k
 stop_sweeps m n k p budget w is f =
-    let h : Sweeps p 0 budget (ending p m) n = rw is (sweep_sweeps budget p 0 (ending p m) (ending_whole m p w)) in
+    let h : SweepsOver p 0 budget (ending p m) n = rw is (sweep_sweeps budget p 0 (ending p m) (ending_whole m p w)) in
     let e : blocks (ending p m) p ≡ blocks m p = status_blocks m p p Ending w in record {
       taken = h.taken;
       accepted = h.accepted;
@@ -93,7 +93,7 @@ stop_frees m n p budget w is none =
 -- ---- a close
 
 pub close_sweeps : (budget : ℕ) (m n : Machine) (p e : ℕ) → IsWhole m → IsRunning m p → holds m.store (Process p) e ≡ true →
-    n ≡ sweep p (length (blocks m p) - 1) budget (moved_last p e m) → Sweeps p (length (blocks m p) - 1) budget (moved_last p e m) n
+    n ≡ sweep p (length (blocks m p) - 1) budget (moved_last p e m) → SweepsOver p (length (blocks m p) - 1) budget (moved_last p e m) n
 close_sweeps budget m n p e w r h is = grind (arith, nat_tests, sweep_sweeps, last_whole)
 
 pub close_frees : (budget : ℕ) (m n : Machine) (p e : ℕ) → IsWhole m → IsRunning m p → holds m.store (Process p) e ≡ true → 2048 < budget →

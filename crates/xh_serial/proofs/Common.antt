@@ -21,17 +21,17 @@ pub use Rattle.xh_model.specs.{declared.event.Holder.Holder, declared.event.Hold
 pub use Rattle.xh_model.specs.Store.{IsLawful, Store, after, all_out, bytes_of, change, holders, holds, is_held_by, is_known, len, numbers, owner}
 pub use Rattle.xh_model.specs.declared.event.Event.TheVariants.{Carve, Claim, Cut, GiveBack, Pass, Vacate}
 unfoldable pub use Rattle.xh_model.specs.Store.{all_holders, new_store}
-pub use Rattle.xh_serial.specs.{BlockCommands.alloc_heads, BlockCommands.overwritten, BlockCommands.split_heads, Commands.IsRunning, Commands.found, Commands.toward, EndingCommands.last}
-pub use Rattle.xh_serial.specs.{EndingCommands.moved_last, Sweeping.Sweeps, Sweeping.sweep, View.machine_of, declared.line.Line.Line}
+pub use Rattle.xh_serial.specs.{BlockCommands.alloc_heads, BlockCommands.overwritten, BlockCommands.split_heads, Commands.IsRunning, Commands.header_found, Commands.toward, EndingCommands.last}
+pub use Rattle.xh_serial.specs.{EndingCommands.moved_last, Sweeping.SweepsOver, Sweeping.sweep, View.machine_of, declared.line.Line.Line}
 pub use Rattle.xh_serial.specs.{declared.message.Message.Message, declared.place.Place.Place, inner.Channeling.IsSound, inner.Checks.MayGive, inner.Checks.MaySplit, inner.Checks.MayTake}
 pub use Rattle.xh_serial.specs.{inner.Holding.BlocksOf, PlaceCommands.started_at}
 pub use Rattle.xh_serial.specs.Commands.{accept_all, accept_from, described, pass_all}
-pub use Rattle.xh_serial.specs.Lines.{AreNumbered, IsNumbered, carried, contract_of, drained_state, is_banned, line, new_line, next_state, no_line, no_message, peer, put_line, shut_in, shut_line}
+pub use Rattle.xh_serial.specs.Lines.{AreNumbered, IsNumbered, carried, contract_of, drained_state, is_banned, line, new_line, state_then, no_line, no_message, peer, put_line, shut_in, shut_line}
 pub use Rattle.xh_serial.specs.Lines.{tags_of, taken_line, told_line, way_in}
-pub use Rattle.xh_serial.specs.Machine.{AreChannels, ArePlaces, AreWired, HaveEnds, IsEnd, IsWhole, Machine, arriving, blocks, buffer}
-pub use Rattle.xh_serial.specs.Machine.{end_of, is_current, listed, no_place, on_way, place, relisted, restated, status_at, waiting}
-pub use Rattle.xh_serial.specs.MessageCommands.{AreOrderly, front, without}
-pub use Rattle.xh_serial.specs.PlaceCommands.{flight_line, flight_lines, is_ready, place_lines, started, total}
+pub use Rattle.xh_serial.specs.Machine.{AreChannels, ArePlaces, AreWired, HaveEnds, IsEndRecord, IsWhole, Machine, arriving, blocks, buffer}
+pub use Rattle.xh_serial.specs.Machine.{end_of, is_current, listed, no_place, on_way, place, relisted, restated, serial_status, waiting}
+pub use Rattle.xh_serial.specs.MessageCommands.{HasOrderlyLines, front_message, without_records}
+pub use Rattle.xh_serial.specs.PlaceCommands.{serial_flight, serial_flights, is_ready, serial_places, serial_started, total}
 unfoldable pub use Rattle.xh_serial.specs.{EndingCommands.close, EndingCommands.closed, MessageCommands.give, MessageCommands.given, MessageCommands.taken, Sweeping.sweep_one}
 unfoldable pub use Rattle.xh_serial.specs.BlockCommands.{alloc, allocated, free, freed_block, parted, read, split, write}
 unfoldable pub use Rattle.xh_serial.specs.PlaceCommands.{flight_of, ledger_of, new_machine, spawn}

@@ -1,6 +1,6 @@
 -- What is in flight: its lines; and that there is none where no block is an end.
 use Rattle.xh_serial.proofs.Common.{All, All-cons, All-nil, AllPairs, AllPairs-cons, AreFlightLines, Direction, FlightLine, IsWhole, Line, List, Machine, None}
-use Rattle.xh_serial.proofs.Common.{Some, Store, [], ap, arith, carried, cases_lt, cond, end_of, flight_line, flight_lines, flight_of, inl}
+use Rattle.xh_serial.proofs.Common.{Some, Store, [], ap, arith, carried, cases_lt, cond, end_of, serial_flight, serial_flights, flight_of, inl}
 use Rattle.xh_serial.proofs.Common.{inr, ledger_of, len, length, nat_tests, nil_from_length, no_line, none-some, refl, slice_index_or, subst, suc}
 use Rattle.xh_serial.proofs.Common.{sum_by, sum_by-cons, sym, times, times-cons, total, waiting, ℕ, ◌*◌, ◌+◌, ◌<◌, ◌==◌, ◌∙◌, ◌∷◌, ◌≡◌, ◌≤◌}
 
@@ -18,10 +18,10 @@ abbrev AreFrom : ℕ → ℕ → List FlightLine → Type 0
 AreFrom d bytes lines = All (IsFrom d) lines × AllPairs Rises lines × (sum_by (λ l. l.bytes) lines ≡ bytes)
 
 one_line : (s : Store) (d bytes : ℕ) (rs : List ℕ) (rest : List FlightLine) → ((r : ℕ) → 0 < times r rs → 0 < len s r) → d < 128 → AreFrom (d + 1) bytes rest →
-    AreFrom d (total s rs + bytes) (cond (length rs == 0) rest (flight_line s d rs ∷ rest))
+    AreFrom d (total s rs + bytes) (cond (length rs == 0) rest (serial_flight s d rs ∷ rest))
 one_line s d bytes [] rest full small are = (λ i x l. let a = are.0 i x l in (omega (arith, a.0), a.1), are.1, omega (arith, are.2))
 one_line s d bytes (r ∷ rs) rest full small are =
-    let line : FlightLine = flight_line s d (r ∷ rs) in
+    let line : FlightLine = serial_flight s d (r ∷ rs) in
     let here : cond (length (r ∷ rs) == 0) rest (line ∷ rest) ≡ line ∷ rest = grind (arith, nat_tests) in
     let first : 0 < len s r = full r (grind (arith, nat_tests, times-cons r r rs)) in
     let some : 0 < total s (r ∷ rs) = (let e = sum_by-cons (λ q. len s q) r rs in omega (arith, first, e)) in
@@ -32,11 +32,11 @@ one_line s d bytes (r ∷ rs) rest full small are =
     )
 
 lines_from : (s : Store) (d : ℕ) (lines : List Line) → ((k r : ℕ) → 0 < times r (carried (slice_index_or lines k no_line).waiting.items) → 0 < len s r) → d + length lines ≤ 128 →
-    AreFrom d (sum_by (λ line. total s (carried line.waiting.items)) lines) (flight_lines s d lines)
+    AreFrom d (sum_by (λ line. total s (carried line.waiting.items)) lines) (serial_flights s d lines)
 lines_from s d [] full fits = (All-nil (IsFrom d), λ i j x a b. absurd (omega (arith, b)), refl)
 lines_from s d (l ∷ lines) full fits =
-    subst (λ n. AreFrom d n (flight_lines s d (l ∷ lines))) (sym (sum_by-cons (λ k. total s (carried k.waiting.items)) l lines))
-    (one_line s d _ (carried l.waiting.items) (flight_lines s (d + 1) lines) (full 0) (omega (arith, fits)) (lines_from s (d + 1) lines (λ k. full (suc k)) (omega (arith, fits))))
+    subst (λ n. AreFrom d n (serial_flights s d (l ∷ lines))) (sym (sum_by-cons (λ k. total s (carried k.waiting.items)) l lines))
+    (one_line s d _ (carried l.waiting.items) (serial_flights s (d + 1) lines) (full 0) (omega (arith, fits)) (lines_from s (d + 1) lines (λ k. full (suc k)) (omega (arith, fits))))
 
 pub are_lines : (m : Machine) → IsWhole m → AreFlightLines (ledger_of m).flight (flight_of m)
 unfolding ledger_of flight_of
@@ -54,7 +54,7 @@ module _ (m : Machine) (w : IsWhole m) where
   end_there : (d : ℕ) → 0 < length (waiting m d) → (e : ℕ) × (end_of m e ≡ Some d)
   end_there d some = w.reached.there d (opened d some) (grind (arith, nat_tests, w.reached.drained d))
 
-  no_lines : (s : Store) (d : ℕ) (lines : List Line) → ((k : ℕ) → (slice_index_or lines k no_line).waiting.items ≡ []) → flight_lines s d lines ≡ []
+  no_lines : (s : Store) (d : ℕ) (lines : List Line) → ((k : ℕ) → (slice_index_or lines k no_line).waiting.items ≡ []) → serial_flights s d lines ≡ []
   no_lines s d [] h = refl
   no_lines s d (l ∷ lines) h = rw (h 0) (no_lines s (d + 1) lines (λ k. h (suc k)))
 

@@ -1,10 +1,10 @@
 -- A give and a take leave a whole machine.
 use Rattle.xh_serial.proofs.Common.{place, Bool, Direction, Holder, InStep, IsValid, IsWhole, Line, List, Machine, MayGive, MayTake, Message, None, Option, Pass, Process, Row, Some, Store, []}
 use Rattle.xh_serial.proofs.Common.{accept_all, after, allowed, ap, append-nil, arith, at_set, blocks, carried, change, cond, contract_of, count_append, done}
-use Rattle.xh_serial.proofs.Common.{false, false≢true, flat_map-append, front, get_or-set_other, get_or-set_same, given, has_twice, holds, is_banned, is_none, is_there, len, length, length-append}
-use Rattle.xh_serial.proofs.Common.{length-set, line, list_all, list_any, listed, lt-ltb, nat_lt, nat_tests, next_state, no_line, no_message, on_way, owner, pass_all, peer, put_line, put_step}
+use Rattle.xh_serial.proofs.Common.{false, false≢true, flat_map-append, front_message, get_or-set_other, get_or-set_same, given, has_twice, holds, is_banned, is_none, is_there, len, length, length-append}
+use Rattle.xh_serial.proofs.Common.{length-set, line, list_all, list_any, listed, lt-ltb, nat_lt, nat_tests, state_then, no_line, no_message, on_way, owner, pass_all, peer, put_line, put_step}
 use Rattle.xh_serial.proofs.Common.{refl, remove, same_len, slice_index_or, slice_set, subst, sym, tags_of, take_step, taken, taken_line, times, times-cons, told_line, toward, true, unwrap_or}
-use Rattle.xh_serial.proofs.Common.{waiting, without, ℕ, ◌%◌, ◌*◌, ◌++◌, ◌+◌, ◌-◌, ◌/◌, ◌<◌, ◌==◌, ◌∙◌, ◌∷◌, ◌≡◌, ◌≢◌, ◌≤◌}
+use Rattle.xh_serial.proofs.Common.{waiting, without_records, ℕ, ◌%◌, ◌*◌, ◌++◌, ◌+◌, ◌-◌, ◌/◌, ◌<◌, ◌==◌, ◌∙◌, ◌∷◌, ◌≡◌, ◌≢◌, ◌≤◌}
 use Rattle.xh_serial.proofs.Accepting.{Accepted, accepted_all, all_owners}
 use Rattle.xh_serial.proofs.Room.{handed_whole, has, room}
 use Rattle.xh_serial.proofs.Machines.{busy_place, current_blocks, current_generation, current_range, list_set, peer_half, peer_ne, place_there, places_set, runs_busy, way_else, way_here}
@@ -15,9 +15,9 @@ any_times q [] = refl
 any_times q (b ∷ bs) = grind (arith, nat_tests, times-cons q b bs, any_times q bs)
 
 -- the list without them has none of them, and the others as often as before
-pub times_without : (q : ℕ) (bs rs : List ℕ) → times q (without bs rs) ≡ cond (nat_lt 0 (times q bs)) 0 (times q rs)
+pub times_without : (q : ℕ) (bs rs : List ℕ) → times q (without_records bs rs) ≡ cond (nat_lt 0 (times q bs)) 0 (times q rs)
 times_without q bs [] = grind (arith, nat_tests)
-times_without q bs (r ∷ rs) = grind (arith, nat_tests, times-cons q r rs, times-cons q r (without bs rs), times_without q bs rs, any_times r bs)
+times_without q bs (r ∷ rs) = grind (arith, nat_tests, times-cons q r rs, times-cons q r (without_records bs rs), times_without q bs rs, any_times r bs)
 
 -- distinct records that all pass a test
 pub distinct_pass : (test : ℕ → Bool) (bs : List ℕ) → list_all test bs ≡ true → has_twice bs ≡ false → (q : ℕ) → times q bs ≤ cond (test q) 1 0
@@ -63,7 +63,7 @@ give_pair rows lines new d tag bs valid free lo hi pair =
     let mine : Line = slice_index_or lines d no_line in
     let theirs : Line = slice_index_or lines (peer d) no_line in
     let row = some_of (allowed rows mine.state tag (d % 2)) free in
-    let next : next_state (Some rows) (d % 2) mine.state tag ≡ row.0 = ap (λ (o : Option ℕ). unwrap_or o mine.state) row.1 in
+    let next : state_then (Some rows) (d % 2) mine.state tag ≡ row.0 = ap (λ (o : Option ℕ). unwrap_or o mine.state) row.1 in
     let step : InStep rows (d % 2) row.0 (tags_of mine.waiting.items) theirs.state (tags_of theirs.waiting.items ++ tag ∷ []) =
     put_step rows (d % 2) mine.state tag row.0 theirs.state (tags_of mine.waiting.items) (tags_of theirs.waiting.items) valid pair row.1 in
     let more : tags_of (put_line tag bs theirs).waiting.items ≡ tags_of theirs.waiting.items ++ tag ∷ [] = tags_append theirs.waiting.items _ in
@@ -106,7 +106,7 @@ module _ (m : Machine) (p e tag : ℕ) (bs : List ℕ) (w : IsWhole m) (g : MayG
   passed : Passed d bs m.store (pass_all p d bs m.store)
   passed = passed_all p d bs m.store range held (w.full (Process p))
 
-  left : (q : ℕ) → times q (without bs (blocks m p)) + times q bs ≡ times q (blocks m p)
+  left : (q : ℕ) → times q (without_records bs (blocks m p)) + times q bs ≡ times q (blocks m p)
   left q = grind (arith, nat_tests, times_without q bs (blocks m p), w.once (Process p) q, held q)
 
   way : carried y.waiting.items ≡ on_way m d ++ bs
@@ -118,7 +118,7 @@ module _ (m : Machine) (p e tag : ℕ) (bs : List ℕ) (w : IsWhole m) (g : MayG
 
   lists : (k : Holder) (q : ℕ) → times q (listed n k) + has (Some (Process p)) k * times q bs ≡ times q (listed m k) + has (Some (Direction d)) k * times q bs
   unfolding given
-  lists (Process k) q = grind (arith, nat_tests, list_set m.places p (without bs (blocks m p)) (place_there m p w) (current_generation m p g.runs.0) k, left q)
+  lists (Process k) q = grind (arith, nat_tests, list_set m.places p (without_records bs (blocks m p)) (place_there m p w) (current_generation m p g.runs.0) k, left q)
   lists (Direction k) q = grind (arith, nat_tests, at_set told d k y no_line there, told_way k, ap (times q) way, count_append q (on_way m d) bs)
 
   other_lines : (k : ℕ) → k ≢ own → k ≢ d → slice_index_or (slice_set told d y) k no_line ≡ line m.lines k
@@ -127,7 +127,7 @@ module _ (m : Machine) (p e tag : ℕ) (bs : List ℕ) (w : IsWhole m) (g : MayG
   pub given_whole : IsWhole n
   unfolding given
   given_whole = handed_whole (Process p) (Direction d) bs m n.store n.places (slice_set told d y) w range passed.many passed.arenas held passed.owners lists
-      (places_set m.places p _ w.places (busy_place m p (without bs (blocks m p)) w (runs_busy m p g.runs))) (record {
+      (places_set m.places p _ w.places (busy_place m p (without_records bs (blocks m p)) w (runs_busy m p g.runs))) (record {
         long = length-set told d y ∙ (length-set m.lines own z ∙ w.channels.long);
         fresh = λ k l. other_lines k (λ s. let c = g.within in omega (arith, c, l, s)) (λ s. let c = below in omega (arith, c, l, s)) ∙ w.channels.fresh k l;
         numbered = set_numbered told d y there (set_numbered m.lines own z own_there w.channels.numbered (w.channels.numbered own)) (put_numbered tag bs (line m.lines d) (w.channels.numbered d));
@@ -155,11 +155,11 @@ abbrev front_tag : Line → ℕ
 front_tag l = (slice_index_or l.waiting.items 0 no_message).tag
 
 -- the list of the taker has room for the records of the front message
-pub taken_room : (m : Machine) (p e : ℕ) → IsWhole m → MayTake m p e (toward m e) → length (place m.places p).blocks.items + length (front m e).blocks.items ≤ 2048
+pub taken_room : (m : Machine) (p e : ℕ) → IsWhole m → MayTake m p e (toward m e) → length (place m.places p).blocks.items + length (front_message m e).blocks.items ≤ 2048
 taken_room m p e w t =
     let rest : List ℕ = carried (remove (waiting m (toward m e)) 0) in
     let all : length (blocks m p) + length (on_way m (toward m e)) ≤ 2048 = room m p (Some (toward m e)) w in
-    let way : length (on_way m (toward m e)) ≡ length (front m e).blocks.items + length rest = grind (arith, nat_tests, front_split, length-append) in
+    let way : length (on_way m (toward m e)) ≡ length (front_message m e).blocks.items + length rest = grind (arith, nat_tests, front_split, length-append) in
     let a : length (place m.places p).blocks.items ≡ length (blocks m p) = ap length (sym (current_blocks m p t.runs.0)) in
     omega (arith, all, way, a)
 
@@ -174,7 +174,7 @@ take_pair rows lines new d some lo hi pair =
     let split : tags_of l.waiting.items ≡ tag ∷ rest = front_tags l.waiting.items some in
     let s = take_step rows (d % 2) l.state tag (state_in lines (peer d)) rest (tags_in lines (peer d))
     (subst (λ (xs : List ℕ). InStep rows (d % 2) l.state xs (state_in lines (peer d)) (tags_in lines (peer d))) split pair) in
-    let next : next_state (Some rows) (1 - d % 2) l.state tag ≡ s.0 = ap (λ (o : Option ℕ). unwrap_or o l.state) s.1 in
+    let next : state_then (Some rows) (1 - d % 2) l.state tag ≡ s.0 = ap (λ (o : Option ℕ). unwrap_or o l.state) s.1 in
     grind (arith, nat_tests, same_lines, state_in, tags_in)
 
 module _ (m : Machine) (p e : ℕ) (w : IsWhole m) (t : MayTake m p e (toward m e)) where
@@ -182,10 +182,10 @@ module _ (m : Machine) (p e : ℕ) (w : IsWhole m) (t : MayTake m p e (toward m 
   way_d = toward m e
 
   abbrev came : List ℕ
-  came = (front m e).blocks.items
+  came = (front_message m e).blocks.items
 
   abbrev shorter : Line
-  shorter = taken_line (contract_of m.contracts way_d) (1 - way_d % 2) (front m e).tag (line m.lines way_d)
+  shorter = taken_line (contract_of m.contracts way_d) (1 - way_d % 2) (front_message m e).tag (line m.lines way_d)
 
   abbrev later : Machine
   later = taken p e m
@@ -215,10 +215,10 @@ module _ (m : Machine) (p e : ℕ) (w : IsWhole m) (t : MayTake m p e (toward m 
         long = length-set m.lines way_d shorter ∙ w.channels.long;
         fresh = λ k l. get_or-set_other m.lines way_d k shorter no_line (λ s. let c = t.within in omega (arith, c, l, s)) ∙ w.channels.fresh k l;
         numbered = set_numbered m.lines way_d shorter way_there w.channels.numbered
-            (taken_numbered (contract_of m.contracts way_d) (1 - way_d % 2) (front m e).tag (line m.lines way_d) t.some (w.channels.numbered way_d));
+            (taken_numbered (contract_of m.contracts way_d) (1 - way_d % 2) (front_message m e).tag (line m.lines way_d) t.some (w.channels.numbered way_d));
         contracts_long = w.channels.contracts_long;
         wired = wired_pair m.contracts m.lines (slice_set m.lines way_d shorter) way_d w.channels.wired (λ rows is valid pair. take_pair rows m.lines (slice_set m.lines way_d shorter) way_d t.some
-            (get_or-set_same m.lines way_d shorter no_line way_there ∙ ap (λ (o : Option (List Row)). taken_line o (1 - way_d % 2) (front m e).tag (line m.lines way_d)) is)
+            (get_or-set_same m.lines way_d shorter no_line way_there ∙ ap (λ (o : Option (List Row)). taken_line o (1 - way_d % 2) (front_message m e).tag (line m.lines way_d)) is)
             (get_or-set_other m.lines way_d (peer way_d) shorter no_line (peer_ne way_d)) pair)
             (λ k h. get_or-set_other m.lines way_d k shorter no_line (half_apart way_d k h));
         few = w.channels.few;
@@ -226,12 +226,12 @@ module _ (m : Machine) (p e : ℕ) (w : IsWhole m) (t : MayTake m p e (toward m 
       (set_reached m.ends m.lines m.opened way_d shorter way_there refl (λ s. ap (λ (ms : List Message). remove ms 0) (w.reached.drained way_d s)) w.reached)
 
   -- the front message is one that the contract allows
-  pub front_allowed : (o : Option (List Row)) → contract_of m.contracts way_d ≡ o → is_banned o (1 - way_d % 2) (line m.lines way_d).state (front m e).tag ≡ false
+  pub front_allowed : (o : Option (List Row)) → contract_of m.contracts way_d ≡ o → is_banned o (1 - way_d % 2) (line m.lines way_d).state (front_message m e).tag ≡ false
   front_allowed None is = refl
   front_allowed (Some rows) is =
       let pair : IsPair rows m.lines way_d = (w.channels.wired way_d rows is).1 in
       let rest : List ℕ = tags_of (remove (waiting m way_d) 0) in
-      let split : tags_of (waiting m way_d) ≡ (front m e).tag ∷ rest = front_tags (waiting m way_d) t.some in
-      let s = take_step rows (way_d % 2) (line m.lines way_d).state (front m e).tag (state_in m.lines (peer way_d)) rest (tags_in m.lines (peer way_d))
+      let split : tags_of (waiting m way_d) ≡ (front_message m e).tag ∷ rest = front_tags (waiting m way_d) t.some in
+      let s = take_step rows (way_d % 2) (line m.lines way_d).state (front_message m e).tag (state_in m.lines (peer way_d)) rest (tags_in m.lines (peer way_d))
       (subst (λ (xs : List ℕ). InStep rows (way_d % 2) (line m.lines way_d).state xs (state_in m.lines (peer way_d)) (tags_in m.lines (peer way_d))) split pair) in
       ap (λ (o : Option ℕ). is_none o) s.1

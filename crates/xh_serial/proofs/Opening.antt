@@ -3,7 +3,7 @@ use Rattle.xh_serial.proofs.Common.{new_line, ArePlaces, Bool, Carve, Claim, Con
 use Rattle.xh_serial.proofs.Common.{Option, Place, Process, Row, Shared, Some, Store, [], after, ap, append_assoc, arith, at_replicate, at_set, blocks, buffer, cases_eq, cond, count_append}
 use Rattle.xh_serial.proofs.Common.{end_of, eq-eqb, false, false≢true, get_or-set_other, get_or-set_same, holds, inl, inr, is_held_by, is_over, is_ready, is_some, len, length, length-append}
 use Rattle.xh_serial.proofs.Common.{length-replicate, length-set, line, listed, moved, nat_tests, ne_eqb, new_machine, new_store, no_bytes, no_line, no_place, on_way, one_time, owner, peer}
-use Rattle.xh_serial.proofs.Common.{place, position, position-Some, refl, set-set, slice_index_or, slice_set, started, started_at, subst, sym, times, true, waiting, ℕ, ◌%◌}
+use Rattle.xh_serial.proofs.Common.{place, position, position-Some, refl, set-set, slice_index_or, slice_set, serial_started, started_at, subst, sym, times, true, waiting, ℕ, ◌%◌}
 use Rattle.xh_serial.proofs.Common.{◌*◌, ◌++◌, ◌+◌, ◌/◌, ◌<◌, ◌==◌, ◌∙◌, ◌∷◌, ◌≡◌, ◌≢◌}
 use Rattle.xh_serial.proofs.Machines.{IsPlace, current_generation, list_in, list_set, peer_half, place_here, place_there, places_set, places_whole, runs_busy, same_lists}
 use Rattle.xh_serial.specs.ChannelCommands.{open_channel, opened, wire_channel, wired}
@@ -12,14 +12,14 @@ use Rattle.xh_serial.proofs.Wired.{same_lines, set_numbered}
 
 module _ (m : Machine) (p : ℕ) (w : IsWhole m) (c : is_ready (place m.places p) ≡ true) where
   abbrev next : Machine
-  next = record m { places = slice_set m.places (p % 32) (started (place m.places p)) }
+  next = record m { places = slice_set m.places (p % 32) (serial_started (place m.places p)) }
 
   started_whole : IsWhole next
   started_whole =
       let empty : (place m.places p).blocks.items ≡ [] = grind (arith, nat_tests, w.places.idle p) in
-      let is : IsPlace (started (place m.places p)) = record { generation = grind (arith, nat_tests, w.places.generations p); idle = λ h. absurd (false≢true h) } in
-      places_whole m _ w (places_set m.places p (started (place m.places p)) w.places is)
-      (λ k q. ap (times q) (same_lists m.places p (started (place m.places p)) (place_there m p w) (λ k. grind (arith, nat_tests, empty)) k))
+      let is : IsPlace (serial_started (place m.places p)) = record { generation = grind (arith, nat_tests, w.places.generations p); idle = λ h. absurd (false≢true h) } in
+      places_whole m _ w (places_set m.places p (serial_started (place m.places p)) w.places is)
+      (λ k q. ap (times q) (same_lists m.places p (serial_started (place m.places p)) (place_there m p w) (λ k. grind (arith, nat_tests, empty)) k))
 
 -- the same at the first place where one can
 pub spawn_whole : (m : Machine) (o : Option ℕ) → IsWhole m → position is_ready m.places ≡ o → IsWhole (record m { places = (started_at o m.places).1 })
@@ -27,7 +27,7 @@ spawn_whole m None w e = w
 spawn_whole m (Some k) w e =
     let at = position-Some is_ready m.places k no_place e in
     let small : k % 32 ≡ k = (let l = at.0 in let n = w.places.long in omega (arith, l, n)) in
-    subst (λ (i : ℕ). IsWhole (record m { places = slice_set m.places i (started (slice_index_or m.places i no_place)) })) small
+    subst (λ (i : ℕ). IsWhole (record m { places = slice_set m.places i (serial_started (slice_index_or m.places i no_place)) })) small
     (started_whole m k w (ap (λ (i : ℕ). is_ready (slice_index_or m.places i no_place)) small ∙ at.1))
 
 -- ---- a new machine

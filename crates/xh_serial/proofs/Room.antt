@@ -1,5 +1,5 @@
 -- Records that go from one holder, or from none, to another, or to none; how many there are at most, and how many bytes they have.
-use Rattle.xh_serial.proofs.Common.{AreChannels, ArePlaces, Direction, HaveEnds, Holder, IsEnd, IsLawful, IsWhole, Line, List, Machine, None, Option, Place, Process, Some, Store, [], all_holders}
+use Rattle.xh_serial.proofs.Common.{AreChannels, ArePlaces, Direction, HaveEnds, Holder, IsEndRecord, IsLawful, IsWhole, Line, List, Machine, None, Option, Place, Process, Some, Store, [], all_holders}
 use Rattle.xh_serial.proofs.Common.{all_out, ap, arith, blocks, buffer, bytes_of, carried, cond, count_append, end_of, get_or, holders, holds, is_held_by, is_some, is_there, len, length}
 use Rattle.xh_serial.proofs.Common.{length-append, length-range_with_len, listed, map, nat_lt, nat_tests, no_line, no_place, numbers, on_way, owner, range_with_len, refl, same_direction}
 use Rattle.xh_serial.proofs.Common.{same_known, same_len, same_process, slice_index_or, sum_add, sum_by, sum_by-append, sum_by-cons, sum_by-le, sum_same, sum_zero, sym, times, times-cons, total}
@@ -80,7 +80,7 @@ module _ (from : Option Holder) (h : Holder) (rs : List ℕ) (m n : Machine) (w 
   same_end : (q : ℕ) → end_of n q ≡ end_of m q
   same_end q = rw (v.ends) refl
 
-  end_now : (r d : ℕ) → end_of n r ≡ Some d → IsEnd n r d
+  end_now : (r d : ℕ) → end_of n r ≡ Some d → IsEndRecord n r d
   end_now r d e = grind (arith, nat_tests, same_end)
 
   pub came_whole : IsWhole n

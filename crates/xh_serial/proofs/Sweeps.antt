@@ -1,5 +1,5 @@
 -- A sweep that finishes frees exactly the reclaimed set, and what the list is after any sweep.
-use Rattle.xh_serial.proofs.Common.{Bool, Direction, Frees, Includes, IsWhole, List, Machine, None, Process, Some, Sweeps, [], ap, append-nil, append_assoc, arith, arriving, blocks, cases_Bool}
+use Rattle.xh_serial.proofs.Common.{Bool, Direction, Frees, Includes, IsWhole, List, Machine, None, Process, Some, SweepsOver, [], ap, append-nil, append_assoc, arith, arriving, blocks, cases_Bool}
 use Rattle.xh_serial.proofs.Common.{cases_eq, cases_lt, cond, count_append, drop, drop-cons, end_of, eq-eqb, false≢true, flat_map, freed, inl, inr, is_some, is_there, le-ltb, length, lt-ltb}
 use Rattle.xh_serial.proofs.Common.{ltb-true, nat_lt, nat_tests, owner, refl, remove, same_process, subst, suc, sum_by-take-drop, sum_by-take-le, sweep, sweep_one, sym, take, times, times-cons}
 use Rattle.xh_serial.proofs.Common.{true, zero, ℕ, ◌++◌, ◌<◌, ◌==◌, ◌∙◌, ◌∷◌, ◌≡◌, ◌≢◌, ◌≤◌}
@@ -131,7 +131,7 @@ times-drop-le : (q k : ℕ) (xs : List ℕ) → times q (drop k xs) ≤ times q 
 times-drop-le q k xs = let e = sum_by-take-drop (λ x. cond {A = ℕ} (x == q) 1 0) xs k in omega arith
 
 module _ (m : Machine) (p from budget : ℕ) (w : IsWhole m) (l : from < length (blocks m p)) (n : Machine)
-    (s : Sweeps p from budget (sweep_one p from m) n) where
+    (s : SweepsOver p from budget (sweep_one p from m) n) where
   abbrev swept : Machine
   swept = sweep_one p from m
 
@@ -189,7 +189,7 @@ module _ (m : Machine) (p from budget : ℕ) (w : IsWhole m) (l : from < length 
       let t = times-cons r head (others ++ (came ++ s.accepted)) in
       grind (arith, nat_tests, ap (times r) work, count_append r (drop from (blocks swept p)) s.accepted, s.once r, not_listed, not_accepted r)
 
-  pub sweeps_one : Sweeps p from (suc budget) m n
+  pub sweeps_one : SweepsOver p from (suc budget) m n
   sweeps_one = record {
     taken = suc s.taken;
     accepted = came ++ s.accepted;
@@ -203,7 +203,7 @@ module _ (m : Machine) (p from budget : ℕ) (w : IsWhole m) (l : from < length 
     left = λ h. ap suc (s.left h);
   }
 
-sweeps_nothing : (p from budget : ℕ) (m : Machine) → IsWhole m → (from < length (blocks m p) → 0 ≡ budget) → Sweeps p from budget m m
+sweeps_nothing : (p from budget : ℕ) (m : Machine) → IsWhole m → (from < length (blocks m p) → 0 ≡ budget) → SweepsOver p from budget m m
 sweeps_nothing p from budget m w h = record {
   taken = 0;
   accepted = [];
@@ -217,7 +217,7 @@ sweeps_nothing p from budget m w h = record {
   left = h;
 }
 
-pub sweep_sweeps : (budget p from : ℕ) (m : Machine) → IsWhole m → Sweeps p from budget m (sweep p from budget m)
+pub sweep_sweeps : (budget p from : ℕ) (m : Machine) → IsWhole m → SweepsOver p from budget m (sweep p from budget m)
 sweep_sweeps zero p from m w = sweeps_nothing p from 0 m w (λ h. refl)
 sweep_sweeps (suc budget) p from m w = elim (cases_lt from (length (blocks m p))) [
   | inl l ↦ rw (lt-ltb from (length (blocks m p)) l)
@@ -226,7 +226,7 @@ sweep_sweeps (suc budget) p from m w = elim (cases_lt from (length (blocks m p))
 ]
 
 -- a budget of as many as there are records is enough
-pub finishes : (p from budget : ℕ) (m n : Machine) → IsWhole m → 2048 < budget → Sweeps p from budget m n → length (blocks n p) ≤ from
+pub finishes : (p from budget : ℕ) (m n : Machine) → IsWhole m → 2048 < budget → SweepsOver p from budget m n → length (blocks n p) ≤ from
 finishes p from budget m n w h s =
     let many : length m.store.owners ≤ 2048 = few_records m w in
     let f : length (drop from (blocks m p) ++ s.accepted) ≤ length m.store.owners = few (length m.store.owners) (drop from (blocks m p) ++ s.accepted) s.once (λ q l.

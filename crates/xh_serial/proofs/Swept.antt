@@ -1,5 +1,5 @@
 -- What sweeping one entry leaves: a whole machine.
-use Rattle.xh_serial.proofs.Common.{place, Bool, Direction, GiveBack, Holder, IsEnd, IsLawful, IsWhole, Line, List, Machine, None, Option, Place, Process, Row, Some, Store, Vacate, []}
+use Rattle.xh_serial.proofs.Common.{place, Bool, Direction, GiveBack, Holder, IsEndRecord, IsLawful, IsWhole, Line, List, Machine, None, Option, Place, Process, Row, Some, Store, Vacate, []}
 use Rattle.xh_serial.proofs.Common.{accept_from, after, all_out, ap, arena_there, arith, arriving, at_set, blocks, buffer, cases_Bool, change, cond, count_append, done}
 use Rattle.xh_serial.proofs.Common.{end_of, eq-eqb, false, false≢true, get_or-le-sum_by, get_or-set_other, holds, inl, inr, is_some, is_there, len, len_back, len_back_else, length, length-append}
 use Rattle.xh_serial.proofs.Common.{length-set, line, listed, lt-ltb, nat_lt, nat_tests, ne_eqb, no_line, on_way, owner, refl, relisted, remove, same_direction, same_known, same_len, same_process}
@@ -231,7 +231,7 @@ lawful_now m p from w l =
     let b : IsLawful (back p from m) = back_lawful m.store p r w.store (rw (held, lt-ltb 0 (len m.store r) (w.full (Process p) r held)) refl) in
     grind (arith, nat_tests, gone_owner, len_now, eq-eqb, other_owner, current_range, lists_current, ne_eqb, same_known)
 
-end_now : (m : Machine) (p from r d : ℕ) → IsWhole m → from < length (blocks m p) → end_of (sweep_one p from m) r ≡ Some d → IsEnd (sweep_one p from m) r d
+end_now : (m : Machine) (p from r d : ℕ) → IsWhole m → from < length (blocks m p) → end_of (sweep_one p from m) r ≡ Some d → IsEndRecord (sweep_one p from m) r d
 unfolding sweep_one
 end_now m p from r d w l e =
     let before : (q : ℕ) → end_of (sweep_one p from m) q ≡ Some d → end_of m q ≡ Some d = λ q f. grind (arith, nat_tests, ends_now m p from q w l) in

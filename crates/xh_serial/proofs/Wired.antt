@@ -1,5 +1,5 @@
 -- The two ends of each channel with a contract stay in step, whichever of them puts, takes or is drained, and the messages that wait have consecutive numbers.
-use Rattle.xh_serial.proofs.Common.{AreNumbered, AreOrderly, AreWired, Bool, HaveEnds, InStep, IsNumbered, IsValid, IsWhole, Line, List, Machine, Message, None, Option, Row, Some, [], allowed, ap}
+use Rattle.xh_serial.proofs.Common.{AreNumbered, HasOrderlyLines, AreWired, Bool, HaveEnds, InStep, IsNumbered, IsValid, IsWhole, Line, List, Machine, Message, None, Option, Row, Some, [], allowed, ap}
 use Rattle.xh_serial.proofs.Common.{arith, at_set, cases_Bool, cases_Option, cases_eq, contract_of, drain_step, drained_state, eq-eqb, front_step, get_or-set_other, get_or-set_same, inl, inr}
 use Rattle.xh_serial.proofs.Common.{length, line, nat_tests, no_line, none-some, peer, put_line, refl, same_Some, shut_in, shut_line, slice_index_or, slice_set, subst, sym, tags_of, taken_line}
 use Rattle.xh_serial.proofs.Common.{true, walk, ℕ, ◌%◌, ◌*◌, ◌++◌, ◌+◌, ◌-◌, ◌/◌, ◌<◌, ◌==◌, ◌∙◌, ◌∷◌, ◌≡◌, ◌≢◌}
@@ -78,7 +78,7 @@ shut_wired contracts lines (Some d) l w =
 
 -- ---- what a reader of the contract wants to know
 
-pub wired_orderly : (m : Machine) → AreWired m.contracts m.lines → AreOrderly m
+pub wired_orderly : (m : Machine) → AreWired m.contracts m.lines → HasOrderlyLines m
 wired_orderly m wired c rows is =
     let low : Line = line m.lines (2 * c) in
     let high : Line = line m.lines (2 * c + 1) in
@@ -93,8 +93,8 @@ wired_orderly m wired c rows is =
       step.1,
     )
 
-pub whole_orderly : (m n : Machine) → IsWhole m → m ≡ n → AreOrderly n
-whole_orderly m n w e = subst AreOrderly e (wired_orderly m w.channels.wired)
+pub whole_orderly : (m n : Machine) → IsWhole m → m ≡ n → HasOrderlyLines n
+whole_orderly m n w e = subst HasOrderlyLines e (wired_orderly m w.channels.wired)
 
 pub whole_numbered : (m n : Machine) → IsWhole m → m ≡ n → (d : ℕ) → IsNumbered (line n.lines d)
 whole_numbered m n w e d = rw (← e) (w.channels.numbered d)

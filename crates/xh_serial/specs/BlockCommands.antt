@@ -9,14 +9,14 @@ use Rattle.xh_core.specs.declared.refused.Refused.TheVariants.{OutOfMemory, NoRe
 use Rattle.xh_core.specs.Calls.{start, alloc_tests, data_tests, split_tests, range_tests}
 use Rattle.xh_core.specs.Refusing.{Tests, first_refusal}
 use Rattle.xh_core.specs.Space.{free_record, lowest, rounded, space_tests}
-use Rattle.xh_serial.specs.Machine.{Machine, buffer, blocks, relisted, status_at}
-use Rattle.xh_serial.specs.Commands.{Answer, answered, found}
+use Rattle.xh_serial.specs.Machine.{Machine, buffer, blocks, relisted, serial_status}
+use Rattle.xh_serial.specs.Commands.{Answer, answered, header_found}
 
 -- ---- alloc
 
 -- what is tested before memory is taken
 abbrev pub alloc_heads : Machine → ℕ → ℕ → ℕ → Tests
-alloc_heads m p n a = start (status_at m p) ++ alloc_tests a (length m.store.arenas) n (length (arena_at m.store a).cover) ++ (is_none (free_record m.store a), NoRecord) ∷ []
+alloc_heads m p n a = start (serial_status m p) ++ alloc_tests a (length m.store.arenas) n (length (arena_at m.store a).cover) ++ (is_none (free_record m.store a), NoRecord) ∷ []
 
 -- The first argument says whether a growth of memory is refused at that place.
 abbrev pub alloc_refusals : Bool → Machine → ℕ → ℕ → ℕ → Tests
@@ -37,7 +37,7 @@ alloc is_refused p n a m = answered (first_refusal (alloc_refusals is_refused m 
 -- ---- split
 
 abbrev pub split_heads : Machine → ℕ → ℕ → ℕ → Tests
-split_heads m p r k = start (status_at m p) ++ split_tests (found m p r) k ++ (is_none (free_record m.store (r / MAX_RECORDS)), NoRecord) ∷ []
+split_heads m p r k = start (serial_status m p) ++ split_tests (header_found m p r) k ++ (is_none (free_record m.store (r / MAX_RECORDS)), NoRecord) ∷ []
 
 abbrev pub split_refusals : Bool → Machine → ℕ → ℕ → ℕ → Tests
 split_refusals is_refused m p r k = split_heads m p r k ++ (is_refused, OutOfMemory) ∷ []
@@ -59,7 +59,7 @@ split is_refused p r k m =
 -- ---- read and write
 
 abbrev pub range_refusals : Machine → ℕ → ℕ → ℕ → ℕ → Tests
-range_refusals m p r at n = start (status_at m p) ++ range_tests (found m p r) at n
+range_refusals m p r at n = start (serial_status m p) ++ range_tests (header_found m p r) at n
 
 unfoldable pub read : ℕ → ℕ → ℕ → ℕ → Machine → Answer (List ℕ)
 read p r at n m = answered (first_refusal (range_refusals m p r at n)) m (Ok (take n (drop at (buffer m r))), m)
@@ -75,7 +75,7 @@ write p r at bytes m = answered (first_refusal (range_refusals m p r at (length 
 -- ---- free
 
 abbrev pub free_refusals : Machine → ℕ → ℕ → Tests
-free_refusals m p r = start (status_at m p) ++ data_tests (found m p r)
+free_refusals m p r = start (serial_status m p) ++ data_tests (header_found m p r)
 
 -- the bytes of a block are given back, its record is vacated, and it leaves the list
 unfoldable pub freed_block : ℕ → ℕ → Machine → Machine

@@ -6,7 +6,7 @@ use Rattle.xh_model.specs.declared.row.Row.{Row}
 use Rattle.xh_model.specs.Store.{after}
 use Rattle.xh_core.specs.declared.block.Block.{Block}
 use Rattle.xh_serial.specs.Lines.{new_line}
-use Rattle.xh_serial.specs.Machine.{Machine, blocks, relisted, status_at}
+use Rattle.xh_serial.specs.Machine.{Machine, blocks, relisted, serial_status}
 use Rattle.xh_serial.specs.Commands.{Answer, answered}
 use Rattle.xh_core.specs.Calls.{start, channel_tests}
 use Rattle.xh_core.specs.Refusing.{Tests, first_refusal}
@@ -17,10 +17,10 @@ abbrev pub channel_heads : Machine → ℕ → Tests
 channel_heads m a = channel_tests a (length m.store.arenas) m.opened
 
 abbrev pub open_refusals : Machine → ℕ → ℕ → Tests
-open_refusals m p a = start (status_at m p) ++ channel_heads m a ++ pair_tests p m.store a
+open_refusals m p a = start (serial_status m p) ++ channel_heads m a ++ pair_tests p m.store a
 
 abbrev pub wire_heads : Machine → ℕ → ℕ → ℕ → Tests
-wire_heads m p q a = start (status_at m p) ++ start (status_at m q) ++ channel_heads m a
+wire_heads m p q a = start (serial_status m p) ++ start (serial_status m q) ++ channel_heads m a
 
 abbrev pub wire_refusals : Machine → ℕ → ℕ → ℕ → Tests
 wire_refusals m p q a = wire_heads m p q a ++ pair_tests p m.store a

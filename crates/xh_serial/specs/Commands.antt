@@ -26,13 +26,13 @@ abbrev pub IsRunning : Machine → ℕ → Type 0
 IsRunning m p = (is_current m p ≡ true) × (is_running (place m.places p).status ≡ true)
 
 -- a record with a direction toward it is an endpoint
-abbrev pub kind_of : Option ℕ → Kind
-kind_of None = Data
-kind_of (Some d) = End
+abbrev pub kind_toward : Option ℕ → Kind
+kind_toward None = Data
+kind_toward (Some d) = End
 
 -- what stands at a record: the length and kind of the block that the process holds there
-abbrev pub found : Machine → ℕ → ℕ → Option Header
-found m p r = cond (holds m.store (Process p) r) (Some (record { len = len m.store r; kind = kind_of (end_of m r) })) None
+abbrev pub header_found : Machine → ℕ → ℕ → Option Header
+header_found m p r = cond (holds m.store (Process p) r) (Some (record { len = len m.store r; kind = kind_toward (end_of m r) })) None
 
 -- the direction toward the endpoint e
 abbrev pub toward : Machine → ℕ → ℕ

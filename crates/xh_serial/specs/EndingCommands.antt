@@ -6,8 +6,8 @@ use Rattle.xh_model.specs.declared.limits.TheConstants.{MAX_BUDGET}
 use Rattle.xh_core.specs.declared.status.Status.TheVariants.{Ending, Ended}
 use Rattle.xh_core.specs.Calls.{start, stop, reclaimed, end_tests}
 use Rattle.xh_core.specs.Refusing.{Tests, first_refusal}
-use Rattle.xh_serial.specs.Machine.{Machine, blocks, relisted, restated, status_at}
-use Rattle.xh_serial.specs.Commands.{Answer, answered, found}
+use Rattle.xh_serial.specs.Machine.{Machine, blocks, relisted, restated, serial_status}
+use Rattle.xh_serial.specs.Commands.{Answer, answered, header_found}
 use Rattle.xh_serial.specs.Sweeping.{sweep}
 
 -- the bytes that were given back from m to n, where nothing of the list is left, else how much is
@@ -22,11 +22,11 @@ stopped p budget m =
 
 -- p ends itself: the bytes that this call reclaimed
 unfoldable pub exit : ℕ → ℕ → Machine → Answer ℕ
-exit p budget m = answered (first_refusal (stop (status_at m p))) m (stop_answer p m (stopped p budget m))
+exit p budget m = answered (first_refusal (stop (serial_status m p))) m (stop_answer p m (stopped p budget m))
 
 -- a running process ends another, or itself
 abbrev pub kill_refusals : Machine → ℕ → ℕ → Tests
-kill_refusals m by victim = start (status_at m by) ++ stop (status_at m victim)
+kill_refusals m by victim = start (serial_status m by) ++ stop (serial_status m victim)
 
 unfoldable pub kill : ℕ → ℕ → ℕ → Machine → Answer ℕ
 kill by victim budget m = answered (first_refusal (kill_refusals m by victim)) m (stop_answer victim m (stopped victim budget m))
@@ -43,7 +43,7 @@ unfoldable pub closed : ℕ → ℕ → Machine → Machine
 closed p e m = sweep p (length (blocks m p) - 1) MAX_BUDGET (moved_last p e m)
 
 abbrev pub close_refusals : Machine → ℕ → ℕ → Tests
-close_refusals m p e = start (status_at m p) ++ end_tests (found m p e)
+close_refusals m p e = start (serial_status m p) ++ end_tests (header_found m p e)
 
 -- an end of a channel is closed: the bytes reclaimed
 unfoldable pub close : ℕ → ℕ → Machine → Answer ℕ

@@ -61,14 +61,14 @@ is_banned None side state tag = false
 is_banned (Some rows) side state tag = is_none (allowed rows state tag side)
 
 -- the state of an end after a message with this tag from this side; without a contract, and where no row allows it, the same
-abbrev pub next_state : Option (List Row) → ℕ → ℕ → ℕ → ℕ
-next_state None side state tag = state
-next_state (Some rows) side state tag = unwrap_or (allowed rows state tag side) state
+abbrev pub state_then : Option (List Row) → ℕ → ℕ → ℕ → ℕ
+state_then None side state tag = state
+state_then (Some rows) side state tag = unwrap_or (allowed rows state tag side) state
 
 -- the same after messages with these tags
 abbrev pub drained_state : Option (List Row) → ℕ → ℕ → List ℕ → ℕ
 drained_state contract side state [] = state
-drained_state contract side state (tag ∷ tags) = drained_state contract side (next_state contract side state tag) tags
+drained_state contract side state (tag ∷ tags) = drained_state contract side (state_then contract side state tag) tags
 
 -- ---- what becomes of a line
 
@@ -78,7 +78,7 @@ new_line contract = record { shut = false; state = first_state contract; put = 0
 
 -- the end that puts a message is in its contract's next state
 abbrev pub told_line : Option (List Row) → ℕ → ℕ → Line → Line
-told_line contract side tag l = record l { state = next_state contract side l.state tag }
+told_line contract side tag l = record l { state = state_then contract side l.state tag }
 
 -- a direction with one more message at its back
 abbrev pub put_line : ℕ → List ℕ → Line → Line
@@ -89,7 +89,7 @@ no_message = record { no = 0; tag = 0; blocks = record { items = [] } }
 
 -- a direction without its front message, whose end is in its contract's next state
 abbrev pub taken_line : Option (List Row) → ℕ → ℕ → Line → Line
-taken_line contract side tag l = record l { state = next_state contract side l.state tag; waiting = record { items = remove l.waiting.items 0 } }
+taken_line contract side tag l = record l { state = state_then contract side l.state tag; waiting = record { items = remove l.waiting.items 0 } }
 
 -- the end that a line leads to is closed, and what waited for it is taken
 abbrev pub shut_line : Option (List Row) → ℕ → Line → Line

@@ -5,7 +5,7 @@ use Rattle.xh_model.specs.declared.event.Holder.{Holder}
 use Rattle.xh_model.specs.declared.event.Holder.TheVariants.{Process, Direction}
 use Rattle.xh_model.specs.declared.row.Row.{Row}
 use Rattle.xh_model.specs.Rows.{IsValid, InStep}
-use Rattle.xh_model.specs.Store.{Store, owner, len, holds, IsLawful, IsQuiet}
+use Rattle.xh_model.specs.Store.{Store, owner, len, holds, IsLawful, HasLengths}
 use Rattle.xh_serial.specs.declared.message.Message.{Message}
 use Rattle.xh_serial.specs.declared.place.Place.{Place}
 use Rattle.xh_serial.specs.declared.line.Line.{Line}
@@ -55,8 +55,8 @@ abbrev pub blocks : Machine → ℕ → List ℕ
 blocks m p = cond (is_current m p) (place m.places p).blocks.items []
 
 -- how far a process has come; Vacant where there is no such process
-abbrev pub status_at : Machine → ℕ → Status
-status_at m p = status_of p (place m.places p).generation (place m.places p).status
+abbrev pub serial_status : Machine → ℕ → Status
+serial_status m p = status_of p (place m.places p).generation (place m.places p).status
 
 -- the place of a process has another list, or another status
 abbrev pub relisted : ℕ → List ℕ → List Place → List Place
@@ -91,7 +91,7 @@ AreWired contracts lines = (d : ℕ) (rows : List Row) → contract_of contracts
     IsValid rows × InStep rows (d % 2) (line lines d).state (tags_of (line lines d).waiting.items) (line lines (peer d)).state (tags_of (line lines (peer d)).waiting.items)
 
 -- an endpoint has a holder, its channel was opened, and no other endpoint is at its direction
-pub record IsEnd (m : Machine) (r d : ℕ) : Type 0 where
+pub record IsEndRecord (m : Machine) (r d : ℕ) : Type 0 where
   pub held : is_some (owner m.store r) ≡ true
   pub opened : d < 2 * m.opened
   pub alone : (q : ℕ) → end_of m q ≡ Some d → q ≡ r
@@ -120,9 +120,9 @@ pub record HaveEnds (ends : List (Option ℕ)) (lines : List Line) (opened : ℕ
 pub record IsWhole (m : Machine) : Type 0 where
   pub store : IsLawful m.store
   pub once : (h : Holder) (r : ℕ) → times r (listed m h) ≡ cond (holds m.store h r) 1 0
-  pub full : IsQuiet m.store
+  pub full : HasLengths m.store
   pub kinds : length m.ends ≡ length m.store.owners
-  pub ends : (r d : ℕ) → end_of m r ≡ Some d → IsEnd m r d
+  pub ends : (r d : ℕ) → end_of m r ≡ Some d → IsEndRecord m r d
   pub buffers : length m.buffers ≡ length m.store.owners
   pub bytes : (r : ℕ) → length (buffer m r) ≡ cond (is_some (end_of m r)) 0 (len m.store r)
   pub places : ArePlaces m.places

@@ -39,14 +39,14 @@ abbrev pub is_ready : Place → Bool
 is_ready place = can_start USUAL_GENERATIONS place.status place.generation
 
 -- the place with its next process
-abbrev pub started : Place → Place
-started place = record place { status = Running; generation = cond (is_vacant place.status) place.generation (place.generation + 1) }
+abbrev pub serial_started : Place → Place
+serial_started place = record place { status = Running; generation = cond (is_vacant place.status) place.generation (place.generation + 1) }
 
 -- a process starts at the place k, if there is one: its number, and the places then
 abbrev pub started_at : Option ℕ → List Place → Option ℕ × List Place
 started_at None places = (None, places)
 started_at (Some k) places =
-    let place : Place = started (slice_index_or places k no_place) in
+    let place : Place = serial_started (slice_index_or places k no_place) in
     (Some (k + PLACES * place.generation), slice_set places k place)
 
 -- a process starts at the lowest place where one can: its number
@@ -61,8 +61,8 @@ spawn m =
 abbrev pub total : Store → List ℕ → ℕ
 total s rs = sum_by (λ r. len s r) rs
 
-abbrev pub glance_of : ℕ → Place → Store → Glance
-glance_of k place s = record {
+abbrev pub serial_glance : ℕ → Place → Store → Glance
+serial_glance k place s = record {
   process = k + PLACES * place.generation;
   state = place.status;
   blocks = length place.blocks.items;
@@ -70,19 +70,19 @@ glance_of k place s = record {
 }
 
 unfoldable pub glance : ℕ → Machine → Result Glance Refused
-glance k m = cond (nat_le PLACES k) (Err NoProcess) (Ok (glance_of k (slice_index_or m.places k no_place) m.store))
+glance k m = cond (nat_le PLACES k) (Err NoProcess) (Ok (serial_glance k (slice_index_or m.places k no_place) m.store))
 
 -- ---- ledger
 
 -- the places from number k on, each that is not vacant
-abbrev pub place_lines : Store → ℕ → List Place → List PlaceLine
-place_lines s k [] = []
-place_lines s k (place ∷ places) = cond (is_vacant place.status) (place_lines s (k + 1) places) (line_of (glance_of k place s) ∷ place_lines s (k + 1) places)
+abbrev pub serial_places : Store → ℕ → List Place → List PlaceLine
+serial_places s k [] = []
+serial_places s k (place ∷ places) = cond (is_vacant place.status) (serial_places s (k + 1) places) (line_of (serial_glance k place s) ∷ serial_places s (k + 1) places)
 
 unfoldable pub ledger_of : Machine → Ledger
 ledger_of m = record {
   arenas = record { items = map arena_line m.store.arenas };
-  places = record { items = place_lines m.store 0 m.places };
+  places = record { items = serial_places m.store 0 m.places };
   owned = sum_by (λ place. total m.store place.blocks.items) m.places;
   flight = sum_by (λ line. total m.store (carried line.waiting.items)) m.lines;
   out = all_out m.store;
@@ -91,15 +91,15 @@ ledger_of m = record {
 -- ---- flight
 
 -- the line of a direction on which these records wait
-abbrev pub flight_line : Store → ℕ → List ℕ → FlightLine
-flight_line s d rs = record { direction = d; blocks = length rs; bytes = total s rs }
+abbrev pub serial_flight : Store → ℕ → List ℕ → FlightLine
+serial_flight s d rs = record { direction = d; blocks = length rs; bytes = total s rs }
 
 -- the directions from number d on, each on which records wait
-abbrev pub flight_lines : Store → ℕ → List Line → List FlightLine
-flight_lines s d [] = []
-flight_lines s d (line ∷ lines) =
+abbrev pub serial_flights : Store → ℕ → List Line → List FlightLine
+serial_flights s d [] = []
+serial_flights s d (line ∷ lines) =
     let rs : List ℕ = carried line.waiting.items in
-    cond (length rs == 0) (flight_lines s (d + 1) lines) (flight_line s d rs ∷ flight_lines s (d + 1) lines)
+    cond (length rs == 0) (serial_flights s (d + 1) lines) (serial_flight s d rs ∷ serial_flights s (d + 1) lines)
 
 unfoldable pub flight_of : Machine → List FlightLine
-flight_of m = flight_lines m.store 0 m.lines
+flight_of m = serial_flights m.store 0 m.lines

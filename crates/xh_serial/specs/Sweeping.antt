@@ -29,7 +29,7 @@ sweep p from (suc budget) m = cond (nat_lt from (length (blocks m p))) (sweep p 
 
 -- From `from` on the list is the old one from there, followed by what was accepted, without its first entries.
 -- What was accepted is what was on its way to those entries; entries are left only where the budget is used up.
-pub record Sweeps (p from budget : ℕ) (m n : Machine) : Type 0 where
+pub record SweepsOver (p from budget : ℕ) (m n : Machine) : Type 0 where
   pub taken : ℕ
   pub accepted : List ℕ
   pub within : taken ≤ budget

@@ -1,7 +1,7 @@
 //! The channels: the two directions of each, and its contract.
 ghost use Rattle.std.specs.Prelude.{◌≡◌, ℕ, ◌+◌, ◌-◌, ◌*◌, ◌/◌, ◌%◌, ◌<◌, ◌≤◌, ◌==◌, [], IfOk, None, Some, false, length, replicate, slice_set, slice_index_or};
 ghost use Rattle.xh_model.specs.declared.limits.TheConstants.{CHANNELS, DIRECTIONS, MAX_BLOCKS, MAX_DEPTH, MAX_MESSAGES};
-ghost use Rattle.xh_serial.specs.Lines.{carried, contract_of, drained_state, first_state, is_banned, is_full, line, new_line, next_state, no_line, no_message, peer, put_line};
+ghost use Rattle.xh_serial.specs.Lines.{carried, contract_of, drained_state, first_state, is_banned, is_full, line, new_line, state_then, no_line, no_message, peer, put_line};
 ghost use Rattle.xh_serial.specs.Lines.{shut_in, tags_of, taken_line, told_line, way_in};
 ghost use Rattle.xh_serial.specs.inner.Channeling.{IsSound};
 ghost use Rattle.std.specs.List.{remove};
@@ -20,7 +20,7 @@ const WAITING: usize = ROOM * MAX_BLOCKS;
 
 /// All channels, opened or not.
 #[derive(Drop)]
-pub(crate) struct Channels {
+pub(crate) struct SerialChannels {
     /// By direction.
     lines: Vec<Line>,
     /// By channel.
@@ -29,7 +29,7 @@ pub(crate) struct Channels {
     opened: u8,
 }
 
-impl Model for Channels {
+impl Model for SerialChannels {
     ghost use Rattle.std.specs.Prelude.{◌≡◌, length};
     ghost use Rattle.xh_model.specs.declared.limits.TheConstants.{CHANNELS, DIRECTIONS};
     ghost use Rattle.xh_serial.specs.inner.Channeling.{ChannelsOf};
@@ -75,7 +75,7 @@ fn new_line(state: u8) -> Line
 
 /// The contract's state of an end after a message with this tag, which `side` put.
 fn state_after(contract: &Option<Contract>, side: u8, state: u8, tag: u16) -> u8
-    ensures { result ≡ next_state contract.now side state tag }
+    ensures { result ≡ state_then contract.now side state tag }
 {
     match contract {
         Some(contract) => contract.allows(state, tag, side).unwrap_or(state),
@@ -146,12 +146,12 @@ fn no_contracts(alloc: Global) -> Result<Vec<Option<Contract>>, AllocError>
     Ok(contracts)
 }
 
-impl Channels {
+impl SerialChannels {
     /// No channel is opened yet.
-    pub(crate) fn none(alloc: Global) -> Result<Channels, AllocError>
+    pub(crate) fn none(alloc: Global) -> Result<SerialChannels, AllocError>
         ensures { IfOk result (λ channels. channels ≡ record { lines = replicate DIRECTIONS no_line; contracts = replicate CHANNELS None; opened = 0 }) }
     {
-        Ok(Channels {
+        Ok(SerialChannels {
             lines: new_lines(alloc)?,
             contracts: no_contracts(alloc)?,
             opened: 0,

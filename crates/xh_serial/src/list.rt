@@ -1,7 +1,7 @@
 //! Lists of records.
 ghost use Rattle.std.specs.Prelude.{◌≡◌, ◌+◌, ◌≤◌, ◌==◌, ◌++◌, length};
 ghost use Rattle.std.specs.List.{position, position_or_len};
-ghost use Rattle.xh_serial.specs.MessageCommands.{without};
+ghost use Rattle.xh_serial.specs.MessageCommands.{without_records};
 
 use arrayvec::ArrayVec;
 
@@ -25,7 +25,7 @@ pub(crate) fn listed<const ROOM: usize>(blocks: &[u16]) -> ArrayVec<u16, ROOM>
 
 /// These leave a list, wherever they stand in it.
 pub(crate) fn drop_all<const ROOM: usize>(list: &mut ArrayVec<u16, ROOM>, blocks: &[u16])
-    ensures { list.new.items ≡ without blocks.now list.old.items }
+    ensures { list.new.items ≡ without_records blocks.now list.old.items }
 {
     list.retain(|r| !blocks.contains(r));
 }

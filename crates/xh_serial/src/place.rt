@@ -1,6 +1,6 @@
 //! A place for processes.
 ghost use Rattle.std.specs.Prelude.{◌≡◌, ◌+◌, ◌*◌, ◌<◌, true};
-ghost use Rattle.xh_serial.specs.PlaceCommands.{is_ready, started};
+ghost use Rattle.xh_serial.specs.PlaceCommands.{is_ready, serial_started};
 ghost use Rattle.xh_model.specs.declared.limits.TheConstants.{PLACES};
 
 use arrayvec::ArrayVec;
@@ -33,7 +33,7 @@ pub(crate) fn is_ready(place: &Place) -> bool
 /// The next process starts. Its generation.
 pub(crate) fn start(place: &mut Place) -> u8
     requires { is_ready place.old ≡ true }
-    ensures place { place.new ≡ started place.old }
+    ensures place { place.new ≡ serial_started place.old }
     ensures generation { result ≡ place.new.generation }
 {
     if place.status != Status::Vacant {

@@ -3,7 +3,7 @@ ghost use Rattle.std.specs.Prelude.{◌≡◌, ◌+◌, ◌%◌, ◌<◌, ◌≤
 ghost use Rattle.std.specs.List.{position, position_or_len, remove};
 ghost use Rattle.xh_serial.specs.EndingCommands.{last};
 ghost use Rattle.xh_serial.specs.Machine.{no_place, place, relisted, restated};
-ghost use Rattle.xh_serial.specs.MessageCommands.{without};
+ghost use Rattle.xh_serial.specs.MessageCommands.{without_records};
 ghost use Rattle.xh_serial.specs.PlaceCommands.{is_ready, started_at};
 ghost use Rattle.xh_core.specs.Statuses.{status_of};
 ghost use Rattle.xh_model.specs.declared.limits.TheConstants.{MAX_HELD, PLACES};
@@ -149,7 +149,7 @@ impl Places {
 
     /// These leave the list, wherever they stand in it.
     pub(crate) fn remove_all(&mut self, p: u16, blocks: &[u16])
-        ensures { self.new ≡ relisted p (without blocks.now (place self.old p).blocks.items) self.old }
+        ensures { self.new ≡ relisted p (without_records blocks.now (place self.old p).blocks.items) self.old }
     {
         drop_all(&mut self.places[usize::from(p % STRIDE)].blocks, blocks);
     }

@@ -15,7 +15,7 @@ mod readers;
 mod sweep;
 
 use crate::blocks::Blocks;
-use crate::channels::Channels;
+use crate::channels::SerialChannels;
 use crate::places::Places;
 use std::alloc::Global;
 use std::marker::Model;
@@ -32,7 +32,7 @@ pub struct Serial {
     plain: Plain,
     blocks: Blocks,
     places: Places,
-    channels: Channels,
+    channels: SerialChannels,
     depth: u8,
 }
 
@@ -63,7 +63,7 @@ impl Serial {
             plain,
             blocks: Blocks::none(alloc, MAX_RECORDS * u16::from(config.arenas))?,
             places: Places::vacant(alloc)?,
-            channels: Channels::none(alloc)?,
+            channels: SerialChannels::none(alloc)?,
             depth: config.depth,
         })
     }

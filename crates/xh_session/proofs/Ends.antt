@@ -1,5 +1,5 @@
 -- Lemmas on how a run ends.
-use Rattle.xh_session.proofs.Common.{Bool, Err, Fault, List, MAX_SCRIPT, Ok, Option, Reads, Report, Result, Some, Watched, Writes, WritesOrFails, after, ap, failures, false}
+use Rattle.xh_session.proofs.Common.{Bool, Err, Fault, List, MAX_SCRIPT, Ok, Option, ReadsBytes, Report, Result, Some, Watched, WritesBytes, WritesOrFails, world_after, ap, failures, false}
 use Rattle.xh_session.proofs.Common.{inner_of, length, new_world, refl, subst, sym, text_of, told_text, true, ℕ, ◌++◌, ◌+◌, ◌∙◌, ◌≡◌, ◌≢◌, ◌≤◌}
 use Rattle.std.specs.Io.KnownBytes.{Consumes}
 use Rattle.std.proofs.Common.{IfErr, None, OnOk, [], append-nil, append_assoc, arith, inl, inr, length-append, ◌⊎◌}
@@ -10,7 +10,7 @@ use Rattle.xh_script.specs.Scripts.{Fails, Listing, script_of}
 use Rattle.xh_script.proofs.Writings.{WritesOrFails-then}
 use Rattle.xh_serial.specs.PlaceCommands.{flight_of}
 use Rattle.xh_session.specs.Ends.{Done, Stopped}
-use Rattle.xh_session.specs.Output.{IsTold, meaning, run_text}
+use Rattle.xh_session.specs.Output.{IsWrittenOut, meaning, run_text}
 use Rattle.xh_session.specs.Reading.{GivesScript, ReadsAtMost, ReadsScript, Unread}
 
 pub consumes_then : (a b c : Option (List ℕ)) (x y : List ℕ) → Consumes a b x → Consumes b c y → Consumes a c (x ++ y)
@@ -20,7 +20,7 @@ consumes_then (Some k) (Some l) None x y p q = absurd q
 consumes_then (Some k) (Some l) (Some m) x y p q = p ∙ ap (λ t. x ++ t) q ∙ sym (append_assoc x y m)
 
 pub reads_then : {R : Type 0} (remaining : R → Option (List ℕ)) (first now next : Watched R) (text bytes more : List ℕ)
-    → Reads remaining first now text → Reads remaining now next bytes → more ≡ text ++ bytes → Reads remaining first next more
+    → ReadsBytes remaining first now text → ReadsBytes remaining now next bytes → more ≡ text ++ bytes → ReadsBytes remaining first next more
 reads_then remaining first now next text bytes more p q e = record {
   taken = subst (λ (t : List ℕ). Consumes (remaining (inner_of first)) (remaining (inner_of next)) t) (sym e) (consumes_then _ _ _ text bytes p.taken q.taken);
   still = q.still ∙ p.still;
@@ -31,7 +31,7 @@ length_both x y a b e h s = simp length-append (omega arith)
 
 -- what is read last is within what may be read
 pub reads_most : {R : Type 0} (remaining : R → Option (List ℕ)) (first now next : Watched R) (text : List ℕ) (room : ℕ)
-    → Reads remaining first now text → ReadsAtMost remaining room now next → length text + room ≤ MAX_SCRIPT + 1 → ReadsAtMost remaining (MAX_SCRIPT + 1) first next
+    → ReadsBytes remaining first now text → ReadsAtMost remaining room now next → length text + room ≤ MAX_SCRIPT + 1 → ReadsAtMost remaining (MAX_SCRIPT + 1) first next
 reads_most remaining first now next text room p q s = (text ++ q.0, consumes_then _ _ _ text q.0 p.taken q.1, length_both text q.0 (length text) room refl q.2 s)
 
 -- what is read as a script is no longer than one
@@ -54,7 +54,7 @@ module _ {R : Type 0} (remaining : R → Option (List ℕ)) where
 
 -- what is written, and then sent on its way
 pub flushed : {W : Type 0} (contents : W → Option (List ℕ)) (a b c : Watched W) (r : Result (Unit {0}) Fault) (x : List ℕ)
-    → Writes contents a b x → WritesOrFails contents b c r [] → WritesOrFails contents a c r x
+    → WritesBytes contents a b x → WritesOrFails contents b c r [] → WritesOrFails contents a c r x
 flushed contents a b c r x p q = subst (λ (bytes : List ℕ). WritesOrFails contents a c r bytes) (append-nil x) (WritesOrFails-then contents a b c r x [] p q)
 
 module _ {R W : Type 0} (remaining : R → Option (List ℕ)) (contents : W → Option (List ℕ)) (IsFor : Listing → List ℕ → Type 0) where
@@ -88,7 +88,7 @@ module _ {R W : Type 0} (remaining : R → Option (List ℕ)) (contents : W → 
 
 -- what a report tells with and without what is in flight
 pub told : (config : Config) (script : Listing) (r : Report) → text_of r ≡ run_text (new_world config script.contracts) script
-    → r.flight.items ≡ flight_of (after (new_world config script.contracts) script.lines).machine → (flight : Bool) → IsTold flight config script (told_text flight r)
+    → r.flight.items ≡ flight_of (world_after (new_world config script.contracts) script.lines).machine → (flight : Bool) → IsWrittenOut flight config script (told_text flight r)
 unfolding meaning
 told config script r text lines false = append-nil (text_of r) ∙ text
 told config script r text lines true = rw (text, lines) refl

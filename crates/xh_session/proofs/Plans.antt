@@ -1,5 +1,5 @@
 -- Lemmas on plans: what one comes to on the serial machine, where memory isn't refused; and on the plans of line after line.
-use Rattle.xh_session.proofs.Common.{Bindings, Bool, Err, List, Machine, Ok, Result, Word, ℕ, after, answers, ap, drop, false, if◌then◌else◌, length, comes_to, refl, step, subst, true, ◌++◌}
+use Rattle.xh_session.proofs.Common.{Bindings, Bool, Err, List, Machine, Ok, Result, Word, ℕ, world_after, answers, ap, drop, false, if◌then◌else◌, length, comes_to, refl, step, subst, true, ◌++◌}
 use Rattle.std.proofs.Common.{[], add-one, append_assoc, drop-cons, get_or, ◌+◌, ◌<◌, ◌∙◌, ◌∷◌, ◌≡◌, ◌≢◌}
 use Rattle.xh_model.specs.declared.row.Row.{Row}
 use Rattle.xh_core.specs.declared.refused.Refused.{Refused}
@@ -9,7 +9,7 @@ use Rattle.xh_script.specs.declared.command.Line.{Line}
 use Rattle.xh_script.specs.declared.form.Form.{Form}
 use Rattle.xh_script.specs.declared.form.Form.TheVariants.{Contract}
 use Rattle.xh_script.specs.Texts.{done}
-use Rattle.xh_script.specs.declared.replies.Answered.{Answered}
+use Rattle.xh_script.specs.declared.replies.NumberedReply.{NumberedReply}
 use Rattle.xh_script.specs.declared.replies.Reply.{Reply}
 use Rattle.xh_script.specs.declared.replies.Reply.TheVariants.{No}
 use Rattle.xh_session.specs.Machines.{DoesCommand, Lacks, command}
@@ -75,12 +75,12 @@ pub stepped : (w : World Machine) (c : Command) (reply : Reply) (new : World Mac
 stepped w c reply new f granted = came _ w reply new (heeds_plan w.names w.contracts c.form c.words.items) f granted
 
 -- one more line is answered
-pub answers_more : (w now : World Machine) (one : Answered) (so_far : List Answered) (lines : List Line) (i : ℕ) (line : Line) (all : List Answered)
+pub answers_more : (w now : World Machine) (one : NumberedReply) (so_far : List NumberedReply) (lines : List Line) (i : ℕ) (line : Line) (all : List NumberedReply)
     → i < length lines → get_or lines i line ≡ line → one ≡ record { line = line.number; reply = (step w line.command).0 } → now ≡ (step w line.command).1
     → so_far ++ answers w (drop i lines) ≡ all → (so_far ++ one ∷ []) ++ answers now (drop (i + 1) lines) ≡ all
 answers_more w now one so_far lines i line all below e one_is now_is h =
-    append_assoc so_far (one ∷ []) _ ∙ ap (λ (t : List Answered). so_far ++ t) (rw (one_is, now_is, drop-cons lines i line below, e, add-one i) refl) ∙ h
+    append_assoc so_far (one ∷ []) _ ∙ ap (λ (t : List NumberedReply). so_far ++ t) (rw (one_is, now_is, drop-cons lines i line below, e, add-one i) refl) ∙ h
 
 pub after_more : (w now : World Machine) (lines : List Line) (i : ℕ) (line : Line) (end : World Machine)
-    → i < length lines → get_or lines i line ≡ line → now ≡ (step w line.command).1 → after w (drop i lines) ≡ end → after now (drop (i + 1) lines) ≡ end
+    → i < length lines → get_or lines i line ≡ line → now ≡ (step w line.command).1 → world_after w (drop i lines) ≡ end → world_after now (drop (i + 1) lines) ≡ end
 after_more w now lines i line end below e now_is h = (rw (now_is, drop-cons lines i line below, e, add-one i) refl) ∙ h

@@ -8,7 +8,7 @@ use Rattle.xh_session.specs.declared.bindings.TheConstants.{NOTHING}
 use Rattle.std.proofs.Math.Seq.{drop-nil}
 use Rattle.xh_core.specs.declared.block.Block.{Block}
 use borrow.Rule.Slice.PartMut.{put_mid, same_len_mid}
-use Rattle.xh_session.specs.BlockNames.{row, start_of, with_row}
+use Rattle.xh_session.specs.BlockNames.{row, names_start, with_row}
 
 bound_each-none : (b : BlockNames) (p : ℕ) (xs : List (Word)) → bound_each b p xs [] ≡ b
 bound_each-none b p [] = refl
@@ -34,22 +34,22 @@ cleared_next r d (x ∷ xs) (suc i) l = ap (λ ys. unless r x ∷ ys) (cleared_n
 
 -- ---- the records of one process stand between those of the others
 
-starts_in_order : (b : BlockNames) (p : ℕ) → start_of b p ≤ start_of b (suc p)
+starts_in_order : (b : BlockNames) (p : ℕ) → names_start b p ≤ names_start b (suc p)
 starts_in_order b p = omega arith
 
 -- the part between where they begin and end, as far as the records go
-pub row_is : (b : BlockNames) (p start end : ℕ) → start ≡ min (start_of b p) (length b.records) → end ≡ min (start_of b (suc p)) (length b.records)
+pub row_is : (b : BlockNames) (p start end : ℕ) → start ≡ min (names_start b p) (length b.records) → end ≡ min (names_start b (suc p)) (length b.records)
     → take (end - start) (drop start b.records) ≡ row b p
 unfolding row
 row_is b p start end from to =
-    let rest : drop start b.records ≡ drop (start_of b p) b.records = ap (λ (k : ℕ). drop k b.records) from ∙ drop_min (start_of b p) b.records in
-    let count : end - start ≡ min (start_of b (suc p) - start_of b p) (length (drop (start_of b p) b.records)) =
-    omega (arith, from, to, starts_in_order b p, length-drop (start_of b p) b.records) in
-    (λ i. take (count i) (rest i)) ∙ take_min (start_of b (suc p) - start_of b p) (drop (start_of b p) b.records)
+    let rest : drop start b.records ≡ drop (names_start b p) b.records = ap (λ (k : ℕ). drop k b.records) from ∙ drop_min (names_start b p) b.records in
+    let count : end - start ≡ min (names_start b (suc p) - names_start b p) (length (drop (names_start b p) b.records)) =
+    omega (arith, from, to, starts_in_order b p, length-drop (names_start b p) b.records) in
+    (λ i. take (count i) (rest i)) ∙ take_min (names_start b (suc p) - names_start b p) (drop (names_start b p) b.records)
 
 -- and what they are once the row was changed there
 pub row_put : (b : BlockNames) (p start end first : ℕ) (v : Vec ℕ) (records put : List ℕ) (change : List ℕ → List ℕ) → first ≡ b.first → v.items ≡ b.records → records ≡ b.records
-    → start ≡ min (start_of b p) (length b.records) → end ≡ min (start_of b (suc p)) (length b.records) → put ≡ change (take (end - start) (drop start records))
+    → start ≡ min (names_start b p) (length b.records) → end ≡ min (names_start b (suc p)) (length b.records) → put ≡ change (take (end - start) (drop start records))
     → ((xs : List ℕ) → length (change xs) ≡ length xs) → record { first = first; records = (with_items v (put_mid start (end - start) records put)).items } ≡ with_row b p (change (row b p))
 unfolding with_row
 row_put b p start end first v records put change same all now from to is keeps =
@@ -61,12 +61,12 @@ row_put b p start end first v records put change same all now from to is keeps =
       ap (λ (xs : List ℕ). length xs) all,
       v.ok.0,
     ) in
-    let front : take start records ≡ take (start_of b p) b.records = ap (λ (xs : List ℕ). take start xs) now ∙ ap (λ (k : ℕ). take k b.records) from ∙ take_min (start_of b p) b.records in
+    let front : take start records ≡ take (names_start b p) b.records = ap (λ (xs : List ℕ). take start xs) now ∙ ap (λ (k : ℕ). take k b.records) from ∙ take_min (names_start b p) b.records in
     let middle : put ≡ change (row b p) = is ∙ ap (λ (xs : List ℕ). change (take (end - start) (drop start xs))) now ∙ ap change (row_is b p start end from to) in
-    let back : drop (end - start) (drop start records) ≡ drop (start_of b (suc p)) b.records =
+    let back : drop (end - start) (drop start records) ≡ drop (names_start b (suc p)) b.records =
     ap (λ (xs : List ℕ). drop (end - start) (drop start xs)) now ∙ drop-drop (end - start) start b.records
-    ∙ ap (λ (k : ℕ). drop k b.records) (omega (arith, from, to, starts_in_order b p)) ∙ drop_min (start_of b (suc p)) b.records in
-    let rows : (with_items v (put_mid start (end - start) records put)).items ≡ take (start_of b p) b.records ++ (change (row b p) ++ drop (start_of b (suc p)) b.records) =
+    ∙ ap (λ (k : ℕ). drop k b.records) (omega (arith, from, to, starts_in_order b p)) ∙ drop_min (names_start b (suc p)) b.records in
+    let rows : (with_items v (put_mid start (end - start) records put)).items ≡ take (names_start b p) b.records ++ (change (row b p) ++ drop (names_start b (suc p)) b.records) =
     with_items_is v (put_mid start (end - start) records put) count ∙ (λ i. front i ++ (middle i ++ back i)) in
     λ i. record { first = same i; records = rows i }
 

@@ -20,8 +20,8 @@ abbrev pub has_place : Processes → ℕ → Bool
 has_place s p = not (number_at s p == NOTHING)
 
 -- a process has a number, and is the latest of its place
-abbrev pub started : Processes → ℕ → ℕ → Processes
-started s p n = record { numbers = slice_set s.numbers p n; latest = slice_set s.latest (n % PLACES) p }
+abbrev pub with_started : Processes → ℕ → ℕ → Processes
+with_started s p n = record { numbers = slice_set s.numbers p n; latest = slice_set s.latest (n % PLACES) p }
 
 -- a process has another number
 abbrev pub renumbered : Processes → ℕ → ℕ → Processes
@@ -32,12 +32,12 @@ abbrev pub process_at : Processes → ℕ → Option ℕ
 process_at s place = option_and_then (λ p. if number_at s p == place then Some p else None) (slice_get s.latest place)
 
 -- the name of a process; one that no line names is called vacant
-unfoldable pub name_at : List (List ℕ) → ℕ → List ℕ
-name_at names p = slice_index_or names p (codes "vacant")
+unfoldable pub name_or_vacant : List (List ℕ) → ℕ → List ℕ
+name_or_vacant names p = slice_index_or names p (codes "vacant")
 
 -- the names of the processes by place; no line tells a place that no process had
 abbrev pub names_by_place : List (List ℕ) → Processes → List (List ℕ)
-names_by_place names s = map (λ p. name_at names p) s.latest
+names_by_place names s = map (λ p. name_or_vacant names p) s.latest
 
 -- no process has a place, and no name is bound
 unfoldable pub no_bindings : Bindings

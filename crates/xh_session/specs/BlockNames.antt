@@ -16,16 +16,16 @@ unfoldable pub nothings : ℕ → List ℕ
 nothings count = replicate count NOTHING
 
 -- where the records of a process's names begin, and those of the one before it end
-abbrev pub start_of : BlockNames → ℕ → ℕ
-start_of b p = MAX_BLOCK_NAMES * (p - b.first)
+abbrev pub names_start : BlockNames → ℕ → ℕ
+names_start b p = MAX_BLOCK_NAMES * (p - b.first)
 
 -- the records of a process's names
 unfoldable pub row : BlockNames → ℕ → List ℕ
-row b p = take (start_of b (suc p) - start_of b p) (drop (start_of b p) b.records)
+row b p = take (names_start b (suc p) - names_start b p) (drop (names_start b p) b.records)
 
 -- a process's names stand for these from now on; those of all others stay
 unfoldable pub with_row : BlockNames → ℕ → List ℕ → BlockNames
-with_row b p records = record b { records = take (start_of b p) b.records ++ (records ++ drop (start_of b (suc p)) b.records) }
+with_row b p records = record b { records = take (names_start b p) b.records ++ (records ++ drop (names_start b (suc p)) b.records) }
 
 -- the names of one process alone
 abbrev pub names_alone : BlockNames → ℕ → BlockNames

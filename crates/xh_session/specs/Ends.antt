@@ -5,7 +5,7 @@ use Rattle.xh_script.specs.declared.fault.Fault.{Fault}
 use Rattle.xh_script.specs.declared.fault.Fault.TheVariants.{Write}
 use Rattle.xh_script.specs.declared.streams.Watched.{Watched}
 use Rattle.xh_script.specs.Scripts.{Listing}
-use Rattle.xh_script.specs.Watching.{Writes, WritesFront}
+use Rattle.xh_script.specs.Watching.{WritesBytes, WritesFront}
 use Rattle.xh_session.specs.Reading.{GivesScript, Unread}
 
 -- the reader gave a script to its end; of what a run writes for it, this was written
@@ -20,7 +20,7 @@ pub record Wrote {R : Type 0} (remaining : R → Option (List ℕ)) (IsFor : Lis
 module _ {R W : Type 0} (remaining : R → Option (List ℕ)) (contents : W → Option (List ℕ)) (IsFor : Listing → List ℕ → Type 0) where
   -- all of it was written, and nothing else
   abbrev pub Done : Watched R → Watched R → Watched W → Watched W → Type 0
-  Done reader reader' writer writer' = Wrote remaining IsFor reader reader' (Writes contents writer writer')
+  Done reader reader' writer writer' = Wrote remaining IsFor reader reader' (WritesBytes contents writer writer')
 
   -- what a fault says: at Write the writer failed after a front of it, and at any other nothing was written
   abbrev pub Stopped : Config → Watched R → Watched R → Watched W → Watched W → Fault → Type 0
@@ -28,6 +28,6 @@ module _ {R W : Type 0} (remaining : R → Option (List ℕ)) (contents : W → 
   Stopped config reader reader' writer writer' fault = Unread remaining config reader reader' fault × (writer' ≡ writer)
 
   -- the status of a program's run: 0 where all was written, else that of the fault
-  abbrev pub EndsWith : (Fault → ℕ) → Config → Watched R → Watched R → Watched W → Watched W → ℕ → Type 0
-  EndsWith status_of config reader reader' writer writer' status = ((status ≡ 0) × Done reader reader' writer writer')
+  abbrev pub EndedWith : (Fault → ℕ) → Config → Watched R → Watched R → Watched W → Watched W → ℕ → Type 0
+  EndedWith status_of config reader reader' writer writer' status = ((status ≡ 0) × Done reader reader' writer writer')
       ⊎ ((fault : Fault) × (status ≡ status_of fault) × Stopped config reader reader' writer writer' fault)

@@ -7,7 +7,7 @@ use Rattle.xh_serial.specs.PlaceCommands.{new_machine}
 use Rattle.xh_script.specs.declared.command.Command.{Command}
 use Rattle.xh_script.specs.declared.command.Line.{Line}
 use Rattle.xh_script.specs.declared.replies.Reply.{Reply}
-use Rattle.xh_script.specs.declared.replies.Answered.{Answered}
+use Rattle.xh_script.specs.declared.replies.NumberedReply.{NumberedReply}
 use Rattle.xh_session.specs.Bindings.{no_bindings}
 use Rattle.xh_session.specs.Machines.{command}
 use Rattle.xh_session.specs.Plans.{Plan, says, asks, World, plan}
@@ -25,11 +25,11 @@ abbrev pub step : World Machine → Command → Reply × World Machine
 step w c = comes_to (plan w.names w.contracts c) w
 
 -- the reply to each line's command, in order
-abbrev pub answers : World Machine → List Line → List Answered
+abbrev pub answers : World Machine → List Line → List NumberedReply
 answers w [] = []
 answers w (l ∷ lines) = record { line = l.number; reply = (step w l.command).0 } ∷ answers (step w l.command).1 lines
 
 -- the world after them
-abbrev pub after : World Machine → List Line → World Machine
-after w [] = w
-after w (l ∷ lines) = after (step w l.command).1 lines
+abbrev pub world_after : World Machine → List Line → World Machine
+world_after w [] = w
+world_after w (l ∷ lines) = world_after (step w l.command).1 lines

@@ -6,7 +6,7 @@ use Rattle.xh_serial.specs.PlaceCommands.{flight_of, ledger_of}
 use Rattle.xh_script.specs.Scripts.{Listing}
 use Rattle.xh_script.specs.Texts.{answer_texts, flight_texts, ledger_text}
 use Rattle.xh_session.specs.Bindings.{names_by_place}
-use Rattle.xh_session.specs.Meaning.{new_world, answers, after}
+use Rattle.xh_session.specs.Meaning.{new_world, answers, world_after}
 use Rattle.xh_session.specs.Plans.{World}
 use Rattle.xh_session.specs.declared.report.Report.{Report}
 
@@ -24,7 +24,7 @@ world_text processes w = ledger_text (ledger_of w.machine) (names_by_place proce
 
 -- what is written for a script's commands, done from a world on: the replies, and then the ledger
 abbrev pub run_text : World Machine → Listing → List ℕ
-run_text w script = answer_texts (answers w script.lines) ++ world_text script.processes (after w script.lines)
+run_text w script = answer_texts (answers w script.lines) ++ world_text script.processes (world_after w script.lines)
 
 -- what is written for a script
 unfoldable pub meaning : Config → Listing → List ℕ
@@ -34,6 +34,6 @@ abbrev pub IsMeaning : Config → Listing → List ℕ → Type 0
 IsMeaning config script bytes = bytes ≡ meaning config script
 
 -- the same, and after it, where it is asked for, what is in flight when the script's commands are done
-abbrev pub IsTold : Bool → Config → Listing → List ℕ → Type 0
-IsTold false config script bytes = IsMeaning config script bytes
-IsTold true config script bytes = bytes ≡ meaning config script ++ flight_texts (flight_of (after (new_world config script.contracts) script.lines).machine)
+abbrev pub IsWrittenOut : Bool → Config → Listing → List ℕ → Type 0
+IsWrittenOut false config script bytes = IsMeaning config script bytes
+IsWrittenOut true config script bytes = bytes ≡ meaning config script ++ flight_texts (flight_of (world_after (new_world config script.contracts) script.lines).machine)

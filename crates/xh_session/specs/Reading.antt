@@ -1,5 +1,5 @@
 -- Reading a script.
-use Rattle.std.specs.Prelude.{◌≡◌, ◌≢◌, ◌≤◌, ℕ, List, length, Option, Ok, Err, ⊤}
+use Rattle.std.specs.Prelude.{◌≡◌, ◌≢◌, ◌≤◌, ◌++◌, ℕ, List, length, Option, Ok, Err, ⊤}
 use Rattle.std.specs.Io.KnownBytes.{Consumes, IsAtEnd}
 use Rattle.xh_model.specs.declared.config.Config.{Config}
 use Rattle.xh_script.specs.Config.{IsScriptConfig}
@@ -8,20 +8,24 @@ use Rattle.xh_script.specs.declared.fault.Fault.TheVariants.{Script, Memory, Rea
 use Rattle.xh_script.specs.declared.limits.TheConstants.{MAX_SCRIPT}
 use Rattle.xh_script.specs.declared.streams.Watched.{Watched}
 use Rattle.xh_script.specs.Scripts.{Listing, script_of}
-use Rattle.xh_script.specs.Watching.{failures, inner_of, Reads}
+use Rattle.xh_script.specs.Watching.{failures, inner_of, ReadsBytes}
 
 module _ {R : Type 0} (remaining : R → Option (List ℕ)) where
   -- the reader gave no more bytes than this
   abbrev pub ReadsAtMost : ℕ → Watched R → Watched R → Type 0
   ReadsAtMost most old new = (bytes : List ℕ) × Consumes (remaining (inner_of old)) (remaining (inner_of new)) bytes × (length bytes ≤ most)
 
+  -- the reader gave so many bytes, and they were added to the text
+  abbrev pub ReadsMore : Watched R → Watched R → List ℕ → List ℕ → ℕ → Type 0
+  ReadsMore old new text text' n = (bytes : List ℕ) × (length bytes ≡ n) × ReadsBytes remaining old new bytes × (text' ≡ text ++ bytes)
+
   -- the reader gave these bytes, and has no more, or gave more than a script may have
   abbrev pub ReadsScript : Watched R → Watched R → List ℕ → Type 0
-  ReadsScript old new text = Reads remaining old new text × (length text ≤ MAX_SCRIPT → IsAtEnd (remaining (inner_of new)))
+  ReadsScript old new text = ReadsBytes remaining old new text × (length text ≤ MAX_SCRIPT → IsAtEnd (remaining (inner_of new)))
 
   -- the reader gave these bytes, and has no more; and they are this script
   pub record GivesScript (old new : Watched R) (text : List ℕ) (script : Listing) : Type 0 where
-    pub reads : Reads remaining old new text
+    pub reads : ReadsBytes remaining old new text
     pub ends : IsAtEnd (remaining (inner_of new))
     pub says : script_of text ≡ Ok script
 

@@ -1,8 +1,8 @@
 //! What the names of a script stand for.
 ghost use Rattle.std.specs.Prelude.{◌≡◌, ◌+◌, ◌*◌, ◌%◌, ◌≤◌, ◌==◌, if◌then◌else◌, suc, length, min, codes, IfOk, slice_index_or, slice_set};
-ghost use Rattle.xh_serial.specs.MessageCommands.{without};
-ghost use Rattle.xh_session.specs.Bindings.{no_bindings, no_processes, names_of, number_at, has_place, started, renumbered, process_at, name_at, names_by_place};
-ghost use Rattle.xh_session.specs.BlockNames.{nothings, start_of, names_alone, record_at, records_of, bound, bound_block, bound_each, cleared, unbound, unbound_each, unbound_all};
+ghost use Rattle.xh_serial.specs.MessageCommands.{without_records};
+ghost use Rattle.xh_session.specs.Bindings.{no_bindings, no_processes, names_of, number_at, has_place, with_started, renumbered, process_at, name_or_vacant, names_by_place};
+ghost use Rattle.xh_session.specs.BlockNames.{nothings, names_start, names_alone, record_at, records_of, bound, bound_block, bound_each, cleared, unbound, unbound_each, unbound_all};
 ghost use Rattle.xh_model.specs.declared.limits.TheConstants.{PLACES};
 ghost use Rattle.xh_script.specs.declared.limits.TheConstants.{MAX_WORDS, MAX_BLOCK_NAMES};
 ghost use Rattle.xh_session.specs.declared.bindings.TheConstants.{NOTHING};
@@ -93,7 +93,7 @@ fn clear(entries: &mut [u16], rec: u16)
 /// Those of the records that are not among others.
 pub(crate) fn without(others: &[u16], records: &[u16]) -> ArrayVec<u16, MAX_WORDS>
     requires { length records.now ≤ MAX_WORDS }
-    ensures { result.items ≡ without others.now records.now }
+    ensures { result.items ≡ without_records others.now records.now }
 {
     let mut found = ArrayVec::new();
     for rec in records {
@@ -114,9 +114,9 @@ fn vacant() -> Name
     }
 }
 
-#[tactic(auto, unfolding(crate::specs::Bindings::name_at))]
+#[tactic(auto, unfolding(crate::specs::Bindings::name_or_vacant))]
 fn name_at(processes: &[Name], process: u8) -> Name
-    ensures { result ≡ name_at processes.now process }
+    ensures { result ≡ name_or_vacant processes.now process }
 {
     match processes.get(usize::from(process)) {
         Some(name) => name.copy(),
@@ -167,7 +167,7 @@ impl Processes {
 
     /// The process has this number, and is the latest of its place.
     pub fn start(&mut self, process: u8, number: u16)
-        ensures { self.new ≡ started self.old process number }
+        ensures { self.new ≡ with_started self.old process number }
     {
         self.renumber(process, number);
         self.latest[usize::from(number % u16::from(PLACES))] = process;
@@ -212,8 +212,8 @@ impl Bindings {
 impl BlockNames {
     // Where the records of the process's names stand: from here on, up to here.
     fn row(&self, process: u8) -> (usize, usize)
-        ensures start { result.0 ≡ min (start_of self.now process) (length self.now.records) }
-        ensures end { result.1 ≡ min (start_of self.now (suc process)) (length self.now.records) }
+        ensures start { result.0 ≡ min (names_start self.now process) (length self.now.records) }
+        ensures end { result.1 ≡ min (names_start self.now (suc process)) (length self.now.records) }
     {
         let first = usize::from(self.first);
         let before = usize::from(process).saturating_sub(first);

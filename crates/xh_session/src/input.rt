@@ -1,11 +1,11 @@
 //! The bytes of a script, read once from the front.
-ghost use Rattle.std.specs.Prelude.{◌≡◌, ◌≢◌, ◌<◌, ◌≤◌, ◌+◌, ◌⊎◌, ℕ, List, ◌++◌, length, IfOk, IfErr, OnOk, Err};
+ghost use Rattle.std.specs.Prelude.{◌≡◌, ◌≢◌, ◌<◌, ◌≤◌, ◌+◌, ◌⊎◌, length, IfOk, IfErr, OnOk, Err};
 ghost use Rattle.std.specs.Io.KnownBytes.{IsAtEnd};
 ghost use Rattle.xh_script.specs.Config.{IsScriptConfig};
 ghost use Rattle.xh_script.specs.declared.limits.TheConstants.{MAX_SCRIPT};
 ghost use Rattle.xh_script.specs.Scripts.{listing_of};
-ghost use Rattle.xh_script.specs.Watching.{failures, inner_of, Reads};
-ghost use Rattle.xh_session.specs.Reading.{GivesScript, ReadsAtMost, ReadsScript, Unread};
+ghost use Rattle.xh_script.specs.Watching.{failures, inner_of};
+ghost use Rattle.xh_session.specs.Reading.{GivesScript, ReadsAtMost, ReadsMore, ReadsScript, Unread};
 
 use std::alloc::Global;
 use std::io::Read;
@@ -27,8 +27,8 @@ fn read_some<R: Read>(
     room: &mut [u8],
 ) -> Result<usize, Fault>
     requires { 0 < length room.old }
-    ensures ok { IfOk result (λ n. (n ≤ length room.old) × ((bytes : List ℕ) × (length bytes ≡ n)
-        × Reads R.remaining reader.old reader.new bytes × (text.new.items ≡ text.old.items ++ bytes))) }
+    ensures room { IfOk result (λ n. n ≤ length room.old) }
+    ensures ok { IfOk result (ReadsMore R.remaining reader.old reader.new text.old.items text.new.items) }
     ensures end { IfOk result (λ n. n ≡ 0 → IsAtEnd (R.remaining (inner_of reader.new))) }
     ensures err { IfErr result (λ e. (e ≡ Fault.Memory) ⊎ ((e ≡ Fault.Read) × (failures reader.new ≢ failures reader.old))) }
     ensures limit { ReadsAtMost R.remaining (length room.old) reader.old reader.new }

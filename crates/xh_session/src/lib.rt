@@ -13,6 +13,6 @@ pub use bindings::{Bindings, Processes};
 pub use input::{Input, read_input};
 pub use machine::{Machine, Received, Told};
 pub use report::{Report, write_report};
-pub use serial::{Run, run_serial, run_serial_as};
+pub use serial::{RunOptions, run_serial, run_serial_as};
 pub use session::Session;
 pub use stage::Stage;

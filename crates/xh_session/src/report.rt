@@ -7,14 +7,14 @@ ghost use Rattle.xh_session.specs.Output.{told_text};
 use arrayvec::ArrayVec;
 use std::io::Write;
 use xh_core::{FLIGHT_LINES, FlightLine, Ledger};
-use xh_script::{Answered, Fault, Name, Watched, write_answers, write_flight, write_ledger};
+use xh_script::{Fault, Name, NumberedReply, Watched, write_answers, write_flight, write_ledger};
 
 /// What a run answered: the replies in the order of the script, the ledger and what is in flight at its
 /// end, and the name of the latest process of each of the 32 places; one that nobody has had is called
 /// vacant, and the ledger has no line of it.
 #[derive(Drop)]
 pub struct Report {
-    pub answers: Vec<Answered>,
+    pub answers: Vec<NumberedReply>,
     pub ledger: Ledger,
     pub flight: ArrayVec<FlightLine, FLIGHT_LINES>,
     pub names: Vec<Name>,

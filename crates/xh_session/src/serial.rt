@@ -6,7 +6,7 @@ ghost use Rattle.xh_script.specs.Config.{IsScriptConfig};
 ghost use Rattle.xh_script.specs.declared.limits.TheConstants.{MAX_SCRIPT};
 ghost use Rattle.xh_script.specs.Scripts.{listing_of};
 ghost use Rattle.xh_session.specs.Ends.{Done, Stopped};
-ghost use Rattle.xh_session.specs.Output.{IsMeaning, IsTold, told_text};
+ghost use Rattle.xh_session.specs.Output.{IsMeaning, IsWrittenOut, told_text};
 ghost use Rattle.xh_session.specs.Reading.{ReadsAtMost};
 
 use crate::input::read_input;
@@ -21,7 +21,7 @@ use xh_script::{Fault, Script, Watched};
 #[tactic(auto, using(crate::proofs::Ends::told))]
 fn report_of(alloc: Global, config: Config, script: &Script) -> Result<Report, Fault>
     requires { IsScriptConfig config }
-    ensures told { IfOk result (λ r. (flight : Bool) → IsTold flight config (listing_of script.now) (told_text flight r)) }
+    ensures told { IfOk result (λ r. (flight : Bool) → IsWrittenOut flight config (listing_of script.now) (told_text flight r)) }
     ensures places { IfOk result (λ r. (length r.names.items ≡ PLACES) × All (λ line. line.place < PLACES) r.ledger.places.items) }
     ensures memory { IfErr result (λ e. e ≡ Fault.Memory) }
 {
@@ -34,7 +34,7 @@ fn report_of(alloc: Global, config: Config, script: &Script) -> Result<Report, F
 /// What a run goes by: the limits of its machine, and whether what is in flight at its end is written
 /// after the ledger.
 #[derive(Clone, Copy)]
-pub struct Run {
+pub struct RunOptions {
     pub config: Config,
     pub flight: bool,
 }
@@ -45,10 +45,10 @@ pub fn run_serial_as<R: Read, W: Write>(
     alloc: Global,
     reader: &mut Watched<R>,
     writer: &mut Watched<W>,
-    run: Run,
+    run: RunOptions,
 ) -> Result<(), Fault>
-    ensures ok { OnOk result (Done R.remaining W.contents (IsTold run.flight run.config) reader.old reader.new writer.old writer.new) }
-    ensures err { IfErr result (Stopped R.remaining W.contents (IsTold run.flight run.config) run.config reader.old reader.new writer.old writer.new) }
+    ensures ok { OnOk result (Done R.remaining W.contents (IsWrittenOut run.flight run.config) reader.old reader.new writer.old writer.new) }
+    ensures err { IfErr result (Stopped R.remaining W.contents (IsWrittenOut run.flight run.config) run.config reader.old reader.new writer.old writer.new) }
     ensures config { ¬ IsScriptConfig run.config → result ≡ Err Fault.BadConfig }
     ensures limit { ReadsAtMost R.remaining (MAX_SCRIPT + 1) reader.old reader.new }
 {
@@ -71,7 +71,7 @@ pub fn run_serial<R: Read, W: Write>(
     ensures config { ¬ IsScriptConfig config → result ≡ Err Fault.BadConfig }
     ensures limit { ReadsAtMost R.remaining (MAX_SCRIPT + 1) reader.old reader.new }
 {
-    let run = Run {
+    let run = RunOptions {
         config,
         flight: false,
     };

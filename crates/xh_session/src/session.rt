@@ -4,7 +4,7 @@
 ghost use Rattle.std.specs.Prelude.{◌≡◌, ◌%◌, ◌≤◌, length, map, option_map};
 ghost use Rattle.xh_model.specs.declared.limits.TheConstants.{MAX_BLOCKS, PLACES};
 ghost use Rattle.xh_script.specs.declared.limits.TheConstants.{MAX_HEX, MAX_WORDS};
-ghost use Rattle.xh_session.specs.Plans.{FollowsPlan, contract_at, give_plan, handed_back, is_alive, plan, plan_by, shown, take_plan, world_of};
+ghost use Rattle.xh_session.specs.Plans.{DoesForm, FollowsPlan, contract_at, give_plan, handed_back, is_alive, reply_of, look_shown, take_plan, world_of};
 
 use crate::bindings::{Bindings, BlockNames, without};
 use crate::machine::Machine;
@@ -35,7 +35,7 @@ fn is_alive(look: &Result<Glance, Refused>) -> bool
 
 /// What a place shows of a process; Ended where it shows a later one.
 fn shown(number: u16, look: Result<Glance, Refused>) -> Result<Glance, Refused>
-    ensures { result ≡ shown number look }
+    ensures { result ≡ look_shown number look }
 {
     match look {
         Ok(look) if look.process != number => Err(Refused::Ended),
@@ -89,127 +89,113 @@ fn keep_back(blocks: &mut BlockNames, process: u8, records: &[u16], refused: &Re
     blocks.unbind_each(process, without(back.as_slice(), records).as_slice());
 }
 
+/// A refusal is a reply too.
+fn reply_of(answer: Result<Reply, Refused>) -> Reply
+    ensures { result ≡ reply_of answer }
+{
+    match answer {
+        Ok(reply) => reply,
+        Err(refused) => Reply::No(refused),
+    }
+}
+
 impl<'a, M: Machine> Session<'a, M> {
     /// Does a command: asks the machine what its plan asks, and replies what that says of the answer.
     pub fn step(&mut self, alloc: Global, c: &Command) -> Reply
-        ensures { FollowsPlan M.did (plan self.old.names self.old.contracts.now c.now) (world_of M.state self.old) result (world_of M.state self.new) }
+        ensures { DoesForm M.did c.now.form c.now.words.items (world_of M.state self.old) result (world_of M.state self.new) }
     {
         match c.form {
             Form::Contract => Reply::done(&[]),
-            Form::Process => self.process(c),
-            Form::Wire => self.wire(c),
-            Form::Open => self.open(c),
-            Form::Alloc => self.alloc(alloc, c),
-            Form::Split => self.split(alloc, c),
-            Form::Read => self.read(c),
-            Form::Write => self.write(c),
+            Form::Process => reply_of(self.process(c)),
+            Form::Wire => reply_of(self.wire(c)),
+            Form::Open => reply_of(self.open(c)),
+            Form::Alloc => reply_of(self.alloc(alloc, c)),
+            Form::Split => reply_of(self.split(alloc, c)),
+            Form::Read => reply_of(self.read(c)),
+            Form::Write => reply_of(self.write(c)),
             Form::Give => self.give(c.name(0), c.name(1), c.number(2), c.from(3)),
-            Form::Take => self.take(false, c),
-            Form::Await => self.take(true, c),
-            Form::Free => self.free(c),
-            Form::Close => self.close(c),
-            Form::Exit => self.exit(c),
-            Form::Kill => self.kill(c),
-            Form::Glance => self.glance(c),
-            Form::Again => self.again(c),
+            Form::Take => reply_of(self.take(false, c)),
+            Form::Await => reply_of(self.take(true, c)),
+            Form::Free => reply_of(self.free(c)),
+            Form::Close => reply_of(self.close(c)),
+            Form::Exit => reply_of(self.exit(c)),
+            Form::Kill => reply_of(self.kill(c)),
+            Form::Glance => reply_of(self.glance(c)),
+            Form::Again => reply_of(self.again(c)),
         }
     }
 
-    fn process(&mut self, c: &Command) -> Reply
-        ensures { FollowsPlan M.did (plan_by self.old.names self.old.contracts.now Form.Process c.now.words.items) (world_of M.state self.old) result (world_of M.state self.new) }
+    fn process(&mut self, c: &Command) -> Result<Reply, Refused>
+        ensures { DoesForm M.did Form.Process c.now.words.items (world_of M.state self.old) (reply_of result) (world_of M.state self.new) }
     {
         if self.names.processes.has_place(c.name(0)) {
-            return Reply::No(Refused::Twice);
+            return Err(Refused::Twice);
         }
-        match self.machine.spawn() {
-            Ok(number) => {
-                self.names.processes.start(c.name(0), number);
-                Reply::Started(number)
-            }
-            Err(refused) => Reply::No(refused),
-        }
+        let number = self.machine.spawn()?;
+        self.names.processes.start(c.name(0), number);
+        Ok(Reply::Started(number))
     }
 
-    fn wire(&mut self, c: &Command) -> Reply
-        ensures { FollowsPlan M.did (plan_by self.old.names self.old.contracts.now Form.Wire c.now.words.items) (world_of M.state self.old) result (world_of M.state self.new) }
+    fn wire(&mut self, c: &Command) -> Result<Reply, Refused>
+        ensures { DoesForm M.did Form.Wire c.now.words.items (world_of M.state self.old) (reply_of result) (world_of M.state self.new) }
     {
         let number = self.names.processes.number(c.name(0));
         let other = self.names.processes.number(c.name(2));
         let contract = contract_at(self.contracts, c.contract(5));
-        match self.machine.wire(number, other, c.number(4), contract) {
-            Ok((first, second)) => {
-                self.names.blocks.bind(c.name(0), c.name(1), first.rec);
-                self.names.blocks.bind(c.name(2), c.name(3), second.rec);
-                Reply::done(&[])
-            }
-            Err(refused) => Reply::No(refused),
-        }
+        let (first, second) = self.machine.wire(number, other, c.number(4), contract)?;
+        self.names.blocks.bind(c.name(0), c.name(1), first.rec);
+        self.names.blocks.bind(c.name(2), c.name(3), second.rec);
+        Ok(Reply::done(&[]))
     }
 
-    fn open(&mut self, c: &Command) -> Reply
-        ensures { FollowsPlan M.did (plan_by self.old.names self.old.contracts.now Form.Open c.now.words.items) (world_of M.state self.old) result (world_of M.state self.new) }
+    fn open(&mut self, c: &Command) -> Result<Reply, Refused>
+        ensures { DoesForm M.did Form.Open c.now.words.items (world_of M.state self.old) (reply_of result) (world_of M.state self.new) }
     {
         let number = self.names.processes.number(c.name(0));
         let contract = contract_at(self.contracts, c.contract(4));
-        match self.machine.open(number, c.number(3), contract) {
-            Ok((first, second)) => {
-                self.names.blocks.bind(c.name(0), c.name(1), first.rec);
-                self.names.blocks.bind(c.name(0), c.name(2), second.rec);
-                Reply::done(&[])
-            }
-            Err(refused) => Reply::No(refused),
-        }
+        let (first, second) = self.machine.open(number, c.number(3), contract)?;
+        self.names.blocks.bind(c.name(0), c.name(1), first.rec);
+        self.names.blocks.bind(c.name(0), c.name(2), second.rec);
+        Ok(Reply::done(&[]))
     }
 
-    fn alloc(&mut self, alloc: Global, c: &Command) -> Reply
-        ensures { FollowsPlan M.did (plan_by self.old.names self.old.contracts.now Form.Alloc c.now.words.items) (world_of M.state self.old) result (world_of M.state self.new) }
+    fn alloc(&mut self, alloc: Global, c: &Command) -> Result<Reply, Refused>
+        ensures { DoesForm M.did Form.Alloc c.now.words.items (world_of M.state self.old) (reply_of result) (world_of M.state self.new) }
     {
         let number = self.names.processes.number(c.name(0));
-        match self.machine.alloc(alloc, number, c.number(2), c.number(3)) {
-            Ok(made) => {
-                self.names.blocks.bind(c.name(0), c.name(1), made.rec);
-                Reply::done(&[u64::from(made.len)])
-            }
-            Err(refused) => Reply::No(refused),
-        }
+        let made = self.machine.alloc(alloc, number, c.number(2), c.number(3))?;
+        self.names.blocks.bind(c.name(0), c.name(1), made.rec);
+        Ok(Reply::done(&[u64::from(made.len)]))
     }
 
-    fn split(&mut self, alloc: Global, c: &Command) -> Reply
-        ensures { FollowsPlan M.did (plan_by self.old.names self.old.contracts.now Form.Split c.now.words.items) (world_of M.state self.old) result (world_of M.state self.new) }
+    fn split(&mut self, alloc: Global, c: &Command) -> Result<Reply, Refused>
+        ensures { DoesForm M.did Form.Split c.now.words.items (world_of M.state self.old) (reply_of result) (world_of M.state self.new) }
     {
         let number = self.names.processes.number(c.name(0));
         let rec = self.names.blocks.record_of(c.name(0), c.name(1));
-        match self.machine.split(alloc, number, rec, c.number(2)) {
-            Ok((head, rest)) => {
-                self.names.blocks.bind(c.name(0), c.name(3), rest.rec);
-                Reply::done(&[u64::from(head.len), u64::from(rest.len)])
-            }
-            Err(refused) => Reply::No(refused),
-        }
+        let (head, rest) = self.machine.split(alloc, number, rec, c.number(2))?;
+        self.names.blocks.bind(c.name(0), c.name(3), rest.rec);
+        Ok(Reply::done(&[u64::from(head.len), u64::from(rest.len)]))
     }
 
-    fn read(&mut self, c: &Command) -> Reply
-        ensures { FollowsPlan M.did (plan_by self.old.names self.old.contracts.now Form.Read c.now.words.items) (world_of M.state self.old) result (world_of M.state self.new) }
+    fn read(&mut self, c: &Command) -> Result<Reply, Refused>
+        ensures { DoesForm M.did Form.Read c.now.words.items (world_of M.state self.old) (reply_of result) (world_of M.state self.new) }
     {
         let number = self.names.processes.number(c.name(0));
         let rec = self.names.blocks.record_of(c.name(0), c.name(1));
         let mut bytes = [0u8; MAX_HEX];
         let room = &mut bytes[..c.number(3).min(MAX_LEN) as usize];
-        match self.machine.read(number, rec, c.number(2), room) {
-            Ok(()) => Reply::Bytes(array_of(room)),
-            Err(refused) => Reply::No(refused),
-        }
+        self.machine.read(number, rec, c.number(2), room)?;
+        Ok(Reply::Bytes(array_of(room)))
     }
 
-    fn write(&mut self, c: &Command) -> Reply
-        ensures { FollowsPlan M.did (plan_by self.old.names self.old.contracts.now Form.Write c.now.words.items) (world_of M.state self.old) result (world_of M.state self.new) }
+    fn write(&mut self, c: &Command) -> Result<Reply, Refused>
+        ensures { DoesForm M.did Form.Write c.now.words.items (world_of M.state self.old) (reply_of result) (world_of M.state self.new) }
     {
         let number = self.names.processes.number(c.name(0));
         let rec = self.names.blocks.record_of(c.name(0), c.name(1));
-        match self.machine.write(number, rec, c.number(2), c.bytes(3)) {
-            Ok(()) => Reply::done(&[]),
-            Err(refused) => Reply::No(refused),
-        }
+        self.machine.write(number, rec, c.number(2), c.bytes(3))?;
+        Ok(Reply::done(&[]))
     }
 
     fn give(&mut self, process: u8, endpoint: u8, tag: u32, words: &[Word]) -> Reply
@@ -238,108 +224,86 @@ impl<'a, M: Machine> Session<'a, M> {
     }
 
     /// Takes a message, and waits for one where others can send it.
-    fn take(&mut self, waits: bool, c: &Command) -> Reply
-        ensures { FollowsPlan M.did (take_plan waits self.old.names c.now.words.items) (world_of M.state self.old) result (world_of M.state self.new) }
+    fn take(&mut self, waits: bool, c: &Command) -> Result<Reply, Refused>
+        ensures { FollowsPlan M.did (take_plan waits self.old.names c.now.words.items) (world_of M.state self.old) (reply_of result) (world_of M.state self.new) }
     {
         let number = self.names.processes.number(c.name(0));
         let rec = self.names.blocks.record_of(c.name(0), c.name(1));
-        match self.machine.take(number, rec, waits) {
-            Ok(message) => {
-                let blocks = message.blocks.as_slice();
-                self.names.blocks.bind_each(c.name(0), c.from(2), blocks);
-                Reply::Taken {
-                    number: message.number,
-                    tag: message.tag,
-                    blocks: lengths_of(blocks),
-                }
-            }
-            Err(refused) => Reply::No(refused),
-        }
+        let message = self.machine.take(number, rec, waits)?;
+        let blocks = message.blocks.as_slice();
+        self.names.blocks.bind_each(c.name(0), c.from(2), blocks);
+        Ok(Reply::Taken {
+            number: message.number,
+            tag: message.tag,
+            blocks: lengths_of(blocks),
+        })
     }
 
-    fn free(&mut self, c: &Command) -> Reply
-        ensures { FollowsPlan M.did (plan_by self.old.names self.old.contracts.now Form.Free c.now.words.items) (world_of M.state self.old) result (world_of M.state self.new) }
+    fn free(&mut self, c: &Command) -> Result<Reply, Refused>
+        ensures { DoesForm M.did Form.Free c.now.words.items (world_of M.state self.old) (reply_of result) (world_of M.state self.new) }
     {
         let number = self.names.processes.number(c.name(0));
         let rec = self.names.blocks.record_of(c.name(0), c.name(1));
-        match self.machine.free(number, rec) {
-            Ok(len) => {
-                self.names.blocks.unbind(c.name(0), rec);
-                Reply::done(&[u64::from(len)])
-            }
-            Err(refused) => Reply::No(refused),
-        }
+        let len = self.machine.free(number, rec)?;
+        self.names.blocks.unbind(c.name(0), rec);
+        Ok(Reply::done(&[u64::from(len)]))
     }
 
-    fn close(&mut self, c: &Command) -> Reply
-        ensures { FollowsPlan M.did (plan_by self.old.names self.old.contracts.now Form.Close c.now.words.items) (world_of M.state self.old) result (world_of M.state self.new) }
+    fn close(&mut self, c: &Command) -> Result<Reply, Refused>
+        ensures { DoesForm M.did Form.Close c.now.words.items (world_of M.state self.old) (reply_of result) (world_of M.state self.new) }
     {
         let number = self.names.processes.number(c.name(0));
         let rec = self.names.blocks.record_of(c.name(0), c.name(1));
-        match self.machine.close(number, rec) {
-            Ok(bytes) => {
-                self.names.blocks.unbind(c.name(0), rec);
-                Reply::done(&[bytes])
-            }
-            Err(refused) => Reply::No(refused),
-        }
+        let bytes = self.machine.close(number, rec)?;
+        self.names.blocks.unbind(c.name(0), rec);
+        Ok(Reply::done(&[bytes]))
     }
 
-    fn exit(&mut self, c: &Command) -> Reply
-        ensures { FollowsPlan M.did (plan_by self.old.names self.old.contracts.now Form.Exit c.now.words.items) (world_of M.state self.old) result (world_of M.state self.new) }
+    fn exit(&mut self, c: &Command) -> Result<Reply, Refused>
+        ensures { DoesForm M.did Form.Exit c.now.words.items (world_of M.state self.old) (reply_of result) (world_of M.state self.new) }
     {
         let number = self.names.processes.number(c.name(0));
         let budget = c.number_or(1, u32::from(MAX_BUDGET));
-        match self.machine.exit(number, budget) {
-            Ok(bytes) => Reply::done(&[bytes]),
-            Err(refused) => Reply::No(refused),
-        }
+        let bytes = self.machine.exit(number, budget)?;
+        Ok(Reply::done(&[bytes]))
     }
 
-    fn kill(&mut self, c: &Command) -> Reply
-        ensures { FollowsPlan M.did (plan_by self.old.names self.old.contracts.now Form.Kill c.now.words.items) (world_of M.state self.old) result (world_of M.state self.new) }
+    fn kill(&mut self, c: &Command) -> Result<Reply, Refused>
+        ensures { DoesForm M.did Form.Kill c.now.words.items (world_of M.state self.old) (reply_of result) (world_of M.state self.new) }
     {
         let by = self.names.processes.number(c.name(0));
         let victim = self.names.processes.number(c.name(1));
         let budget = c.number_or(2, u32::from(MAX_BUDGET));
-        match self.machine.kill(by, victim, budget) {
-            Ok(bytes) => Reply::done(&[bytes]),
-            Err(refused) => Reply::No(refused),
-        }
+        let bytes = self.machine.kill(by, victim, budget)?;
+        Ok(Reply::done(&[bytes]))
     }
 
-    fn glance(&mut self, c: &Command) -> Reply
-        ensures { FollowsPlan M.did (plan_by self.old.names self.old.contracts.now Form.Glance c.now.words.items) (world_of M.state self.old) result (world_of M.state self.new) }
+    fn glance(&mut self, c: &Command) -> Result<Reply, Refused>
+        ensures { DoesForm M.did Form.Glance c.now.words.items (world_of M.state self.old) (reply_of result) (world_of M.state self.new) }
     {
         if !self.names.processes.has_place(c.name(0))
             || !self.names.processes.has_place(c.name(1))
         {
-            return Reply::No(Refused::NoProcess);
+            return Err(Refused::NoProcess);
         }
         let number = self.names.processes.number(c.name(1));
-        match shown(number, self.machine.glance(place_of(number))) {
-            Ok(look) => Reply::done(&[u64::from(look.blocks), look.bytes]),
-            Err(refused) => Reply::No(refused),
-        }
+        let look = shown(number, self.machine.glance(place_of(number)))?;
+        Ok(Reply::done(&[u64::from(look.blocks), look.bytes]))
     }
 
-    fn again(&mut self, c: &Command) -> Reply
-        ensures { FollowsPlan M.did (plan_by self.old.names self.old.contracts.now Form.Again c.now.words.items) (world_of M.state self.old) result (world_of M.state self.new) }
+    fn again(&mut self, c: &Command) -> Result<Reply, Refused>
+        ensures { DoesForm M.did Form.Again c.now.words.items (world_of M.state self.old) (reply_of result) (world_of M.state self.new) }
     {
         if !self.names.processes.has_place(c.name(0)) {
-            return Reply::No(Refused::NoProcess);
+            return Err(Refused::NoProcess);
         }
         let number = self.names.processes.number(c.name(0));
         if is_alive(&shown(number, self.machine.glance(place_of(number)))) {
-            return Reply::No(Refused::Twice);
+            return Err(Refused::Twice);
         }
-        match self.machine.spawn() {
-            Ok(number) => {
-                self.names.processes.start(c.name(0), number);
-                self.names.blocks.unbind_all(c.name(0));
-                Reply::Started(number)
-            }
-            Err(refused) => Reply::No(refused),
-        }
+        let number = self.machine.spawn()?;
+        self.names.processes.start(c.name(0), number);
+        self.names.blocks.unbind_all(c.name(0));
+        Ok(Reply::Started(number))
     }
 }

@@ -5,7 +5,7 @@ ghost use Rattle.xh_model.specs.Config.{IsConfig};
 ghost use Rattle.xh_model.specs.declared.limits.TheConstants.{PLACES};
 ghost use Rattle.xh_serial.specs.PlaceCommands.{flight_of, new_machine};
 ghost use Rattle.xh_script.specs.Scripts.{listing_of};
-ghost use Rattle.xh_session.specs.Meaning.{new_world, step, answers, after};
+ghost use Rattle.xh_session.specs.Meaning.{new_world, step, answers, world_after};
 ghost use Rattle.xh_session.specs.Output.{run_text, text_of};
 
 use crate::bindings::Bindings;
@@ -14,7 +14,7 @@ use crate::session::Session;
 use std::alloc::{AllocError, Global};
 use std::marker::Model;
 use xh_core::{Config, Contract, Refused};
-use xh_script::{Answered, Fault, Line, Reply, Script};
+use xh_script::{Fault, Line, NumberedReply, Reply, Script};
 use xh_serial::Serial;
 
 /// A serial machine, what the names of a script stand for, and the script's contracts: what the
@@ -61,7 +61,7 @@ impl<'a> Stage<'a> {
 
     /// Does the command of one more line.
     #[tactic(auto, using(crate::proofs::Plans::stepped))]
-    pub fn step(&mut self, alloc: Global, line: &Line) -> Result<Answered, AllocError>
+    pub fn step(&mut self, alloc: Global, line: &Line) -> Result<NumberedReply, AllocError>
         ensures reply { IfOk result (λ answered. answered ≡ record { line = line.now.number; reply = (step self.old line.now.command).0 }) }
         ensures after { OnOk result (self.new ≡ (step self.old line.now.command).1) }
     {
@@ -69,7 +69,7 @@ impl<'a> Stage<'a> {
         if let Reply::No(Refused::OutOfMemory) = reply {
             return Err(AllocError);
         }
-        Ok(Answered {
+        Ok(NumberedReply {
             line: line.number,
             reply,
         })
@@ -77,9 +77,9 @@ impl<'a> Stage<'a> {
 
     // Does the commands of lines in order. Want of memory ends the run.
     #[tactic(auto, using(crate::proofs::Plans::answers_more, crate::proofs::Plans::after_more))]
-    fn run(&mut self, alloc: Global, lines: &[Line]) -> Result<Vec<Answered>, AllocError>
+    fn run(&mut self, alloc: Global, lines: &[Line]) -> Result<Vec<NumberedReply>, AllocError>
         ensures answers { IfOk result (λ replies. replies.items ≡ answers self.old lines.now) }
-        ensures after { OnOk result (self.new ≡ after self.old lines.now) }
+        ensures after { OnOk result (self.new ≡ world_after self.old lines.now) }
     {
         let mut replies = Vec::with_capacity(alloc, lines.len())?;
         for line in lines {
@@ -92,7 +92,7 @@ impl<'a> Stage<'a> {
     /// Does a script's commands, and tells what they leave.
     pub(crate) fn report(&mut self, alloc: Global, script: &Script) -> Result<Report, AllocError>
         ensures text { IfOk result (λ r. text_of r ≡ run_text self.old (listing_of script.now)) }
-        ensures flight { IfOk result (λ r. r.flight.items ≡ flight_of (after self.old script.now.lines.items).machine) }
+        ensures flight { IfOk result (λ r. r.flight.items ≡ flight_of (world_after self.old script.now.lines.items).machine) }
         ensures places { IfOk result (λ r. (length r.names.items ≡ PLACES) × All (λ line. line.place < PLACES) r.ledger.places.items) }
     {
         let answers = self.run(alloc, &script.lines)?;

@@ -38,15 +38,15 @@ pub(crate) const MESSAGES: u16 = 16_384;
 
 /// Words that all workers read and write, 0 at first.
 #[derive(Drop)]
-pub(crate) struct Board(Vec<AtomicU64>);
+pub(crate) struct Slate(Vec<AtomicU64>);
 
-impl Board {
-    pub(crate) fn new(alloc: Global) -> Result<Board, AllocError> {
+impl Slate {
+    pub(crate) fn new(alloc: Global) -> Result<Slate, AllocError> {
         let mut words = Vec::with_capacity(alloc, 32_768)?;
         for _ in 0..32_768 {
             words.push(AtomicU64::new(0))?;
         }
-        Ok(Board(words))
+        Ok(Slate(words))
     }
 
     pub(crate) fn get(&self, kind: u16, at: u16) -> u64 {

@@ -6,12 +6,12 @@ use xh_core::{Block, Refused};
 use xh_kernel::{Account, Kernel, Names, OpenGate, Taken};
 
 /// What was answered; or the name of a refusal, or what was wrong.
-pub(crate) type Told<T> = Result<T, &'static str>;
+pub(crate) type SoakTold<T> = Result<T, &'static str>;
 
 /// A call that answers a number: of a process, of a message, of bytes, or the eight bytes that stand there now. But for a
 /// spawn its process stands first. A read, a write and a write in place are of eight bytes; a give is at once, or until a time.
 #[derive(Clone, Copy)]
-pub(crate) enum Call<'a> {
+pub(crate) enum SoakCall<'a> {
     Spawn,
     Read(u16, u16, u32),
     Write(u16, u16, u32, u64),
@@ -28,17 +28,17 @@ pub(crate) enum Call<'a> {
 /// A worker, by its calls, which answer what the kernel does. A take is at one endpoint, or at any of these, at once or until a
 /// time, and so is an alloc, or without end; a put is of so many bytes, all the same.
 pub(crate) trait Caller: Drop {
-    fn call(&mut self, call: Call) -> Told<u64>;
+    fn call(&mut self, call: SoakCall) -> SoakTold<u64>;
 
-    fn wire(&mut self, p: u16, q: u16, arena: u32) -> Told<(Block, Block)>;
+    fn wire(&mut self, p: u16, q: u16, arena: u32) -> SoakTold<(Block, Block)>;
 
-    fn alloc(&mut self, p: u16, bytes: u32, arena: u32, by: Option<Instant>) -> Told<Block>;
+    fn alloc(&mut self, p: u16, bytes: u32, arena: u32, by: Option<Instant>) -> SoakTold<Block>;
 
-    fn alloc_wait(&mut self, p: u16, bytes: u32, arena: u32) -> Told<Block>;
+    fn alloc_wait(&mut self, p: u16, bytes: u32, arena: u32) -> SoakTold<Block>;
 
-    fn put(&mut self, p: u16, bytes: u32, arena: u32, byte: u8) -> Told<Block>;
+    fn put(&mut self, p: u16, bytes: u32, arena: u32, byte: u8) -> SoakTold<Block>;
 
-    fn take(&mut self, p: u16, e: u16, any: Option<&[u16]>, by: Option<Instant>) -> Told<Taken>;
+    fn take(&mut self, p: u16, e: u16, any: Option<&[u16]>, by: Option<Instant>) -> SoakTold<Taken>;
 }
 
 /// A worker of a kernel, with the account that is lent to it.
@@ -50,25 +50,25 @@ pub(crate) struct Hired<'a, N: Names, R>(
     pub(crate) &'a mut Account<N>,
 );
 
-fn told<T>(answer: Result<T, Refused>) -> Told<T> {
+fn told<T>(answer: Result<T, Refused>) -> SoakTold<T> {
     answer.map_err(|refused| refused.name())
 }
 
 impl<'a, N: Names, R: Wait + Clock> Caller for Hired<'a, N, R> {
-    fn call(&mut self, call: Call) -> Told<u64> {
+    fn call(&mut self, call: SoakCall) -> SoakTold<u64> {
         let (rt, kernel, to, gate) = (self.0, self.2, &mut *self.3, &OpenGate);
         told(match call {
-            Call::Spawn => kernel.spawn(rt, to, gate).map(u64::from),
-            Call::Read(p, r, at) => {
+            SoakCall::Spawn => kernel.spawn(rt, to, gate).map(u64::from),
+            SoakCall::Read(p, r, at) => {
                 let mut word = [0u8; 8];
                 let read = kernel.read(rt, p, r, at, &mut word, to, gate);
                 read.map(|()| u64::from_le_bytes(word))
             }
-            Call::Write(p, r, at, word) => {
+            SoakCall::Write(p, r, at, word) => {
                 let written = kernel.write(rt, p, r, at, &word.to_le_bytes(), to, gate);
                 written.map(|()| word)
             }
-            Call::InPlace(p, r, word) => {
+            SoakCall::InPlace(p, r, word) => {
                 let mut write = |bytes: &mut [u8]| {
                     if let Some(first) = bytes.get_mut(..8) {
                         first.copy_from_slice(&word.to_le_bytes());
@@ -77,27 +77,27 @@ impl<'a, N: Names, R: Wait + Clock> Caller for Hired<'a, N, R> {
                 };
                 kernel.with_bytes_mut(rt, p, r, &mut write, to, gate)
             }
-            Call::Free(p, r) => kernel.free(rt, p, r, to, gate).map(u64::from),
-            Call::IntoBytes(p, r) => {
+            SoakCall::Free(p, r) => kernel.free(rt, p, r, to, gate).map(u64::from),
+            SoakCall::IntoBytes(p, r) => {
                 let bytes = kernel.into_bytes(rt, p, r, to, gate);
                 bytes.map(|bytes| bytes.len() as u64)
             }
-            Call::Give(p, e, tag, load, None) => kernel.give(rt, p, e, tag, load, to, gate),
-            Call::Give(p, e, tag, load, Some(until)) => {
+            SoakCall::Give(p, e, tag, load, None) => kernel.give(rt, p, e, tag, load, to, gate),
+            SoakCall::Give(p, e, tag, load, Some(until)) => {
                 kernel.give_wait_until(rt, p, e, tag, load, until, to, gate)
             }
-            Call::GiveWait(p, e, tag, load) => kernel.give_wait(rt, p, e, tag, load, to, gate),
-            Call::Close(p, e) => kernel.close(rt, p, e, to, gate),
-            Call::Exit(p, budget) => kernel.exit(rt, p, budget, to, gate),
-            Call::Kill(p, q, budget) => kernel.kill(rt, p, q, budget, to, gate),
+            SoakCall::GiveWait(p, e, tag, load) => kernel.give_wait(rt, p, e, tag, load, to, gate),
+            SoakCall::Close(p, e) => kernel.close(rt, p, e, to, gate),
+            SoakCall::Exit(p, budget) => kernel.exit(rt, p, budget, to, gate),
+            SoakCall::Kill(p, q, budget) => kernel.kill(rt, p, q, budget, to, gate),
         })
     }
 
-    fn wire(&mut self, p: u16, q: u16, arena: u32) -> Told<(Block, Block)> {
+    fn wire(&mut self, p: u16, q: u16, arena: u32) -> SoakTold<(Block, Block)> {
         told(self.2.wire(self.0, p, q, arena, self.3, &OpenGate))
     }
 
-    fn alloc(&mut self, p: u16, bytes: u32, arena: u32, by: Option<Instant>) -> Told<Block> {
+    fn alloc(&mut self, p: u16, bytes: u32, arena: u32, by: Option<Instant>) -> SoakTold<Block> {
         let (rt, alloc, kernel, to, gate) = (self.0, self.1, self.2, &mut *self.3, &OpenGate);
         told(match by {
             None => kernel.alloc(rt, alloc, p, bytes, arena, to, gate),
@@ -105,12 +105,12 @@ impl<'a, N: Names, R: Wait + Clock> Caller for Hired<'a, N, R> {
         })
     }
 
-    fn alloc_wait(&mut self, p: u16, bytes: u32, arena: u32) -> Told<Block> {
+    fn alloc_wait(&mut self, p: u16, bytes: u32, arena: u32) -> SoakTold<Block> {
         let (rt, alloc, kernel, to, gate) = (self.0, self.1, self.2, &mut *self.3, &OpenGate);
         told(kernel.alloc_wait(rt, alloc, p, bytes, arena, to, gate))
     }
 
-    fn put(&mut self, p: u16, bytes: u32, arena: u32, byte: u8) -> Told<Block> {
+    fn put(&mut self, p: u16, bytes: u32, arena: u32, byte: u8) -> SoakTold<Block> {
         let mut buffer = Vec::new(self.1);
         if buffer.resize(bytes as usize, byte).is_err() {
             return Err("OutOfMemory");
@@ -118,7 +118,13 @@ impl<'a, N: Names, R: Wait + Clock> Caller for Hired<'a, N, R> {
         told(self.2.put(self.0, p, &mut buffer, arena, self.3, &OpenGate))
     }
 
-    fn take(&mut self, p: u16, e: u16, any: Option<&[u16]>, by: Option<Instant>) -> Told<Taken> {
+    fn take(
+        &mut self,
+        p: u16,
+        e: u16,
+        any: Option<&[u16]>,
+        by: Option<Instant>,
+    ) -> SoakTold<Taken> {
         let (rt, kernel, to, gate) = (self.0, self.2, &mut *self.3, &OpenGate);
         let told_any = match (any, by) {
             (None, None) => return told(kernel.take(rt, p, e, to, gate)),

@@ -15,7 +15,7 @@ mod plan;
 mod round;
 mod worker;
 
-use crate::plan::Plan;
+use crate::plan::RoundPlan;
 use crate::round::play_round;
 use std::env;
 use std::process::ExitCode;
@@ -32,7 +32,7 @@ fn main(rt: HostRuntime) -> ExitCode {
     let (is_scarce, mut taken) = (words.next().is_some(), 0u64);
     for round in 0..rounds {
         let seed = first.wrapping_add(round);
-        let what = match play_round(&rt, rt.alloc(), Plan::new(seed, is_scarce)) {
+        let what = match play_round(&rt, rt.alloc(), RoundPlan::new(seed, is_scarce)) {
             Ok(Ok(more)) => {
                 taken = taken.saturating_add(more);
                 continue;

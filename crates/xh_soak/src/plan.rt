@@ -27,7 +27,7 @@ impl Chance {
 /// channel leads; how many commands each worker does; whether all processes end at the end; whether channels come back, and
 /// numbers of processes go as far as they can; and whether a growth of memory may be refused.
 #[derive(Clone, Copy, Debug)]
-pub(crate) struct Plan {
+pub(crate) struct RoundPlan {
     pub(crate) seed: u64,
     pub(crate) config: Config,
     pub(crate) workers: u8,
@@ -47,9 +47,9 @@ const LARGEST: Config = Config {
     wear: MAX_WEAR,
 };
 
-impl Plan {
+impl RoundPlan {
     /// The plan of a seed. One round of four has the largest heap; in one of two channels come back.
-    pub(crate) fn new(seed: u64, scarce: bool) -> Plan {
+    pub(crate) fn new(seed: u64, scarce: bool) -> RoundPlan {
         let mut chance = Chance(seed.wrapping_mul(1024).wrapping_add(1023));
         let _first = chance.below(1);
         let wear = if chance.one_in(4) { 65_536 } else { MAX_WEAR };
@@ -62,7 +62,7 @@ impl Plan {
         };
         let config = if chance.one_in(4) { LARGEST } else { small };
         let workers = chance.below(15) + 2;
-        Plan {
+        RoundPlan {
             seed,
             config,
             workers: workers as u8,

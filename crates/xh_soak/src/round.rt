@@ -3,10 +3,10 @@ ghost use Rattle.std.specs.Prelude.{◌≡◌};
 ghost use Rattle.xh_kernel.specs.Histories.{IsLaw};
 
 use crate::audit::judge;
-use crate::board::Board;
-use crate::caller::{Hired, Told};
-use crate::plan::Plan;
-use crate::worker::Worker;
+use crate::board::Slate;
+use crate::caller::{Hired, SoakTold};
+use crate::plan::RoundPlan;
+use crate::worker::SoakWorker;
 use std::alloc::Global;
 use std::marker::Brand;
 use std::sync::{Mutex, Wait};
@@ -20,11 +20,11 @@ use xh_kernel::{Account, Kernel, Names, Parts};
 fn work_all<N: Names + Send + Sync, R: Threads + Wait + Clock + Sync>(
     rt: &R,
     alloc: Global,
-    plan: Plan,
-    board: &Board,
+    plan: RoundPlan,
+    board: &Slate,
     kernel: &Kernel<N>,
     accounts: &mut [Account<N>],
-) -> Told<u64> {
+) -> SoakTold<u64> {
     let (threads, all) = (accounts.len().max(1), Mutex::new(Ok(0u64)));
     thread::for_each_mut(
         rt,
@@ -32,7 +32,7 @@ fn work_all<N: Names + Send + Sync, R: Threads + Wait + Clock + Sync>(
         threads,
         &|at, account| {
             let caller = Hired(rt, alloc, kernel, account);
-            let taken = Worker::new(rt, board, caller, plan, (at % 16) as u16).work();
+            let taken = SoakWorker::new(rt, board, caller, plan, (at % 16) as u16).work();
             let mut all = all.lock(rt);
             *all = all.and_then(|sum| taken.map(|more| sum.saturating_add(more)));
         },
@@ -40,7 +40,7 @@ fn work_all<N: Names + Send + Sync, R: Threads + Wait + Clock + Sync>(
     let taken = all.into_inner()?;
     if let Some(account) = accounts.first_mut() {
         let caller = Hired(rt, alloc, kernel, account);
-        Worker::new(rt, board, caller, plan, 0).count_all()?;
+        SoakWorker::new(rt, board, caller, plan, 0).count_all()?;
     }
     Ok(taken)
 }
@@ -49,10 +49,10 @@ fn work_all<N: Names + Send + Sync, R: Threads + Wait + Clock + Sync>(
 fn play_named<N: Names + Send + Sync, R: Threads + Wait + Clock + Sync>(
     rt: &R,
     alloc: Global,
-    plan: Plan,
-    board: &Board,
+    plan: RoundPlan,
+    board: &Slate,
     parts: Parts,
-) -> Result<(Told<u64>, Books), Refused>
+) -> Result<(SoakTold<u64>, Books), Refused>
     requires names { parts ≡ N.parts }
     requires law { IsLaw N.parts N.leads }
 {
@@ -65,9 +65,9 @@ fn play_named<N: Names + Send + Sync, R: Threads + Wait + Clock + Sync>(
 pub(crate) fn play_round<R: Threads + Wait + Clock + Sync>(
     rt: &R,
     alloc: Global,
-    plan: Plan,
-) -> Result<Told<u64>, Refused> {
-    let board = Board::new(alloc)?;
+    plan: RoundPlan,
+) -> Result<SoakTold<u64>, Refused> {
+    let board = Slate::new(alloc)?;
     let mut parts = Parts::new(alloc, plan.config, plan.workers)?;
     if plan.renewed {
         parts = parts.with_all_numbers().with_channels_that_come_back(alloc);

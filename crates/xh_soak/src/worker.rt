@@ -1,9 +1,9 @@
 //! A worker: random commands of any process on any record.
 use crate::board::{
-    AIMED_AT, BLOCKS, Board, ENDS, HINTS, IS_THERE, MESSAGES, OWN, PROCESSES, STARTED, WAITS,
+    AIMED_AT, BLOCKS, ENDS, HINTS, IS_THERE, MESSAGES, OWN, PROCESSES, STARTED, Slate, WAITS,
 };
-use crate::caller::{Call, Caller, Told};
-use crate::plan::{Chance, Plan};
+use crate::caller::{Caller, SoakCall, SoakTold};
+use crate::plan::{Chance, RoundPlan};
 use arrayvec::ArrayVec;
 use std::sync::Wait;
 use std::time::{Clock, Duration, Instant};
@@ -16,7 +16,7 @@ fn joined(sum: u64, r: &u16) -> u64 {
 }
 
 // Records of the process that were seen, so many at most, and not this one. What is to go is taken from the board.
-fn gather(board: &Board, kind: u16, p: u16, not: u16, most: u32, goes: bool) -> ArrayVec<u16, 8> {
+fn gather(board: &Slate, kind: u16, p: u16, not: u16, most: u32, goes: bool) -> ArrayVec<u16, 8> {
     let mut found = ArrayVec::<u16, 8>::new();
     for slot in 0..HINTS {
         let (q, r) = board.seen(kind, slot).unwrap_or((p, not));
@@ -31,22 +31,28 @@ fn gather(board: &Board, kind: u16, p: u16, not: u16, most: u32, goes: bool) -> 
 /// A worker; whether each process that the command names has started, and the tag of what it gives; and how many messages it
 /// took, or the first wrong answer.
 #[derive(Drop)]
-pub(crate) struct Worker<'a, C, R> {
+pub(crate) struct SoakWorker<'a, C, R> {
     pub(crate) rt: &'a R,
-    pub(crate) board: &'a Board,
+    pub(crate) board: &'a Slate,
     pub(crate) caller: C,
-    pub(crate) plan: Plan,
+    pub(crate) plan: RoundPlan,
     pub(crate) number: u16,
     pub(crate) chance: Chance,
     pub(crate) is_known: bool,
     pub(crate) tag: u16,
-    pub(crate) taken: Told<u64>,
+    pub(crate) taken: SoakTold<u64>,
 }
 
-impl<'a, C: Caller, R: Wait + Clock> Worker<'a, C, R> {
-    pub(crate) fn new(rt: &'a R, board: &'a Board, caller: C, plan: Plan, number: u16) -> Self {
+impl<'a, C: Caller, R: Wait + Clock> SoakWorker<'a, C, R> {
+    pub(crate) fn new(
+        rt: &'a R,
+        board: &'a Slate,
+        caller: C,
+        plan: RoundPlan,
+        number: u16,
+    ) -> Self {
         let seed = plan.seed.wrapping_mul(1024);
-        Worker {
+        SoakWorker {
             rt,
             board,
             caller,
@@ -60,7 +66,7 @@ impl<'a, C: Caller, R: Wait + Clock> Worker<'a, C, R> {
     }
 
     /// Does its commands, as long as nothing is wrong. At last the first worker ends the waits without end.
-    pub(crate) fn work(mut self) -> Told<u64> {
+    pub(crate) fn work(mut self) -> SoakTold<u64> {
         if self.number == 0 {
             self.board.set(IS_THERE, 0, 1);
         }
@@ -89,7 +95,7 @@ impl<'a, C: Caller, R: Wait + Clock> Worker<'a, C, R> {
             self.is_known = true;
             let p = self.named(p);
             board.set(AIMED_AT, p, 1);
-            let _bytes = self.ask(p, Call::Exit(p, 4096), &[]);
+            let _bytes = self.ask(p, SoakCall::Exit(p, 4096), &[]);
         }
     }
 
@@ -108,7 +114,7 @@ impl<'a, C: Caller, R: Wait + Clock> Worker<'a, C, R> {
         let runs = |(p, _)| board.get(AIMED_AT, p) == 0;
         if self.number < u16::from(self.plan.processes)
             && !board.seen(OWN, self.number).is_some_and(runs)
-            && let Some(p) = self.ask(0, Call::Spawn, &["NoPlace"])
+            && let Some(p) = self.ask(0, SoakCall::Spawn, &["NoPlace"])
         {
             let p = (p % 65_536) as u16;
             board.set(STARTED, p, 1);
@@ -138,13 +144,13 @@ impl<'a, C: Caller, R: Wait + Clock> Worker<'a, C, R> {
     }
 
     // Does a call of the process.
-    fn ask(&mut self, p: u16, call: Call, may: &[&'static str]) -> Option<u64> {
+    fn ask(&mut self, p: u16, call: SoakCall, may: &[&'static str]) -> Option<u64> {
         let told = self.caller.call(call);
         self.judge(p, told, may)
     }
 
     // What a call of the process answered. A refusal has to be one of these, or that the process doesn't run.
-    fn judge<T: Drop>(&mut self, p: u16, told: Told<T>, may: &[&'static str]) -> Option<T> {
+    fn judge<T: Drop>(&mut self, p: u16, told: SoakTold<T>, may: &[&'static str]) -> Option<T> {
         if let Err(why) = &told {
             let is_so = match *why {
                 "Ended" => self.board.get(AIMED_AT, p) != 0,
@@ -216,7 +222,7 @@ impl<'a, C: Caller, R: Wait + Clock> Worker<'a, C, R> {
     // Tells the others where a block or an end is, if it is there still.
     fn meet(&mut self, p: u16, r: u16) {
         let slot = self.chance.below(u32::from(HINTS)) as u16;
-        match self.caller.call(Call::Read(p, r, 0)) {
+        match self.caller.call(SoakCall::Read(p, r, 0)) {
             Err("NotData") => self.board.see(ENDS, slot, p, r),
             told => {
                 if let Some(word) = self.judge(p, told, &["NotOwned"]) {
@@ -261,9 +267,9 @@ impl<'a, C: Caller, R: Wait + Clock> Worker<'a, C, R> {
         let (p, r) = self.seen(BLOCKS, false);
         let at = self.chance.below(64) * 8;
         let call = match self.chance.below(4) {
-            0 => Call::InPlace(p, r, self.mark(p)),
-            1 => Call::Write(p, r, at, self.mark(p)),
-            _ => Call::Read(p, r, at),
+            0 => SoakCall::InPlace(p, r, self.mark(p)),
+            1 => SoakCall::Write(p, r, at, self.mark(p)),
+            _ => SoakCall::Read(p, r, at),
         };
         if let Some(word) = self.ask(p, call, &["NotOwned", "NotData", "BadRange"]) {
             self.claim_own(p, word);
@@ -273,9 +279,9 @@ impl<'a, C: Caller, R: Wait + Clock> Worker<'a, C, R> {
     fn free(&mut self) {
         let (p, r) = self.seen(BLOCKS, true);
         let call = if self.chance.one_in(4) {
-            Call::IntoBytes(p, r)
+            SoakCall::IntoBytes(p, r)
         } else {
-            Call::Free(p, r)
+            SoakCall::Free(p, r)
         };
         if let Some(bytes) = self.ask(p, call, &["NotOwned", "NotData"]) {
             self.claim(bytes > 0 && bytes % 16 == 0, "no whole units");
@@ -323,9 +329,9 @@ impl<'a, C: Caller, R: Wait + Clock> Worker<'a, C, R> {
         let may = ["NotOwned", "NotEndpoint", "Full", "PeerClosed"];
         let until = self.until();
         let call = if until.is_some() && self.begins_wait(p) {
-            Call::GiveWait(p, e, self.tag, &load)
+            SoakCall::GiveWait(p, e, self.tag, &load)
         } else {
-            Call::Give(p, e, self.tag, &load, until)
+            SoakCall::Give(p, e, self.tag, &load, until)
         };
         let sent = self.ask(p, call, &may);
         board.set(WAITS, self.number, 0);
@@ -366,7 +372,7 @@ impl<'a, C: Caller, R: Wait + Clock> Worker<'a, C, R> {
 
     fn close(&mut self) {
         let (p, e) = self.seen(ENDS, true);
-        if let Some(bytes) = self.ask(p, Call::Close(p, e), &["NotOwned", "NotEndpoint"]) {
+        if let Some(bytes) = self.ask(p, SoakCall::Close(p, e), &["NotOwned", "NotEndpoint"]) {
             self.claim(bytes >= 32, "less than its own bytes");
         }
     }
@@ -378,8 +384,8 @@ impl<'a, C: Caller, R: Wait + Clock> Worker<'a, C, R> {
         let budget = if self.chance.one_in(2) { 2 } else { 4096 };
         let may = if budget == 2 { "Unfinished" } else { "" };
         let call = match self.chance.below(3) {
-            0 => Call::Exit(p, budget),
-            _ => Call::Kill(by, p, budget),
+            0 => SoakCall::Exit(p, budget),
+            _ => SoakCall::Kill(by, p, budget),
         };
         let _bytes = self.ask(p, call, &[may]);
     }

@@ -3,7 +3,7 @@ use crate::answers::Answer::{self, Block, Bytes, Done, No, Number, Two};
 use crate::answers::Call::{self, Exit, Open, Read, Spawn, Write};
 use crate::answers::{LACKING, answer_of, assert_row};
 use crate::growths::is_lacking;
-use crate::machines::{Case, Shared, arenas_of, on_kernel};
+use crate::machines::{Case, SharedMachine, arenas_of, on_kernel};
 use std::alloc::{AllocError, Global};
 use std::process::Abort;
 use xh_core::Config;
@@ -24,7 +24,7 @@ fn buffer_of(alloc: Global, bytes: &[u8], room: usize) -> Result<Vec<u8>, AllocE
 }
 
 // What a put answers, which leaves nothing in the buffer, or all where it is refused.
-fn put_of<W: Shared>(
+fn put_of<W: SharedMachine>(
     rt: &impl Abort,
     worker: &mut W,
     p: u16,
@@ -42,7 +42,7 @@ fn put_of<W: Shared>(
 }
 
 // A put, once more where a growth was refused.
-fn assert_put<W: Shared>(
+fn assert_put<W: SharedMachine>(
     rt: &impl Abort,
     alloc: Global,
     worker: &mut W,
@@ -64,7 +64,12 @@ fn assert_put<W: Shared>(
 }
 
 /// Makes each step, and compares what it answers.
-pub fn assert_bytes<W: Shared>(rt: &impl Abort, alloc: Global, worker: &mut W, steps: &[Step]) {
+pub fn assert_bytes<W: SharedMachine>(
+    rt: &impl Abort,
+    alloc: Global,
+    worker: &mut W,
+    steps: &[Step],
+) {
     for (at, step) in steps.iter().enumerate() {
         match step {
             Step::Call(call, expected) => {

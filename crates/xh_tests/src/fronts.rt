@@ -3,7 +3,7 @@ use crate::harness::{SCRIPT, SMALL, assert_fails, run_alone};
 use std::alloc::{AllocError, Global};
 use std::process::Abort;
 use std::test::Fail;
-use xh_script::{Fault, Kind};
+use xh_script::{Fault, FaultKind};
 
 /// What each front of a line is that has so many of its bytes, the end of the line among them: a script (.), or a fault of
 /// that line: BadCount (C), BadWord (W), BadHex (H).
@@ -106,9 +106,9 @@ fn assert_front(
 ) -> Result<(), Fail> {
     let front = SCRIPT.get(..length).expect(rt, "a front");
     let kind = match mark {
-        b'C' => Kind::BadCount,
-        b'W' => Kind::BadWord,
-        b'H' => Kind::BadHex,
+        b'C' => FaultKind::BadCount,
+        b'W' => FaultKind::BadWord,
+        b'H' => FaultKind::BadHex,
         _ => {
             let (ended, text) = run_alone(alloc, SMALL, front);
             assert!(rt; ended == Ok(()), "{length}");

@@ -6,9 +6,9 @@ use xh_script::{Fault, read_script};
 
 /// Stops the worker of place 0 ahead of its first command.
 #[derive(Drop)]
-struct Stop;
+struct StopsFirst;
 
-impl Gate for Stop {
+impl Gate for StopsFirst {
     fn before(&self, place: u8, command: u32) -> bool {
         place != 0 || command != 0
     }
@@ -22,7 +22,7 @@ impl Gate for Stop {
 #[test]
 fn gate_stops_a_worker(rt: HostRuntime) -> Result<(), Fail> {
     let script = read_script(rt.alloc(), b"process a\na alloc x 16 0\n")?;
-    let ended = run_threads(&rt, rt.alloc(), &script, SMALL, &Stop);
+    let ended = run_threads(&rt, rt.alloc(), &script, SMALL, &StopsFirst);
     assert!(&rt; matches!(ended, Err(Fault::Gate)));
     Ok(())
 }

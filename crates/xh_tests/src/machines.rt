@@ -11,7 +11,7 @@ use crate::passing::{Passing, assert_passes};
 use crate::serving::assert_served;
 use crate::several::{Step, assert_deadlines, assert_steps, assert_turns};
 use crate::waiting::{Waiting, assert_both_woken, assert_wait};
-use crate::wiring::{Hold, assert_refused};
+use crate::wiring::{ClaimHold, assert_refused};
 use crate::without_memory::assert_whole;
 use std::alloc::Global;
 use std::marker::Brand;
@@ -21,7 +21,7 @@ use std::thread::Threads;
 use std::time::{Clock, Instant};
 use xh_books::close_kernel;
 use xh_core::{Block, Config, Ledger, Refused};
-use xh_kernel::{Account, Answered, Kernel, Look, MAX_ENDS, Names, Parts};
+use xh_kernel::{Account, AnsweredAt, Kernel, Look, MAX_ENDS, Names, Parts};
 use xh_place::{Got, Taken};
 use xh_runner::{Gate, Machine, OpenGate, Worker, hire, leave_all};
 use xh_serial::Serial;
@@ -63,9 +63,9 @@ impl<'a, N: Names, R: Wait, G: Gate> Booked for Worker<'a, N, R, G> {
 
 /// What a take answered: at which of the ends, the message's tag, and nothing, or the name of a refusal, "Missing" among
 /// these where a block didn't come. The refusal of all ends together is at the 64th.
-pub type Told = (usize, u16, &'static str);
+pub type TookAt = (usize, u16, &'static str);
 
-fn told(at: usize, answer: Result<Taken, Refused>) -> Told {
+fn told(at: usize, answer: Result<Taken, Refused>) -> TookAt {
     match answer {
         Ok(Taken { tag, blocks, .. }) => {
             let mut refused = "";
@@ -81,7 +81,7 @@ fn told(at: usize, answer: Result<Taken, Refused>) -> Told {
 }
 
 // The number of a message that was given; or the refusal, and how many blocks came back.
-fn told_given(answer: Result<u64, Refused>) -> Told {
+fn told_given(answer: Result<u64, Refused>) -> TookAt {
     match answer {
         Ok(no) => (0, (no % 65_536) as u16, ""),
         Err(refused) => (count_back(&refused), 0, refused.name()),
@@ -95,24 +95,24 @@ fn count_back(refused: &Refused) -> usize {
     }
 }
 
-fn told_at(answer: Result<Answered, Refused>) -> Told {
+fn told_at(answer: Result<AnsweredAt, Refused>) -> TookAt {
     match answer {
-        Ok(Answered { at, answer }) => told(at, answer),
+        Ok(AnsweredAt { at, answer }) => told(at, answer),
         Err(refused) => (MAX_ENDS, 0, refused.name()),
     }
 }
 
 /// A machine that others work on too, so that a take or a give may wait, without an end or until a time.
-pub trait Shared: Booked {
+pub trait SharedMachine: Booked {
     /// What a give is told: the number of the message, in the place of its tag; or how many blocks came back, and why.
-    fn give_wait(&mut self, p: u16, e: u16, blocks: &[u16], until: Option<Instant>) -> Told;
+    fn give_wait(&mut self, p: u16, e: u16, blocks: &[u16], until: Option<Instant>) -> TookAt;
 
     /// A take at one endpoint, the first.
-    fn take_first(&mut self, p: u16, e: u16, until: Option<Instant>) -> Told;
+    fn take_first(&mut self, p: u16, e: u16, until: Option<Instant>) -> TookAt;
 
-    fn take_any(&mut self, p: u16, ends: &[u16]) -> Told;
+    fn take_any(&mut self, p: u16, ends: &[u16]) -> TookAt;
 
-    fn take_any_wait(&mut self, p: u16, ends: &[u16], until: Option<Instant>) -> Told;
+    fn take_any_wait(&mut self, p: u16, ends: &[u16], until: Option<Instant>) -> TookAt;
 
     fn put(&mut self, p: u16, bytes: &mut Vec<u8>, arena: u32) -> Result<Block, Refused>;
 
@@ -128,8 +128,8 @@ pub trait Shared: Booked {
     ) -> &'static str;
 }
 
-impl<'a, N: Names, R: Wait + Clock, G: Gate> Shared for Worker<'a, N, R, G> {
-    fn give_wait(&mut self, p: u16, e: u16, blocks: &[u16], until: Option<Instant>) -> Told {
+impl<'a, N: Names, R: Wait + Clock, G: Gate> SharedMachine for Worker<'a, N, R, G> {
+    fn give_wait(&mut self, p: u16, e: u16, blocks: &[u16], until: Option<Instant>) -> TookAt {
         let (rt, account, gate) = (self.rt, &mut self.account, self.gate);
         told_given(match until {
             Some(until) => self
@@ -139,7 +139,7 @@ impl<'a, N: Names, R: Wait + Clock, G: Gate> Shared for Worker<'a, N, R, G> {
         })
     }
 
-    fn take_first(&mut self, p: u16, e: u16, until: Option<Instant>) -> Told {
+    fn take_first(&mut self, p: u16, e: u16, until: Option<Instant>) -> TookAt {
         let (rt, gate) = (self.rt, self.gate);
         let answer = match until {
             Some(until) => self
@@ -150,12 +150,12 @@ impl<'a, N: Names, R: Wait + Clock, G: Gate> Shared for Worker<'a, N, R, G> {
         told(0, answer)
     }
 
-    fn take_any(&mut self, p: u16, ends: &[u16]) -> Told {
+    fn take_any(&mut self, p: u16, ends: &[u16]) -> TookAt {
         let (rt, gate) = (self.rt, self.gate);
         told_at(self.kernel.take_any(rt, p, ends, &mut self.account, gate))
     }
 
-    fn take_any_wait(&mut self, p: u16, ends: &[u16], until: Option<Instant>) -> Told {
+    fn take_any_wait(&mut self, p: u16, ends: &[u16], until: Option<Instant>) -> TookAt {
         let (rt, gate) = (self.rt, self.gate);
         let answer = match until {
             Some(until) => self
@@ -222,7 +222,7 @@ pub enum Case<'a> {
     Memory(Memory<'a>),
     Bytes(&'a [bytes::Step<'a>]),
     BothWait,
-    Wires(&'a Hold),
+    Wires(&'a ClaimHold),
     Steps(&'a [Step<'a>]),
     Deadlines,
     Turns,
@@ -254,7 +254,7 @@ pub fn on_serial(
 }
 
 /// Tries the case with the workers of a kernel.
-fn try_case<W: Shared + Send, R: Threads + Wait + Clock + Abort + Sync>(
+fn try_case<W: SharedMachine + Send, R: Threads + Wait + Clock + Abort + Sync>(
     rt: &R,
     alloc: Global,
     workers: &mut [W],

@@ -1,7 +1,7 @@
 //! Two threads that wait for memory of an arena, for one process or for two, while a third ends their wait.
 use crate::answers::Call::{self, Alloc, Close, Exit, Free, Glance, Kill, Open, Spawns, Wire};
 use crate::answers::answer_of;
-use crate::machines::{Case, Shared, arenas_of, on_gated};
+use crate::machines::{Case, SharedMachine, arenas_of, on_gated};
 use crate::waiting::{after, end_late, later, pause};
 use std::alloc::Global;
 use std::process::Abort;
@@ -89,7 +89,7 @@ pub struct Memory<'a> {
 const BEFORE: &[Call] = &[Spawns(3), Alloc(2, 192, 0), Wire(0, 2)];
 
 // What the process is told that asks for 16 bytes, once a record is held where it is to be, and gives them back at once.
-fn wait_late<W: Shared, R: Wait + Clock>(
+fn wait_late<W: SharedMachine, R: Wait + Clock>(
     rt: &R,
     alloc: Global,
     worker: &mut W,
@@ -117,7 +117,7 @@ fn wait_late<W: Shared, R: Wait + Clock>(
 
 // Two threads of process 0, or one of it and one of process 1. In every other round they wait until a time, and whoever ends
 // their wait lets them sleep before.
-fn assert_round<W: Shared + Send, R: Threads + Wait + Clock + Abort + Sync>(
+fn assert_round<W: SharedMachine + Send, R: Threads + Wait + Clock + Abort + Sync>(
     rt: &R,
     alloc: Global,
     (mine, one, other): (&mut W, &mut W, &mut W),
@@ -160,7 +160,7 @@ fn assert_round<W: Shared + Send, R: Threads + Wait + Clock + Abort + Sync>(
 }
 
 /// In 32 rounds each is always told so.
-pub fn assert_memory<W: Shared + Send, R: Threads + Wait + Clock + Abort + Sync>(
+pub fn assert_memory<W: SharedMachine + Send, R: Threads + Wait + Clock + Abort + Sync>(
     rt: &R,
     alloc: Global,
     mine: &mut W,

@@ -2,7 +2,7 @@
 use crate::answers::Answer::{self, Number, Two};
 use crate::answers::Call::{self, Spawn, Wire};
 use crate::answers::assert_answers;
-use crate::machines::{Case, Shared, arenas_of, on_kernel};
+use crate::machines::{Case, SharedMachine, arenas_of, on_kernel};
 use arrayvec::ArrayVec;
 use std::alloc::Global;
 use std::process::Abort;
@@ -116,7 +116,7 @@ fn take_all<M: Machine>(machine: &mut M, what: Passing) -> u16 {
 }
 
 /// All are given, and all come as they should.
-pub fn assert_passes<W: Shared + Send, R: Threads + Abort + Sync>(
+pub fn assert_passes<W: SharedMachine + Send, R: Threads + Abort + Sync>(
     rt: &R,
     alloc: Global,
     mine: &mut W,

@@ -1,6 +1,6 @@
 //! A server of eight clients, on nine threads. Each client is killed once it was answered often enough, with a request on its
 //! way, and another takes its place.
-use crate::machines::{Case, Shared, arenas_of, on_kernel};
+use crate::machines::{Case, SharedMachine, arenas_of, on_kernel};
 use std::alloc::Global;
 use std::process::Abort;
 use std::sync::Wait;
@@ -25,14 +25,14 @@ struct Client {
 /// What the threads share: the server's process, the first clients, the ends of those that are new, each above 2^16, and how many
 /// requests were answered.
 #[derive(Drop)]
-struct Board {
+struct ServerBoard {
     server: u16,
     first: Vec<Client>,
     new: Vec<AtomicU64>,
     answered: AtomicU64,
 }
 
-fn enter<W: Shared>(worker: &mut W, server: u16) -> Result<Client, Refused> {
+fn enter<W: SharedMachine>(worker: &mut W, server: u16) -> Result<Client, Refused> {
     let p = worker.spawn()?;
     let (mine, other) = worker.wire(p, server, 0, None)?;
     Ok(Client {
@@ -42,7 +42,7 @@ fn enter<W: Shared>(worker: &mut W, server: u16) -> Result<Client, Refused> {
     })
 }
 
-fn make_board<W: Shared>(alloc: Global, worker: &mut W) -> Result<Board, Refused> {
+fn make_board<W: SharedMachine>(alloc: Global, worker: &mut W) -> Result<ServerBoard, Refused> {
     let server = worker.spawn()?;
     let mut first = Vec::with_capacity(alloc, CLIENTS)?;
     let mut new = Vec::with_capacity(alloc, CLIENTS)?;
@@ -50,7 +50,7 @@ fn make_board<W: Shared>(alloc: Global, worker: &mut W) -> Result<Board, Refused
         first.push(enter(worker, server)?)?;
         new.push(AtomicU64::new(0))?;
     }
-    Ok(Board {
+    Ok(ServerBoard {
         server,
         first,
         new,
@@ -59,7 +59,7 @@ fn make_board<W: Shared>(alloc: Global, worker: &mut W) -> Result<Board, Refused
 }
 
 // Asks so often, each time once it was answered. How often the answer was right.
-fn ask<W: Shared>(worker: &mut W, client: Client) -> u64 {
+fn ask<W: SharedMachine>(worker: &mut W, client: Client) -> u64 {
     let Client { p, e, theirs: _ } = client;
     let mut right = 0;
     for tag in 0..REQUESTS {
@@ -74,7 +74,7 @@ fn ask<W: Shared>(worker: &mut W, client: Client) -> u64 {
 }
 
 // A client asks, another enters, the first is killed, and the other does as the first did.
-fn be_clients<W: Shared>(worker: &mut W, board: &Board, at: usize) {
+fn be_clients<W: SharedMachine>(worker: &mut W, board: &ServerBoard, at: usize) {
     let (Some(first), Some(new)) = (board.first.get(at).copied(), board.new.get(at)) else {
         return;
     };
@@ -91,7 +91,7 @@ fn be_clients<W: Shared>(worker: &mut W, board: &Board, at: usize) {
 }
 
 // The server's ends of the clients that have entered come to the list.
-fn admit(board: &Board, ends: &mut Vec<u16>) {
+fn admit(board: &ServerBoard, ends: &mut Vec<u16>) {
     for new in &board.new {
         let end = new.swap(0, SeqCst);
         if end != 0 {
@@ -101,10 +101,10 @@ fn admit(board: &Board, ends: &mut Vec<u16>) {
 }
 
 // Answers each request with its tag, until the last client is gone.
-fn serve<W: Shared, R: Wait>(
+fn serve<W: SharedMachine, R: Wait>(
     rt: &R,
     worker: &mut W,
-    board: &Board,
+    board: &ServerBoard,
     ends: &mut Vec<u16>,
 ) -> Result<(), Refused> {
     for _ in rt.forever() {
@@ -127,11 +127,11 @@ fn serve<W: Shared, R: Wait>(
     Ok(())
 }
 
-fn be_server<W: Shared, R: Wait>(
+fn be_server<W: SharedMachine, R: Wait>(
     rt: &R,
     alloc: Global,
     worker: &mut W,
-    board: &Board,
+    board: &ServerBoard,
 ) -> Result<(), Refused> {
     let mut ends = Vec::with_capacity(alloc, 2 * CLIENTS)?;
     for client in &board.first {
@@ -141,7 +141,7 @@ fn be_server<W: Shared, R: Wait>(
 }
 
 /// Each of the nine others has a thread, the last the server's. Each request was answered.
-pub fn assert_served<W: Shared + Send, R: Threads + Wait + Abort + Sync>(
+pub fn assert_served<W: SharedMachine + Send, R: Threads + Wait + Abort + Sync>(
     rt: &R,
     alloc: Global,
     worker: &mut W,

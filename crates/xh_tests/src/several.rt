@@ -2,7 +2,7 @@
 use crate::answers::Answer::{self, Block, Number, Two};
 use crate::answers::Call::{self, Alloc, Close, Give, Open, Spawn};
 use crate::answers::{answer_of, assert_answers, assert_row};
-use crate::machines::{Case, Shared, Told, arenas_of, on_kernel};
+use crate::machines::{Case, SharedMachine, TookAt, arenas_of, on_kernel};
 use crate::waiting::after;
 use std::alloc::Global;
 use std::process::Abort;
@@ -13,7 +13,7 @@ use xh_core::Config;
 #[derive(Clone, Copy)]
 pub enum Step<'a> {
     Call(Call<'a>, Answer),
-    Any(u16, &'a [u16], Told),
+    Any(u16, &'a [u16], TookAt),
 }
 
 /// Process 0 has both ends of eight channels. It gives by the low ones, 0 to 14, and takes by the high ones.
@@ -52,12 +52,17 @@ const ORDER: &[Step] = &[
     Step::Any(0, &[15, 5, 3], (1, 0, "PeerClosed")),
 ];
 
-fn assert_told(rt: &impl Abort, at: usize, was_told: Told, expected: Told) {
+fn assert_told(rt: &impl Abort, at: usize, was_told: TookAt, expected: TookAt) {
     assert_eq!(rt; was_told, expected, "step {at}");
 }
 
 /// Makes each call, and compares what it answers.
-pub fn assert_steps<W: Shared>(rt: &impl Abort, alloc: Global, worker: &mut W, steps: &[Step]) {
+pub fn assert_steps<W: SharedMachine>(
+    rt: &impl Abort,
+    alloc: Global,
+    worker: &mut W,
+    steps: &[Step],
+) {
     assert_answers(rt, alloc, worker, OPENS);
     for (at, step) in steps.iter().enumerate() {
         match step {
@@ -74,7 +79,12 @@ pub fn assert_steps<W: Shared>(rt: &impl Abort, alloc: Global, worker: &mut W, s
 
 // Gives by the last channel after so many: two find room; behind them a give of block 16 waits until the time, and the block
 // comes back; once one was taken it goes.
-fn assert_room<W: Shared>(rt: &impl Abort, worker: &mut W, until: Option<Instant>, after: u16) {
+fn assert_room<W: SharedMachine>(
+    rt: &impl Abort,
+    worker: &mut W,
+    until: Option<Instant>,
+    after: u16,
+) {
     let told = [
         worker.give_wait(0, 14, &[], until),
         worker.give_wait(0, 14, &[], None),
@@ -100,20 +110,20 @@ fn assert_room<W: Shared>(rt: &impl Abort, worker: &mut W, until: Option<Instant
 }
 
 // Waits until the time at the first, and at any, are told so.
-fn assert_until<W: Shared>(
+fn assert_until<W: SharedMachine>(
     rt: &impl Abort,
     worker: &mut W,
     until: Option<Instant>,
-    first: Told,
-    any: Told,
+    first: TookAt,
+    any: TookAt,
 ) {
     assert_told(rt, 0, worker.take_first(0, 1, until), first);
     assert_told(rt, 1, worker.take_any_wait(0, &HIGH, until), any);
 }
 
 /// A wait returns once its time is past, and takes what waits then, or gives where there is room.
-pub fn assert_deadlines<W: Shared, R: Clock + Abort>(rt: &R, alloc: Global, worker: &mut W) {
-    const NONE: Told = (64, 0, "Empty");
+pub fn assert_deadlines<W: SharedMachine, R: Clock + Abort>(rt: &R, alloc: Global, worker: &mut W) {
+    const NONE: TookAt = (64, 0, "Empty");
     assert_answers(rt, alloc, worker, OPENS);
     let block = answer_of(worker, alloc, Alloc(0, 16, 0));
     assert_row(rt, 0, block, Block(16, 16));
@@ -134,7 +144,7 @@ pub fn assert_deadlines<W: Shared, R: Clock + Abort>(rt: &R, alloc: Global, work
 }
 
 /// Of eight channels on which two messages wait each time, none is passed over while the look begins one further.
-pub fn assert_turns<W: Shared>(rt: &impl Abort, alloc: Global, worker: &mut W) {
+pub fn assert_turns<W: SharedMachine>(rt: &impl Abort, alloc: Global, worker: &mut W) {
     assert_answers(rt, alloc, worker, OPENS);
     let mut from = HIGH;
     for round in 0..8 * 16_u16 {

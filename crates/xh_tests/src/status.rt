@@ -1,13 +1,13 @@
 //! Each fault has its status and its line on standard error.
 use xh_command_line::report;
-use xh_script::{Fault, Kind};
+use xh_script::{Fault, FaultKind};
 
 /// Each fault, its status, and what is reported.
 const REPORTS: &[(Fault, u8, &str)] = &[
     (
         Fault::Script {
             line: 3,
-            kind: Kind::BadWord,
+            kind: FaultKind::BadWord,
         },
         1,
         "xheap: line 3: BadWord\n",

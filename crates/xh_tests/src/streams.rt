@@ -5,7 +5,7 @@ use std::io;
 use std::io::{Read, Write};
 use xh_core::Config;
 use xh_runner::run_serial;
-use xh_script::{Fault, Kind, Watched};
+use xh_script::{Fault, FaultKind, Watched};
 
 const OUTPUT: &[u8] =
     b"1 ok 0\n2 ok 1\n3 ok\n4 ok 48\n5 ok 16\n6 ok 1\n7 no 6 NotOwned\n8 ok 1 7 48 16\n9 ok\n\
@@ -112,7 +112,7 @@ fn a_writer_fails_at_each_write(rt: HostRuntime) {
 fn a_reader_without_an_end(rt: HostRuntime) {
     let fault = Fault::Script {
         line: 0,
-        kind: Kind::TooLong,
+        kind: FaultKind::TooLong,
     };
     assert_fails(&rt, rt.alloc(), SMALL, Endless, fault);
 }

@@ -1,7 +1,7 @@
 //! A process that waits for a message at one endpoint or at one of two, or for room, on threads.
 use crate::answers::Call::{self, Alloc, Close, Exit, Free, Give, Kill, Open, Spawn, Take, Wire};
 use crate::answers::{Answer, answer_of, assert_row};
-use crate::machines::{Case, Shared, Told, arenas_of, on_kernel};
+use crate::machines::{Case, SharedMachine, TookAt, arenas_of, on_kernel};
 use std::alloc::Global;
 use std::hint::spin_loop;
 use std::process::Abort;
@@ -69,13 +69,13 @@ pub fn later(call: Call, by: u16) -> Call {
 }
 
 // What process 0 is told that waits after a pause, by one of the ways, a long time at most.
-fn wait_late<W: Shared, R: Clock>(
+fn wait_late<W: SharedMachine, R: Clock>(
     rt: &R,
     worker: &mut W,
     awaited: For,
     by: u16,
     seed: u64,
-) -> Told {
+) -> TookAt {
     let until = if seed % 2 == 0 {
         None
     } else {
@@ -90,13 +90,13 @@ fn wait_late<W: Shared, R: Clock>(
 }
 
 /// Does what ends the wait, after a pause.
-pub fn end_late<W: Shared>(alloc: Global, worker: &mut W, ender: Call, seed: u64) -> Answer {
+pub fn end_late<W: SharedMachine>(alloc: Global, worker: &mut W, ender: Call, seed: u64) -> Answer {
     pause((seed / 211) % 4001);
     answer_of(worker, alloc, ender)
 }
 
 // Fills the direction from the end 2 of process 0, where it waits for room there.
-fn fill<W: Shared>(worker: &mut W, awaited: For, by: u16) {
+fn fill<W: SharedMachine>(worker: &mut W, awaited: For, by: u16) {
     if awaited == For::Room {
         for tag in 0..4 {
             let _given = worker.give(by, 2, tag, &[]);
@@ -105,7 +105,7 @@ fn fill<W: Shared>(worker: &mut W, awaited: For, by: u16) {
 }
 
 // The process that waits is told so, and of a message at which end, while another thread ends its wait; then both end.
-fn assert_round<W: Shared + Send, R: Threads + Clock + Abort + Sync>(
+fn assert_round<W: SharedMachine + Send, R: Threads + Clock + Abort + Sync>(
     rt: &R,
     alloc: Global,
     mine: &mut W,
@@ -137,7 +137,7 @@ fn assert_round<W: Shared + Send, R: Threads + Clock + Abort + Sync>(
 }
 
 /// In 32 rounds the process is always told so.
-pub fn assert_wait<W: Shared + Send, R: Threads + Clock + Abort + Sync>(
+pub fn assert_wait<W: SharedMachine + Send, R: Threads + Clock + Abort + Sync>(
     rt: &R,
     alloc: Global,
     mine: &mut W,
@@ -235,7 +235,7 @@ fn waits_for_room(rt: HostRuntime) {
 }
 
 /// Two threads of process 0 wait at its end 2; each takes one of the two messages that come.
-pub fn assert_both_woken<W: Shared + Send, R: Threads + Clock + Abort + Sync>(
+pub fn assert_both_woken<W: SharedMachine + Send, R: Threads + Clock + Abort + Sync>(
     rt: &R,
     alloc: Global,
     mine: &mut W,

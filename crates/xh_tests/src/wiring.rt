@@ -1,5 +1,5 @@
 //! A wire whose other process ends in between, on threads.
-use crate::machines::{Case, Shared, arenas_of, on_gated};
+use crate::machines::{Case, SharedMachine, arenas_of, on_gated};
 use std::hint::spin_loop;
 use std::process::Abort;
 use std::sync::atomic::AtomicBool;
@@ -11,7 +11,7 @@ use xh_runner::{Gate, Point};
 
 /// It holds whoever has claimed a record until it is told to go on, or a long time has passed.
 #[derive(Drop)]
-pub struct Hold {
+pub struct ClaimHold {
     claimed: AtomicBool,
     told: AtomicBool,
 }
@@ -26,7 +26,7 @@ fn wait_for(flag: &AtomicBool) {
     }
 }
 
-impl Gate for Hold {
+impl Gate for ClaimHold {
     fn before(&self, _place: u8, _command: u32) -> bool {
         true
     }
@@ -42,7 +42,7 @@ impl Gate for Hold {
 }
 
 // Process 1 ends once the other has claimed a record, and the other is told to go on.
-fn end_between<W: Shared>(worker: &mut W, hold: &Hold) -> bool {
+fn end_between<W: SharedMachine>(worker: &mut W, hold: &ClaimHold) -> bool {
     wait_for(&hold.claimed);
     let ended = worker.exit(1, 4096).is_ok();
     hold.told.store(true, SeqCst);
@@ -50,11 +50,11 @@ fn end_between<W: Shared>(worker: &mut W, hold: &Hold) -> bool {
 }
 
 /// A wire is refused whose other process ends once the first has claimed a record, and what it took is given back.
-pub fn assert_refused<W: Shared + Send, R: Threads + Abort>(
+pub fn assert_refused<W: SharedMachine + Send, R: Threads + Abort>(
     rt: &R,
     mine: &mut W,
     others: &mut [W],
-    hold: &Hold,
+    hold: &ClaimHold,
 ) {
     let Some(other) = others.first_mut() else {
         panic!(rt; "no other worker");
@@ -73,7 +73,7 @@ pub fn assert_refused<W: Shared + Send, R: Threads + Abort>(
 /// Where the other process ends before its end reaches it, both ends are reclaimed.
 #[test]
 fn wires_to_one_that_ends(rt: HostRuntime) {
-    let hold = Hold {
+    let hold = ClaimHold {
         claimed: AtomicBool::new(false),
         told: AtomicBool::new(false),
     };

@@ -1,13 +1,13 @@
 //! The whole program, over any reader and writers.
 ghost use Rattle.std.specs.Prelude.{codes, map, string_bytes};
-ghost use Rattle.xheap.specs.Status.{Ended, RanBy};
+ghost use Rattle.xheap.specs.Status.{EndedRun, RanBy};
 
 use std::alloc::Global;
 use std::io::{Read, Write};
 use std::sync::Wait;
 use std::thread::Threads;
 use xh_command_line::{DONE, Options, Program, read_options, report};
-use xh_runner::{Run, run_parallel, run_serial_as};
+use xh_runner::{RunOptions, run_parallel, run_serial_as};
 use xh_script::Watched;
 
 /// The program's name.
@@ -36,7 +36,7 @@ fn run<T: Threads + Wait + Sync, R: Read, W: Write, E: Write>(
 ) -> u8
     ensures { RanBy R.remaining W.contents options.serial options.flight options.config reader.old reader.new out.old out.new result }
 {
-    let run = Run {
+    let run = RunOptions {
         config: options.config,
         flight: options.flight,
     };
@@ -61,7 +61,7 @@ pub(crate) fn run_main<T: Threads + Wait + Sync, R: Read, W: Write, E: Write>(
     out: &mut Watched<W>,
     err: &mut E,
 ) -> u8
-    ensures { Ended R.remaining W.contents (codes "xheap") (map string_bytes words.now) reader.old reader.new out.old out.new result }
+    ensures { EndedRun R.remaining W.contents (codes "xheap") (map string_bytes words.now) reader.old reader.new out.old out.new result }
 {
     match read_options(alloc, PROGRAM, words, out, err) {
         Ok(options) => run(rt, alloc, options, reader, out, err),

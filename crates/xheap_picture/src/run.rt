@@ -1,8 +1,8 @@
 //! The whole program, over any reader and writers.
 ghost use Rattle.std.specs.Prelude.{codes, map, string_bytes};
-ghost use Rattle.xh_command_line.specs.Status.{status_of};
-ghost use Rattle.xh_session.specs.Ends.{EndsWith};
-ghost use Rattle.xheap_picture.specs.Drawn.{Ended, IsDrawn};
+ghost use Rattle.xh_command_line.specs.Status.{exit_status};
+ghost use Rattle.xh_session.specs.Ends.{EndedWith};
+ghost use Rattle.xheap_picture.specs.Drawn.{EndedDrawing, IsDrawn};
 
 use crate::play::run_picture;
 use std::alloc::Global;
@@ -33,7 +33,7 @@ fn run<R: Read, W: Write, E: Write>(
     out: &mut Watched<W>,
     err: &mut E,
 ) -> u8
-    ensures { EndsWith R.remaining W.contents IsDrawn status_of options.config reader.old reader.new out.old out.new result }
+    ensures { EndedWith R.remaining W.contents IsDrawn exit_status options.config reader.old reader.new out.old out.new result }
 {
     match run_picture(alloc, options.config, reader, out) {
         Ok(()) => DONE,
@@ -50,7 +50,7 @@ pub(crate) fn run_main<R: Read, W: Write, E: Write>(
     out: &mut Watched<W>,
     err: &mut E,
 ) -> u8
-    ensures { Ended R.remaining W.contents (codes "xheap_picture") (map string_bytes words.now) reader.old reader.new out.old out.new result }
+    ensures { EndedDrawing R.remaining W.contents (codes "xheap_picture") (map string_bytes words.now) reader.old reader.new out.old out.new result }
 {
     match read_options(alloc, PROGRAM, words, out, err) {
         Ok(options) => run(alloc, options, reader, out, err),

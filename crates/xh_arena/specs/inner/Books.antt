@@ -8,8 +8,8 @@ use Rattle.xh_arena.specs.Views.{Move, AreSummed}
 use Rattle.xh_arena.specs.inner.Parts.{weigh}
 
 -- the part of a tally that was collected
-abbrev pub moved : Move → Part
-moved m = Moved m.number m.taken m.back
+abbrev pub moved_part : Move → Part
+moved_part m = Moved m.number m.taken m.back
 
 -- the tallies among the parts
 abbrev pub moves_of : List Part → List Move
@@ -30,7 +30,7 @@ workers_of _ = 0
 
 -- the vault's parts, with those of the tallies that it took in
 abbrev pub vault_parts : List ℕ → ℕ → ℕ → ℕ → List Move → List Part
-vault_parts lengths taken back workers ms = Books lengths taken back workers ∷ map moved ms
+vault_parts lengths taken back workers ms = Books lengths taken back workers ∷ map moved_part ms
 
 -- what the books are to say of an arena: the length of each record, and the bytes ever handed out
 pub record Booked : Type 0 where

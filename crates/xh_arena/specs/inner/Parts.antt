@@ -10,17 +10,17 @@ weigh f [] = 0
 weigh f (x ∷ xs) = f x + weigh f xs
 
 -- a part for each of these, numbered from i on
-abbrev pub listed : {X : Type 0} → (ℕ → X → Part) → ℕ → List X → List Part
-listed part i [] = []
-listed part i (x ∷ xs) = part i x ∷ listed part (suc i) xs
+abbrev pub listed_parts : {X : Type 0} → (ℕ → X → Part) → ℕ → List X → List Part
+listed_parts part i [] = []
+listed_parts part i (x ∷ xs) = part i x ∷ listed_parts part (suc i) xs
 
 -- the lots of the records from r on, with these lengths
 abbrev pub lots_from : ℕ → List ℕ → List Part
-lots_from r ls = listed (λ i n. Length i n) r ls
+lots_from r ls = listed_parts (λ i n. Length i n) r ls
 
 -- the tallies from number j on, each with what it has taken and given back
 abbrev pub tallies_from : ℕ → List (ℕ × ℕ) → List Part
-tallies_from j ts = listed (λ i t. Moved i t.0 t.1) j ts
+tallies_from j ts = listed_parts (λ i t. Moved i t.0 t.1) j ts
 
 -- the vault's part: the books of taken and back are the sums over the tallies
 abbrev pub books : List ℕ → List (ℕ × ℕ) → Part

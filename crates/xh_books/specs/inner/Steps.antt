@@ -1,11 +1,12 @@
 -- What the steps of closing say: taking the accounts in, ending the places, closing the table, auditing.
-use Rattle.std.specs.Prelude.{◌≡◌, ℕ, ◌+◌, ◌/◌, ◌%◌, ◌<◌, List, ◌∷◌, All, length, map, slice_get, Some, sum}
+use Rattle.std.specs.Prelude.{◌≡◌, ℕ, ◌+◌, ◌*◌, ◌/◌, ◌%◌, ◌<◌, List, ◌∷◌, All, length, map, slice_get, slice_index_or, Some, sum}
 use Rattle.std.specs.List.{AllZip, sum_by}
 use Rattle.atomic_table.specs.Seated.{TableId}
 use Rattle.xh_arena.specs.Views.{LotOf, TallyOf, VaultOf}
 use Rattle.xh_core.specs.ArenaLines.{arena_line}
 use Rattle.xh_core.specs.declared.flight.FlightLine.{FlightLine}
 use Rattle.xh_core.specs.declared.ledger.ArenaLine.{ArenaLine}
+use Rattle.xh_core.specs.declared.ledger.PlaceLine.{PlaceLine}
 use Rattle.xh_kernel.specs.Accounts.{AccountOf}
 use Rattle.xh_calls.specs.Parts.{vault_names}
 use Rattle.xh_kernel.specs.Finished.{tallies_of}
@@ -20,7 +21,7 @@ use Rattle.xh_records.specs.Seats.{Held}
 use Rattle.xh_records.specs.declared.shape.Shape.{Shape}
 use Rattle.xh_core.specs.Flight.{AreFlightLines}
 use Rattle.xh_books.specs.Flight.{IsInFlight}
-use Rattle.xh_books.specs.Ledgers.{all_lengths, arena_lines, bytes_in_flight}
+use Rattle.xh_books.specs.Ledgers.{all_lengths, arena_lines, bytes_in_flight, bytes_owned, place_lines}
 
 -- ---- the accounts
 
@@ -31,6 +32,11 @@ with_tally v t = record v { collected = record { number = t.number; taken = t.ta
 -- a vault that took in all its tallies
 abbrev pub HasAllTallies : VaultOf → Type 0
 HasAllTallies v = length v.collected ≡ v.workers
+
+-- each vault took in the tally at its index
+abbrev pub Collects : List VaultOf → List TallyOf → List VaultOf → Type 0
+Collects old tallies new = (k : ℕ) (d : VaultOf) (t : TallyOf) → k < length old
+    → slice_index_or new k d ≡ with_tally (slice_index_or old k d) (slice_index_or tallies k t)
 
 -- the line of such a vault
 abbrev pub closed_line : VaultOf → ArenaLine
@@ -68,6 +74,18 @@ lens_of = map (λ l. l.len)
 -- each lot is of the vault of its arena, with n records in each
 abbrev pub AreAt : ℕ → List TableId → List (LotOf Body) → Type 0
 AreAt n names ls = (k : ℕ) (l : LotOf Body) → slice_get ls k ≡ Some l → (slice_get names (k / n) ≡ Some l.id) × (l.index ≡ k % n)
+
+-- the lots of all records of a table of this shape
+abbrev pub AreLotsOf : Shape → List (LotOf Body) → Type 0
+AreLotsOf s ls = (length ls ≡ length s.names * s.records) × AreAt s.records s.names ls
+
+-- all lengths, with n records in each arena, are those that the places own, and those of the records in no list
+abbrev pub AddUp : List PlaceOf → ℕ → List ℕ → Type 0
+AddUp places n lens = sum lens ≡ bytes_owned places + bytes_in_flight places n 0 lens
+
+-- the lines are those of the places, and of what these own
+abbrev pub TellPlaces : List PlaceOf → List PlaceLine → Type 0
+TellPlaces places lines = (lines ≡ place_lines places) × (sum_by (λ l. l.bytes) lines ≡ bytes_owned places)
 
 -- the lines are what is in flight, of records of these lengths, and their sum is that of the lengths of the records in no place's list
 unfoldable pub TellFlight : Shape → List PlaceSeen → List ℕ → List FlightLine → Type 0

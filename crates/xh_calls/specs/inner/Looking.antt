@@ -5,7 +5,7 @@ use Rattle.xh_core.specs.Headers.{has_end}
 use Rattle.xh_core.specs.Refusing.{first_refusal}
 use Rattle.xh_core.specs.declared.refused.Refused.{Refused}
 use Rattle.xh_core.specs.declared.refused.Refused.TheVariants.{Empty}
-use Rattle.xh_calls.specs.declared.several.Answered.{Answered}
+use Rattle.xh_calls.specs.declared.several.AnsweredAt.{AnsweredAt}
 use Rattle.xh_calls.specs.Places.{status_at}
 use Rattle.xh_place.specs.Places.{PlaceOf, found}
 
@@ -23,6 +23,6 @@ is_empty Empty = true
 is_empty _ = false
 
 -- what those behind an endpoint answered, or that the endpoint's peer is closed
-abbrev pub first_of : Refused → Result Answered Refused → Result Answered Refused
+abbrev pub first_of : Refused → Result AnsweredAt Refused → Result AnsweredAt Refused
 first_of why (Ok a) = cond (is_ok a.answer || is_empty why) (Ok (record { at = suc a.at; answer = a.answer })) (Ok (record { at = 0; answer = Err why }))
 first_of why (Err later) = cond (is_empty why) (Err later) (Ok (record { at = 0; answer = Err why }))

@@ -15,23 +15,23 @@ bit false = 0
 bit true = 1
 
 -- the word of the other side of the channel: side 0 is even
-abbrev pub peer : ℕ → ℕ
-peer w = suc w - 2 * (w % 2)
+abbrev pub peer_word : ℕ → ℕ
+peer_word w = suc w - 2 * (w % 2)
 
 module _ (keeper : ℕ → ℕ) (words : List ℕ) (id : ℕ) (v : Sight) where
-  abbrev pub Keeps : Type 0
-  Keeps = (w : ℕ) → v.from ≤ w → w < v.upto → (keeper w ≡ id) × (get_elem? words w ≡ some (bit v.shut))
+  abbrev pub KeepsWord : Type 0
+  KeepsWord = (w : ℕ) → v.from ≤ w → w < v.upto → (keeper w ≡ id) × (get_elem? words w ≡ some (bit v.shut))
 
   abbrev pub FitsSight : Type 0
-  FitsSight = Keeps × (v.peer_shut ≡ true → get_elem? words (peer v.from) ≡ some 1)
+  FitsSight = KeepsWord × (v.peer_shut ≡ true → get_elem? words (peer_word v.from) ≡ some 1)
 
 -- no words show this: word 1 is 0 as its own, and 1 as its peer's
 abbrev pub never_shown : Sight
 never_shown = sight 0 2 false true
 
 module _ {S : Type 0} where
-  abbrev pub Shows : State S Sight → Type 0
-  Shows s = (keeper : ℕ → ℕ) × ((w n : ℕ) → get_elem? s.words w ≡ some n → (n ≡ 0) ⊎ (n ≡ 1))
+  abbrev pub ShowsWords : State S Sight → Type 0
+  ShowsWords s = (keeper : ℕ → ℕ) × ((w n : ℕ) → get_elem? s.words w ≡ some n → (n ≡ 0) ⊎ (n ≡ 1))
       × ((id : ℕ) (v : Sight) → get_elem? s.views id ≡ some v → FitsSight keeper s.words id v)
 
   abbrev pub Shut : Step S → Me S Sight → ℕ → Me S Sight → Type 0
@@ -51,7 +51,7 @@ other_words v = sight (suc v.from) v.upto v.shut false
 
 -- what is told to the peer of a word: whether it was shut. It has no word to store
 abbrev pub shut_told : Sight → Sight
-shut_told v = sight (peer v.from) (peer v.from) false v.shut
+shut_told v = sight (peer_word v.from) (peer_word v.from) false v.shut
 
 -- it knows of its peer what the other knows of the same one
 abbrev pub hearing_shut : Sight → Sight → Sight

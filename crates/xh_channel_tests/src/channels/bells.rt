@@ -1,5 +1,5 @@
 //! Threads that wait at the bells of places, what rings them, and waits until a deadline.
-use super::calls::Call::{self, Put, Ring, Rouse, Shut, Take};
+use super::calls::EndCall::{self, Put, Ring, Rouse, Shut, Take};
 use super::calls::{Ends, assert_same, by_end};
 use super::opening::FREE;
 use super::scenes::{Act, Scene, play};
@@ -22,7 +22,7 @@ fn after<R: Clock>(rt: &R, millis: u64) -> Option<Instant> {
 
 /// What a thread waits for at its end: a message, or room for one.
 #[derive(Clone, Copy, PartialEq)]
-pub(super) enum For {
+pub(super) enum BellFor {
     Message,
     Room,
 }
@@ -41,10 +41,10 @@ fn wake<R: Clock + Wait>(
     rt: &R,
     channels: &Channels,
     end: &mut Endpoint,
-    awaited: For,
-    call: Call,
+    awaited: BellFor,
+    call: EndCall,
 ) {
-    if awaited == For::Message {
+    if awaited == BellFor::Message {
         let _taken = by_end(rt, channels, end, Take);
     }
     let _done = by_end(rt, channels, end, call);
@@ -57,20 +57,20 @@ fn alternate<R: Clock + Wait>(
     channels: &Channels,
     end: &mut Endpoint,
     round: &AtomicU64,
-    awaited: For,
-    call: Call,
+    awaited: BellFor,
+    call: EndCall,
 ) -> u64 {
     let Some(deadline) = after(rt, 30_000) else {
         return 0;
     };
     let place = end.spot().side;
-    if awaited == For::Message {
+    if awaited == BellFor::Message {
         channels.listen(rt, end.spot(), place);
     }
     for _ in rt.forever() {
         let seen = match awaited {
-            For::Message => channels.bell(rt, place),
-            For::Room => ask(rt, channels, end),
+            BellFor::Message => channels.bell(rt, place),
+            BellFor::Room => ask(rt, channels, end),
         };
         let at = round.load(SeqCst);
         if at >= ROUNDS || after(rt, 0) >= Some(deadline) {
@@ -96,8 +96,8 @@ pub(super) fn assert_rings<R: Clock + Threads + Wait + Abort + Sync>(
     rt: &R,
     channels: &Channels,
     ends: &mut Ends,
-    awaited: For,
-    call: Call,
+    awaited: BellFor,
+    call: EndCall,
 ) {
     let (low, high) = (&mut ends.low, &mut ends.high);
     let round = AtomicU64::new(0);
@@ -160,7 +160,7 @@ pub(super) fn assert_unheard<R: Clock + Wait + Abort>(
 #[test]
 fn no_ring_is_slept_through(rt: HostRuntime) {
     for call in [Put(1, None), Shut, Rouse, Ring] {
-        let act = Act::Rings(For::Message, call);
+        let act = Act::Rings(BellFor::Message, call);
         play(&rt, rt.alloc(), 16, Scene::Each(FREE, act, 1));
     }
 }
@@ -168,7 +168,7 @@ fn no_ring_is_slept_through(rt: HostRuntime) {
 #[test]
 fn no_room_is_slept_through(rt: HostRuntime) {
     for call in [Take, Shut, Rouse] {
-        let act = Act::Rings(For::Room, call);
+        let act = Act::Rings(BellFor::Room, call);
         play(&rt, rt.alloc(), 16, Scene::Each(FREE, act, 1));
     }
 }

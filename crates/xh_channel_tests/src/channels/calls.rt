@@ -10,7 +10,7 @@ use xh_model::limits::MAX_BLOCKS;
 /// What an end does: a put with a tag and at most one block, a take, a shut, a look at its turn, a wait there, a rouse, a ring
 /// at the peer's place, a rest of so many microseconds, looks until the turn has risen so often, at most so many puts of the tag 1, so many takes.
 #[derive(Clone, Copy)]
-pub(super) enum Call {
+pub(super) enum EndCall {
     Put(u16, Option<u16>),
     Take,
     Shut,
@@ -40,7 +40,7 @@ pub(super) const REST: u64 = 200;
 /// The number of a message that was put; its number, tag and block; the number of a refusal; the turn,
 /// or how many messages were put or taken; nothing.
 #[derive(Clone, Copy, PartialEq)]
-pub(super) enum Answer {
+pub(super) enum EndAnswer {
     Sent(u64),
     Taken(u64, u16, Option<u16>),
     Refused(u8),
@@ -48,7 +48,7 @@ pub(super) enum Answer {
     Done,
 }
 
-const NONE_WAITS: Answer = Answer::Refused(16);
+const NONE_WAITS: EndAnswer = EndAnswer::Refused(16);
 
 fn blocks_of(block: Option<u16>) -> ArrayVec<u16, MAX_BLOCKS> {
     let mut blocks = ArrayVec::new();
@@ -72,19 +72,19 @@ fn put<R: Wait>(
     end: &mut Endpoint,
     tag: u16,
     block: Option<u16>,
-) -> Answer {
+) -> EndAnswer {
     match channels.put(rt, end, tag, blocks_of(block)) {
-        Ok(no) => Answer::Sent(no),
-        Err(Unsent::Full) => Answer::Refused(14),
-        Err(Unsent::PeerClosed) => Answer::Refused(15),
-        Err(Unsent::Protocol) => Answer::Refused(22),
+        Ok(no) => EndAnswer::Sent(no),
+        Err(Unsent::Full) => EndAnswer::Refused(14),
+        Err(Unsent::PeerClosed) => EndAnswer::Refused(15),
+        Err(Unsent::Protocol) => EndAnswer::Refused(22),
     }
 }
 
-fn take<R: Wait>(rt: &R, channels: &Channels, end: &mut Endpoint) -> Answer {
+fn take<R: Wait>(rt: &R, channels: &Channels, end: &mut Endpoint) -> EndAnswer {
     match channels.take(rt, end) {
-        Ok(Message { no, tag, blocks }) => Answer::Taken(no, tag, first(&blocks)),
-        Err(refused) => Answer::Refused(xh_core::Refused::from(refused).number()),
+        Ok(Message { no, tag, blocks }) => EndAnswer::Taken(no, tag, first(&blocks)),
+        Err(refused) => EndAnswer::Refused(xh_core::Refused::from(refused).number()),
     }
 }
 
@@ -126,9 +126,9 @@ pub(super) fn put_all<R: Clock + Wait>(
         }
         let next = sent + 1;
         let answered = put(rt, channels, end, 1, block_of(next));
-        if answered == Answer::Sent(next) {
+        if answered == EndAnswer::Sent(next) {
             sent = next;
-        } else if manner != Manner::Once && answered == Answer::Refused(14) {
+        } else if manner != Manner::Once && answered == EndAnswer::Refused(14) {
             thread::yield_now();
         } else {
             break;
@@ -158,7 +158,7 @@ pub(super) fn take_all<R: Wait>(
         }
         let seen = channels.turn(rt, spot);
         let answered = take(rt, channels, end);
-        if answered == Answer::Taken(next, 1, block_of(next)) {
+        if answered == EndAnswer::Taken(next, 1, block_of(next)) {
             taken = next;
         } else if manner == Manner::Slowly && answered == NONE_WAITS {
             channels.wait(rt, spot, seen);
@@ -174,27 +174,27 @@ pub(super) fn by_end<R: Clock + Wait>(
     rt: &R,
     channels: &Channels,
     end: &mut Endpoint,
-    call: Call,
-) -> Answer {
+    call: EndCall,
+) -> EndAnswer {
     let spot = end.spot();
     match call {
-        Call::Put(tag, block) => return put(rt, channels, end, tag, block),
-        Call::Take => return take(rt, channels, end),
-        Call::Turn => return Answer::Count(channels.turn(rt, spot)),
-        Call::Puts(most, manner) => {
-            return Answer::Count(put_all(rt, channels, end, most, manner));
+        EndCall::Put(tag, block) => return put(rt, channels, end, tag, block),
+        EndCall::Take => return take(rt, channels, end),
+        EndCall::Turn => return EndAnswer::Count(channels.turn(rt, spot)),
+        EndCall::Puts(most, manner) => {
+            return EndAnswer::Count(put_all(rt, channels, end, most, manner));
         }
-        Call::Takes(most, manner) => {
-            return Answer::Count(take_all(rt, channels, end, 0, most, manner));
+        EndCall::Takes(most, manner) => {
+            return EndAnswer::Count(take_all(rt, channels, end, 0, most, manner));
         }
-        Call::Shut => channels.shut(rt, end),
-        Call::Wait(seen) => channels.wait(rt, spot, seen),
-        Call::Rouse => channels.rouse(rt, spot),
-        Call::Ring => channels.ring(rt, 1 - spot.side),
-        Call::Rest(micros) => thread::sleep(rt, Duration::from_micros(micros)),
-        Call::Follow(last) => follow(rt, channels, spot, last, false),
+        EndCall::Shut => channels.shut(rt, end),
+        EndCall::Wait(seen) => channels.wait(rt, spot, seen),
+        EndCall::Rouse => channels.rouse(rt, spot),
+        EndCall::Ring => channels.ring(rt, 1 - spot.side),
+        EndCall::Rest(micros) => thread::sleep(rt, Duration::from_micros(micros)),
+        EndCall::Follow(last) => follow(rt, channels, spot, last, false),
     }
-    Answer::Done
+    EndAnswer::Done
 }
 
 /// They are the same.
@@ -210,7 +210,7 @@ pub(super) struct Ends {
 }
 
 /// A side, a call by its end, and what is answered.
-pub(super) type Row = (u8, Call, Answer);
+pub(super) type Row = (u8, EndCall, EndAnswer);
 
 /// Does what the rows say of the sides in turn, by the end of each.
 pub(super) fn assert_rows<R: Clock + Wait + Abort>(

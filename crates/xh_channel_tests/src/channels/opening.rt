@@ -2,9 +2,9 @@
 ghost use Rattle.std.specs.Prelude.{IfOk, IfSome};
 ghost use Rattle.xh_channel.specs.Pairs.{IsPair};
 
-use super::calls::Answer::{Count, Done, Refused as No, Sent, Taken};
-use super::calls::Call::{Put, Shut, Take, Turn};
-use super::calls::{Ends, Row as Step, assert_rows, assert_same};
+use super::calls::EndAnswer::{Count, Done, Refused as No, Sent, Taken};
+use super::calls::EndCall::{Put, Shut, Take, Turn};
+use super::calls::{Ends, Row as TalkStep, assert_rows, assert_same};
 use arrayvec::ArrayVec;
 use std::process::Abort;
 use std::sync::Wait;
@@ -134,10 +134,10 @@ pub(super) enum Opening {
     LetsGo,
 }
 
-type Kept = ArrayVec<Option<Endpoint>, 128>;
+type KeptEnds = ArrayVec<Option<Endpoint>, 128>;
 
 // The number of the next channel, whose ends are kept, or nothing where none opens.
-fn keep_next<R: Wait + Abort>(rt: &R, channels: &Channels, kept: &mut Kept) -> Option<u8> {
+fn keep_next<R: Wait + Abort>(rt: &R, channels: &Channels, kept: &mut KeptEnds) -> Option<u8> {
     match opened(rt, channels, FREE) {
         Some(Ends { low, high }) => {
             let channel = low.spot().channel;
@@ -149,20 +149,26 @@ fn keep_next<R: Wait + Abort>(rt: &R, channels: &Channels, kept: &mut Kept) -> O
     }
 }
 
-fn drop_kept(kept: &mut Kept, from: usize, to: usize) {
+fn drop_kept(kept: &mut KeptEnds, from: usize, to: usize) {
     for _ in from..to {
         drop(kept.pop_at(from));
     }
 }
 
-fn hold_last(channels: &Channels, kept: &Kept) -> Option<Hold> {
+fn hold_last(channels: &Channels, kept: &KeptEnds) -> Option<Hold> {
     match kept.as_slice().last() {
         Some(Some(end)) => channels.hold(end.spot().channel),
         _ => None,
     }
 }
 
-fn assert_kept<R: Wait + Abort>(rt: &R, channels: &Channels, kept: &mut Kept, from: u8, to: u8) {
+fn assert_kept<R: Wait + Abort>(
+    rt: &R,
+    channels: &Channels,
+    kept: &mut KeptEnds,
+    from: u8,
+    to: u8,
+) {
     for channel in from..to {
         assert_same(rt, 0, keep_next(rt, channels, kept), Some(channel));
     }
@@ -170,7 +176,7 @@ fn assert_kept<R: Wait + Abort>(rt: &R, channels: &Channels, kept: &mut Kept, fr
 
 /// Channels open, are cancelled and lose their ends as the rows say.
 pub(super) fn assert_openings<R: Wait + Abort>(rt: &R, channels: &Channels, rows: &[Opening]) {
-    let mut kept = Kept::new();
+    let mut kept = KeptEnds::new();
     let mut held = None;
     for (at, row) in rows.iter().enumerate() {
         match *row {
@@ -187,7 +193,7 @@ pub(super) fn assert_openings<R: Wait + Abort>(rt: &R, channels: &Channels, rows
 }
 
 // The calls are made on the other channels, and are answered by the end's own, whose turn alone rises.
-const ON_OTHERS: &[Step] = &[
+const ON_OTHERS: &[TalkStep] = &[
     (0, Put(1, Some(7)), Sent(1)),
     (1, Take, Taken(1, 1, Some(7))),
     (0, Shut, Done),
@@ -195,7 +201,7 @@ const ON_OTHERS: &[Step] = &[
     (0, Turn, Count(0)),
 ];
 
-const ON_THEIR_OWN: &[Step] = &[(0, Turn, Count(2))];
+const ON_THEIR_OWN: &[TalkStep] = &[(0, Turn, Count(2))];
 
 /// The ends of the next channel use its own room on other channels too.
 pub(super) fn assert_own_room<R: Clock + Wait + Abort>(

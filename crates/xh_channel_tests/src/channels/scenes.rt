@@ -1,6 +1,6 @@
 //! What is done on new channels. One function makes and drops them, and one the ends that are used.
-use super::bells::{For, assert_deadlines, assert_rings, assert_unheard};
-use super::calls::{Call, Ends, Row as Step, assert_rows};
+use super::bells::{BellFor, assert_deadlines, assert_rings, assert_unheard};
+use super::calls::{EndCall, Ends, Row as TalkStep, assert_rows};
 use super::opening::{
     Opening, assert_all_open, assert_goes_back, assert_openings, assert_own_room, opened,
 };
@@ -18,10 +18,10 @@ use xh_model::Row;
 /// until a time; what nobody hears who heard the channel before.
 #[derive(Clone, Copy)]
 pub(super) enum Act {
-    Rows(&'static [Step]),
-    SideBySide(u64, &'static [Step]),
+    Rows(&'static [TalkStep]),
+    SideBySide(u64, &'static [TalkStep]),
     PutAndShut,
-    Rings(For, Call),
+    Rings(BellFor, EndCall),
     Deadlines,
     Unheard,
 }

@@ -1,6 +1,8 @@
 //! Threads at one channel: one at each end, and one asleep at its turn.
-use super::calls::Answer::{Count, Done, Refused as No, Sent, Taken};
-use super::calls::Call::{Follow, Put, Puts, Rest, Rouse, Shut, Take, Takes, Turn, Wait as WaitAt};
+use super::calls::EndAnswer::{Count, Done, Refused as No, Sent, Taken};
+use super::calls::EndCall::{
+    Follow, Put, Puts, Rest, Rouse, Shut, Take, Takes, Turn, Wait as WaitAt,
+};
 use super::calls::Manner::{Busily, Once, Promptly, Slowly};
 use super::calls::{Ends, REST, Row, assert_rows, assert_same, by_end, follow, put_all, take_all};
 use super::opening::{FREE, ONE_WAY, opened};

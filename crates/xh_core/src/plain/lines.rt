@@ -2,7 +2,7 @@
 ghost use Rattle.std.specs.Prelude.{◌≡◌, ◌+◌, ◌≤◌, All, length, map};
 ghost use Rattle.xh_model.specs.declared.limits.TheConstants.{MAX_ARENAS};
 ghost use Rattle.xh_core.specs.ArenaLines.{arena_line};
-ghost use Rattle.xh_core.specs.Wearing.{IsCarved};
+ghost use Rattle.xh_core.specs.Wearing.{IsWithinWear};
 
 use crate::ledger::{ARENA_LINES, ArenaLine};
 use crate::plain::Plain;
@@ -10,7 +10,7 @@ use arrayvec::ArrayVec;
 use xh_arena::Arena;
 
 fn arena_line(arena: &Arena) -> ArenaLine
-    requires { IsCarved arena.now }
+    requires { IsWithinWear arena.now }
     ensures line { result ≡ arena_line arena.now }
     ensures sum { result.out + result.back ≡ result.taken }
 {
@@ -27,7 +27,7 @@ fn arena_line(arena: &Arena) -> ArenaLine
 
 fn lines_of(arenas: &[Arena]) -> ArrayVec<ArenaLine, ARENA_LINES>
     requires few { length arenas.now ≤ MAX_ARENAS }
-    requires carved { All IsCarved arenas.now }
+    requires carved { All IsWithinWear arenas.now }
     ensures lines { result.items ≡ map arena_line arenas.now }
     ensures sums { All (λ line. line.out + line.back ≡ line.taken) result.items }
 {

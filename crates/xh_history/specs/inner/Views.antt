@@ -1,12 +1,12 @@
 -- What a seat knows, and the rule: there is one history a place, which the seat that writes it knows whole, of which each seat has seen a beginning, a worker one that has all of its own calls, and
 -- of which the place's word shows the last call.
-use Rattle.std.specs.Prelude.{◌≡◌, ℕ, suc, ◌-◌, ◌*◌, ◌/◌, ◌<◌, ◌≤◌, List, [], ◌∷◌, ◌++◌, length, map, replicate, slice_index, slice_set}
+use Rattle.std.specs.Prelude.{◌≡◌, ℕ, suc, ◌-◌, ◌*◌, ◌/◌, ◌<◌, ◌≤◌, List, [], ◌∷◌, ◌++◌, length, map, replicate, slice_index, slice_set, unwrap_or, Option}
 use mathlib.Core.Option.{some}
 use lib.ListN.{get_elem?}
 use Rattle.atomic_table.specs.Table.{State, Step, Me}
 use Rattle.xh_history.specs.declared.view.View.{View}
 use Rattle.xh_model.specs.declared.limits.TheConstants.{PLACES}
-use Rattle.xh_history.specs.Histories.{FrontOf, History, HasSeen, Shown, StartsWith, at, no_front}
+use Rattle.xh_history.specs.Histories.{FrontOf, History, HasSeen, IsLastShown, StartsWith, at, no_front}
 use Rattle.atomic_table.specs.Seated.{TableId}
 
 -- how many words lie from one place's word to the next's: those of a cache line, so that threads that store the words of their places don't wait for each other
@@ -18,13 +18,13 @@ abbrev pub all_words : ℕ
 all_words = 264
 
 -- the place that a word belongs to
-abbrev pub place_of : ℕ → ℕ
-place_of w = w / stride - 1
+abbrev pub place_of_word : ℕ → ℕ
+place_of_word w = w / stride - 1
 
 module _ {E : Type 0} where
   -- the seat writes the history of the place
-  abbrev pub Writes : View E → ℕ → Type 0
-  Writes v p = (v.place ≤ p) × (p < v.places_end)
+  abbrev pub WritesPlace : View E → ℕ → Type 0
+  WritesPlace v p = (v.place ≤ p) × (p < v.places_end)
 
   -- the seat has seen the places for the worker
   abbrev pub Serves : View E → ℕ → Type 0
@@ -32,8 +32,8 @@ module _ {E : Type 0} where
 
   -- what the rule says of one view, where h is the history of each place, and the seats of each place and of each worker are known
   pub record Fits (h : ℕ → History E) (writer_of server_of : ℕ → ℕ) (id : ℕ) (v : View E) : Type 0 where
-    pub whole : (p : ℕ) → Writes v p → v.history ≡ h p
-    pub writer : (p : ℕ) → Writes v p → id ≡ writer_of p
+    pub whole : (p : ℕ) → WritesPlace v p → v.history ≡ h p
+    pub writer : (p : ℕ) → WritesPlace v p → id ≡ writer_of p
     pub begun : (p : ℕ) → StartsWith (h p) (at v.fronts p)
     pub seen : (k : ℕ) → Serves v k → (p : ℕ) → HasSeen k (at v.fronts p) (h p)
     pub server : (k : ℕ) → Serves v k → id ≡ server_of k
@@ -43,10 +43,10 @@ module _ {E : Type 0} where
 
   -- each place's word shows the last call of its history
   abbrev pub AreShown : (ℕ → ℕ → E → Type 0) → (ℕ → History E) → List ℕ → Type 0
-  AreShown shows h words = (length words ≡ all_words) × ((p : ℕ) → p < PLACES → Shown shows p (h p) (slice_index words (stride * suc p)))
+  AreShown shows h words = (length words ≡ all_words) × ((p : ℕ) → p < PLACES → IsLastShown shows p (h p) (slice_index words (stride * suc p)))
 
-  abbrev pub IsKept : (ℕ → ℕ → E → Type 0) → {S : Type 0} → State S (View E) → Type 0
-  IsKept shows s = (h : ℕ → History E) × (writer_of : ℕ → ℕ) × (server_of : ℕ → ℕ) × AreShown shows h s.words × AllFit h writer_of server_of s.views
+  abbrev pub AreKeptHistories : (ℕ → ℕ → E → Type 0) → {S : Type 0} → State S (View E) → Type 0
+  AreKeptHistories shows s = (h : ℕ → History E) × (writer_of : ℕ → ℕ) × (server_of : ℕ → ℕ) × AreShown shows h s.words × AllFit h writer_of server_of s.views
 
   -- the seat of all places from p on and of all workers from k on, on which nothing was called yet
   abbrev pub view_from : ℕ → ℕ → View E
@@ -88,15 +88,19 @@ module _ {E : Type 0} where
   abbrev pub with_calls : List E → View E → View E
   with_calls es v = record v { history = v.history ++ signed v.worker es; fronts = slice_set v.fronts v.place (v.history ++ signed v.worker es) }
 
+  -- where a word shows the last call of the one history, this one, or with none the same, shows that of the other
+  abbrev pub ShowsNext : (ℕ → ℕ → E → Type 0) → ℕ → History E → History E → Option ℕ → Type 0
+  ShowsNext shows p h h' word = (n : ℕ) → IsLastShown shows p h n → IsLastShown shows p h' (unwrap_or word n)
+
   -- the calls were added, and what the worker had seen was a beginning of the history
   abbrev pub Added : List E → {S : Type 0} → Step S → Me S (View E) → ℕ → Me S (View E) → Type 0
   Added es s v n w = (w ≡ (with_calls es v.0, v.1)) × HasSeen v.0.worker (at v.0.fronts v.0.place) v.0.history
 
   -- a load: the history was seen to its end, of which the word shows the last call; a seat that writes it knows that end, and had seen all calls of a worker whom it serves
   abbrev pub Looked : (ℕ → ℕ → E → Type 0) → {S : Type 0} → Step S → Me S (View E) → ℕ → Me S (View E) → Type 0
-  Looked shows s v n w = (later : History E) × (w ≡ (record v.0 { fronts = slice_set v.0.fronts (place_of s.word) (at v.0.fronts (place_of s.word) ++ later) }, v.1))
-      × Shown shows (place_of s.word) (at v.0.fronts (place_of s.word) ++ later) n × (Writes v.0 (place_of s.word) → v.0.history ≡ at v.0.fronts (place_of s.word) ++ later)
-      × ((k : ℕ) → Serves v.0 k → HasSeen k (at v.0.fronts (place_of s.word)) (at v.0.fronts (place_of s.word) ++ later))
+  Looked shows s v n w = (later : History E) × (w ≡ (record v.0 { fronts = slice_set v.0.fronts (place_of_word s.word) (at v.0.fronts (place_of_word s.word) ++ later) }, v.1))
+      × IsLastShown shows (place_of_word s.word) (at v.0.fronts (place_of_word s.word) ++ later) n × (WritesPlace v.0 (place_of_word s.word) → v.0.history ≡ at v.0.fronts (place_of_word s.word) ++ later)
+      × ((k : ℕ) → Serves v.0 k → HasSeen k (at v.0.fronts (place_of_word s.word)) (at v.0.fronts (place_of_word s.word) ++ later))
 
   -- the seat that writes the history of this one place, and serves no worker
   pub record IsPen (number : ℕ) (v : View E) : Type 0 where

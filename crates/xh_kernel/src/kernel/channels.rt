@@ -1,12 +1,7 @@
 //! Channels are opened, for one process or between two.
-ghost use Rattle.std.specs.Prelude.{◌*◌, ◌<◌, IfOk, None, Some, ℕ};
-ghost use Rattle.xh_calls.specs.declared.call.Call.TheVariants as call;
-ghost use Rattle.xh_calls.specs.Wires.{ClosesAgain, OpensToward, ReceivesOr, toward_high};
-ghost use Rattle.xh_kernel.specs.Accounts.{VaultRefuses};
-ghost use Rattle.xh_kernel.specs.Calls.{Calls};
-ghost use Rattle.xh_kernel.specs.Wires.{HandsOver, OpensBoth, Wires};
-ghost use Rattle.xh_model.specs.Words.{place_of};
-ghost use Rattle.xh_model.specs.declared.limits.TheConstants.{CHANNELS, END_BYTES};
+ghost use Rattle.std.specs.Prelude.{◌<◌, IfOk, None, Some};
+ghost use Rattle.xh_kernel.specs.Wires.{ClosesOne, HandsOver, OpensBoth, OpensOne, ReceivesOne, Wires};
+ghost use Rattle.xh_model.specs.declared.limits.TheConstants.{CHANNELS};
 ghost use Rattle.xh_records.specs.Seats.{IsRecord};
 
 use crate::account::Account;
@@ -140,8 +135,7 @@ impl<N: Names> Kernel<N> {
         account: &mut Account<N>,
         gate: &G,
     ) -> Result<Wired, Refused>
-        ensures call { Calls N.leads (place_of p) (call.OpenToward p arena contract result) (λ old new. OpensToward N.parts p arena contract old new result) account.old account.new }
-        ensures vault { VaultRefuses N.parts arena (2 * END_BYTES) account.old account.new result }
+        ensures call { OpensOne N.parts N.leads p arena contract account.old account.new result }
         ensures exists { IfOk result (λ w. IsRecord N.parts.records.shape w.high.rec) }
     {
         let mut guard = self.held(rt, p);
@@ -186,7 +180,7 @@ impl<N: Names> Kernel<N> {
         gate: &G,
     ) -> Result<Block, Refused>
         requires { IsRecord N.parts.records.shape r × (channel < CHANNELS) }
-        ensures { (bytes : ℕ) × Calls N.leads (place_of q) (call.Receive q r channel bytes result) (λ old new. ReceivesOr q (toward_high channel) r bytes old new result) account.old account.new }
+        ensures { ReceivesOne N.leads q r channel account.old account.new result }
     {
         let mut guard = self.held(rt, q);
         let held: &mut Held<N> = &mut guard;
@@ -207,8 +201,7 @@ impl<N: Names> Kernel<N> {
         account: &mut Account<N>,
         gate: &G,
     )
-        ensures { (bytes : ℕ) × Calls N.leads (place_of p) (call.CloseAgain p wired.now.low.rec wired.now.channel bytes)
-            (λ old new. ClosesAgain p wired.now.channel wired.now.low.rec old new bytes) account.old account.new }
+        ensures { ClosesOne N.leads p wired.now account.old account.new }
     {
         let mut guard = self.held(rt, p);
         let held: &mut Held<N> = &mut guard;

@@ -1,6 +1,7 @@
 //! The ends of endpoints and of processes.
 ghost use Rattle.xh_calls.specs.declared.call.Call.TheVariants as call;
 ghost use Rattle.xh_calls.specs.Calls.{Looks};
+ghost use Rattle.xh_kernel.specs.Accounts.{IsStill};
 ghost use Rattle.xh_kernel.specs.Calls.{Calls};
 ghost use Rattle.xh_kernel.specs.Did.{DidClose};
 ghost use Rattle.xh_kernel.specs.Endings.{Exits, Kills};
@@ -92,7 +93,7 @@ impl<N: Names> Kernel<N> {
         p: u16,
         account: &mut Account<N>,
     ) -> Result<(), Refused>
-        ensures { Calls N.leads (place_of p) (call.Look p result) (λ old new. Looks p old new result) account.old account.new }
+        ensures { Calls N.leads (place_of p) (call.Look p result) IsStill (λ old new. Looks p old new result) account.old account.new }
     {
         let mut guard = self.held(rt, p);
         let held: &mut Held<N> = &mut guard;

@@ -10,7 +10,7 @@ use crate::overview::Awaited;
 use crate::until::{Never, Until};
 use std::sync::Wait;
 use std::time::{Clock, Instant};
-use xh_calls::{Answered, Names};
+use xh_calls::{AnsweredAt, Names};
 use xh_core::Refused;
 use xh_place::{Gate, Taken};
 
@@ -110,7 +110,7 @@ impl<N: Names> Kernel<N> {
         ends: &[u16],
         account: &mut Account<N>,
         gate: &G,
-    ) -> Result<Answered, Refused>
+    ) -> Result<AnsweredAt, Refused>
         ensures { DidTakeAny N.leads p ends.now result account.old account.new }
     {
         let mut held = self.held(rt, p);
@@ -129,7 +129,7 @@ impl<N: Names> Kernel<N> {
         ends: &[u16],
         account: &mut Account<N>,
         gate: &G,
-    ) -> Result<Answered, Refused>
+    ) -> Result<AnsweredAt, Refused>
         ensures calls { AtLast (DidTakeAny N.leads p ends.now) (Err refused.Empty) result account.old account.new }
         ensures waits { IfErr result (λ why. why ≡ refused.Empty → ends.now ≡ []) }
     {
@@ -148,7 +148,7 @@ impl<N: Names> Kernel<N> {
         deadline: Instant,
         account: &mut Account<N>,
         gate: &G,
-    ) -> Result<Answered, Refused>
+    ) -> Result<AnsweredAt, Refused>
         ensures { AtLast (DidTakeAny N.leads p ends.now) (Err refused.Empty) result account.old account.new }
     {
         self.take_any_until(rt, p, ends, &deadline, account, gate)
@@ -235,7 +235,7 @@ impl<N: Names> Kernel<N> {
         until: &U,
         account: &mut Account<N>,
         gate: &G,
-    ) -> Result<Answered, Refused>
+    ) -> Result<AnsweredAt, Refused>
         ensures calls { AtLast (DidTakeAny N.leads p ends.now) (Err refused.Empty) result account.old account.new }
         ensures waits { U.never ≡ true → IfErr result (λ why. why ≡ refused.Empty → ends.now ≡ []) }
     {

@@ -11,7 +11,7 @@ use Rattle.xh_place.specs.declared.body.Body.TheVariants.{End}
 use Rattle.xh_core.specs.declared.header.Kind.TheVariants as kind
 use Rattle.xh_place.specs.Bodies.{content_of, fits_in, front, kind_of, rest}
 use Rattle.xh_place.specs.Events.{claimed, let_go}
-use Rattle.xh_place.specs.Places.{IsBlock, IsWhole, Item}
+use Rattle.xh_place.specs.Places.{IsBlock, IsWholeItem, Item}
 use Rattle.xh_place.specs.Seen.{Did, SawFull}
 
 -- a seat, of which it doesn't count what it has seen
@@ -39,17 +39,17 @@ IsData l = (kind_of (content_of l.body) ≡ kind.Data) × (fits_in l.body l.len 
 
 -- what a whole block carries
 abbrev pub IsBodyOf : Body → Item → Type 0
-IsBodyOf body x = (content_of body ≡ x.content) × IsWhole x
+IsBodyOf body x = (content_of body ≡ x.content) × IsWholeItem x
 
 -- the lot l of the record r keeps its first k bytes, and those past them are in a record t of the same arena that the seat didn't hold
-abbrev pub IsCut : Held Body → Held Body → ℕ → ℕ → LotOf Body → ℕ → Type 0
-IsCut old new r k l t = (h m : LotOf Body) × (Among (keys old.lots) t → ⊥) × Acts (claimed old.process (t ∷ [])) (put r h old.lots ++ (t, m) ∷ []) old new
+abbrev pub CutsLot : Held Body → Held Body → ℕ → ℕ → LotOf Body → ℕ → Type 0
+CutsLot old new r k l t = (h m : LotOf Body) × (Among (keys old.lots) t → ⊥) × Acts (claimed old.process (t ∷ [])) (put r h old.lots ++ (t, m) ∷ []) old new
     × IsBlock old.shape r h × IsBlock old.shape t m × (h.len ≡ k) × (h.len + m.len ≡ l.len)
     × (content_of h.body ≡ front k (content_of l.body)) × (content_of m.body ≡ rest k (content_of l.body)) × (t / MAX_RECORDS ≡ r / MAX_RECORDS)
 
 -- an endpoint's lot
-abbrev pub IsEnd : LotOf Body → Type 0
-IsEnd l = kind_of (content_of l.body) ≡ kind.End
+abbrev pub IsEndLot : LotOf Body → Type 0
+IsEndLot l = kind_of (content_of l.body) ≡ kind.End
 
 -- the lot's endpoint became another, as `does` says
 pub record LotDoes (does : EndpointOf → EndpointOf → Type 0) (old new : LotOf Body) : Type 0 where

@@ -9,7 +9,7 @@ ghost use Rattle.xh_core.specs.Statuses.{is_over};
 ghost use Rattle.xh_model.specs.Keyed.{Among, Distinct, value_at};
 ghost use Rattle.xh_model.specs.declared.limits.TheConstants.{DIRECTIONS, MAX_BLOCKS};
 ghost use Rattle.xh_place.specs.Bodies.{IsEndAt};
-ghost use Rattle.xh_place.specs.Endpoints.{AreGot, record_of};
+ghost use Rattle.xh_place.specs.Endpoints.{AreGot, record_got};
 ghost use Rattle.xh_place.specs.Ends.{EndDoes};
 ghost use Rattle.xh_place.specs.Messages.{Gives, IsSent, IsTaken, IsUntaken, TakesAt};
 ghost use Rattle.xh_place.specs.Places.{Item, IsPlaceOf, found};
@@ -189,7 +189,7 @@ impl Place {
         requires own { IsPlaceOf records.now self.old.place × IsRecord records.now.shape r × (direction < DIRECTIONS) }
         requires alive { is_over self.old.place.state ≢ true }
         ensures place { IsSamePlace self.old self.new }
-        ensures record { record_of result ≡ r }
+        ensures record { record_got result ≡ r }
         ensures got { Comes self.old self.new direction r result }
     {
         match accept_block(records, &mut self.seat, r, direction) {
@@ -208,7 +208,7 @@ impl Place {
         requires alive { is_over self.old.place.state ≢ true }
         ensures place { IsSamePlace self.old self.new }
         ensures got { (ys : List (ℕ × Item)) × Gains direction ys self.old self.new × AreGot (IsSeen self.old self.new) direction ys (result ∷ []) }
-        ensures record { record_of result ≡ r }
+        ensures record { record_got result ≡ r }
     {
         if !records.has(r) {
             return Got::Missing { rec: r, word: 0 };
@@ -229,7 +229,7 @@ impl Place {
         requires empty { got.old.items ≡ [] }
         ensures place { IsSamePlace self.old self.new }
         ensures got { (ys : List (ℕ × Item)) × Gains direction ys self.old self.new × AreGot (IsSeen self.old self.new) direction ys got.new.items }
-        ensures records { map record_of got.new.items ≡ message.now.blocks.items }
+        ensures records { map record_got got.new.items ≡ message.now.blocks.items }
     {
         for k in 0..message.blocks.len() {
             let r = message.blocks[k];

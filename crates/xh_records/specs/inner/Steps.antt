@@ -39,16 +39,16 @@ module _ {B : Type 0} where
 
   -- a compare that takes the record's lot, which is as it has to be at home, where it found the word that it wants, and is a deed, after which all that the view has seen accepted is as it was
   -- passed; else it is a look
-  abbrev pub took : (B → ℕ → Bool) → Step (Option (LotOf B)) → Me (Option (LotOf B)) (View B) → ℕ → Me (Option (LotOf B)) (View B) → Type 0
-  took fits st me n me' =
+  abbrev pub took_slot : (B → ℕ → Bool) → Step (Option (LotOf B)) → Me (Option (LotOf B)) (View B) → ℕ → Me (Option (LotOf B)) (View B) → Type 0
+  took_slot fits st me n me' =
       (n ≡ st.first → (l : LotOf B) × (others : List (Deed B)) × IsOthers me.0 others
       × ((h : Option Holder) → st.first ≡ word_of h → (me' ≡ (gained me.0 st.word (process_in me.0) h l others, (st.word, Some l) ∷ me.1)) × IsHomeLot fits h l)
       × IsLotAt me.0.shape st.word l × ((p : ℕ) → Owns me.0 st.word p → ⊥) × Arrives (front_in me'.0))
       × (n ≢ st.first → looked st me n me')
 
   -- a store that gives the lot back, and is a deed
-  abbrev pub gave : Step (Option (LotOf B)) → Me (Option (LotOf B)) (View B) → ℕ → Me (Option (LotOf B)) (View B) → Type 0
-  gave st me n me' = (others : List (Deed B)) × IsOthers me.0 others × ((h : Option Holder) (l : LotOf B) → st.first ≡ word_of h → me.1 ≡ (st.word, Some l) ∷ rest me.1
+  abbrev pub gave_slot : Step (Option (LotOf B)) → Me (Option (LotOf B)) (View B) → ℕ → Me (Option (LotOf B)) (View B) → Type 0
+  gave_slot st me n me' = (others : List (Deed B)) × IsOthers me.0 others × ((h : Option Holder) (l : LotOf B) → st.first ≡ word_of h → me.1 ≡ (st.word, Some l) ∷ rest me.1
       → me' ≡ (lost me.0 st.word (process_in me.0) h l others, rest me.1))
 
   -- a load by a seat that was told what another had seen: of two fronts one is a beginning of the other. It forgets the second

@@ -39,12 +39,12 @@ abbrev pub spent : {B : Type 0} → View B
 spent = record { shape = no_shape; processes = []; records = []; fronts = [] }
 
 -- the front of a view that stands for one place, and more in it
-abbrev pub first_of : {X : Type 0} → List (ℕ × List X) → List X
-first_of [] = []
-first_of (x ∷ xs) = x.1
+abbrev pub first_history : {X : Type 0} → List (ℕ × List X) → List X
+first_history [] = []
+first_history (x ∷ xs) = x.1
 
 abbrev pub front_in : {B : Type 0} → View B → List (Deed B)
-front_in v = first_of v.fronts
+front_in v = first_history v.fronts
 
 abbrev pub adds : {X : Type 0} → List X → List (ℕ × List X) → List (ℕ × List X)
 adds es [] = []

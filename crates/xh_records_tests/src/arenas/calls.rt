@@ -1,5 +1,5 @@
 //! Calls on an arena, and what they answer.
-use crate::answers::{Answer, assert_answer, of_run, of_start};
+use crate::answers::{TableAnswer, assert_answer, of_run, of_start};
 use std::alloc::Global;
 use std::process::Abort;
 use xh_arena::Arena;
@@ -19,59 +19,59 @@ pub enum Call {
 }
 
 /// Where the bytes of the record are.
-fn extent(arena: &Arena, r: u16) -> Answer {
+fn extent(arena: &Arena, r: u16) -> TableAnswer {
     if r < arena.records() {
         of_run(arena.extent(r))
     } else {
-        Answer::Unfit
+        TableAnswer::Unfit
     }
 }
 
-fn carved(arena: &mut Arena, r: u16, n: u32) -> Answer {
+fn carved(arena: &mut Arena, r: u16, n: u32) -> TableAnswer {
     if r >= arena.records() || arena.extent(r).is_some() || n == 0 || n % 16 != 0 {
-        return Answer::Unfit;
+        return TableAnswer::Unfit;
     }
     of_start(arena.carve(r, n))
 }
 
-fn cut(arena: &mut Arena, r: u16, t: u16, k: u32) -> Answer {
+fn cut(arena: &mut Arena, r: u16, t: u16, k: u32) -> TableAnswer {
     if r >= arena.records() || t >= arena.records() || t == r || arena.extent(t).is_some() {
-        return Answer::Unfit;
+        return TableAnswer::Unfit;
     }
     match arena.cut(r, t, k) {
-        Ok(()) => Answer::Nothing,
-        Err(refused) => Answer::No(refused),
+        Ok(()) => TableAnswer::Nothing,
+        Err(refused) => TableAnswer::No(refused),
     }
 }
 
-fn given_back(arena: &mut Arena, r: u16) -> Answer {
+fn given_back(arena: &mut Arena, r: u16) -> TableAnswer {
     if r >= arena.records() {
-        return Answer::Unfit;
+        return TableAnswer::Unfit;
     }
     match arena.extent(r) {
         Some((_, length)) if length != 0 => {
             arena.give_back(r);
-            Answer::Nothing
+            TableAnswer::Nothing
         }
-        _ => Answer::Unfit,
+        _ => TableAnswer::Unfit,
     }
 }
 
-fn answer_of(arena: &mut Arena, call: Call) -> Answer {
+fn answer_of(arena: &mut Arena, call: Call) -> TableAnswer {
     match call {
         Call::Carve(r, n) => carved(arena, r, n),
         Call::Cut(r, t, k) => cut(arena, r, t, k),
         Call::GiveBack(r) => given_back(arena, r),
         Call::Extent(r) => extent(arena, r),
         Call::Hole(at) => of_run(arena.holes().get(at).copied()),
-        Call::Size => Answer::Number(u64::from(arena.size())),
-        Call::Records => Answer::Number(u64::from(arena.records())),
-        Call::Books => Answer::Bytes(arena.wear(), u64::from(arena.handed_out())),
+        Call::Size => TableAnswer::Number(u64::from(arena.size())),
+        Call::Records => TableAnswer::Number(u64::from(arena.records())),
+        Call::Books => TableAnswer::Bytes(arena.wear(), u64::from(arena.handed_out())),
     }
 }
 
 /// Makes each call, and compares what it answers.
-pub fn assert_answers(rt: &impl Abort, arena: &mut Arena, calls: &[(Call, Answer)]) {
+pub fn assert_answers(rt: &impl Abort, arena: &mut Arena, calls: &[(Call, TableAnswer)]) {
     for (at, (call, expected)) in calls.iter().enumerate() {
         let answered = answer_of(arena, *call);
         assert_answer(rt, at, answered, *expected);
@@ -85,7 +85,7 @@ pub fn assert_on(
     size: u32,
     records: u16,
     wear: u64,
-    calls: &[(Call, Answer)],
+    calls: &[(Call, TableAnswer)],
 ) {
     let mut arena = Arena::new(alloc, size, records, wear).expect(rt, "room");
     assert_answers(rt, &mut arena, calls);

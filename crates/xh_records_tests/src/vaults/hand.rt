@@ -2,7 +2,7 @@
 ghost use Rattle.std.specs.Prelude.{◌≡◌};
 
 use super::Any;
-use crate::answers::{Answer, assert_answer, of_run, of_start};
+use crate::answers::{TableAnswer, assert_answer, of_run, of_start};
 use crate::records::first_two;
 use std::alloc::Global;
 use std::process::Abort;
@@ -10,7 +10,7 @@ use xh_arena::{Fits, Lot, Refused, Tally, Vault};
 
 /// A vault with its first two lots, one for each of two workers, and their tallies.
 #[derive(Drop)]
-pub struct Hand {
+pub struct VaultHand {
     pub vault: Vault,
     pub first: Lot<Any>,
     pub second: Lot<Any>,
@@ -39,11 +39,11 @@ pub enum Call {
 }
 
 /// A vault of 64 bytes that may hand out 80, for 4 records and 2 workers.
-pub fn made(alloc: Global) -> Result<Hand, Refused> {
+pub fn made(alloc: Global) -> Result<VaultHand, Refused> {
     let (vault, lots, tallies) = Vault::new::<Any>(alloc, 64, 4, 80, 2)?;
     let (first, second) = first_two(lots);
     let (one, two) = first_two(tallies);
-    Ok(Hand {
+    Ok(VaultHand {
         vault,
         first,
         second,
@@ -53,62 +53,62 @@ pub fn made(alloc: Global) -> Result<Hand, Refused> {
 }
 
 /// The same, where there is memory.
-pub fn dealt(rt: &impl Abort, alloc: Global) -> Hand {
+pub fn dealt(rt: &impl Abort, alloc: Global) -> VaultHand {
     made(alloc).expect(rt, "no vault")
 }
 
-fn carved(vault: &mut Vault, lot: &mut Lot<Any>, tally: &mut Tally, n: u32) -> Answer
+fn carved(vault: &mut Vault, lot: &mut Lot<Any>, tally: &mut Tally, n: u32) -> TableAnswer
     requires ids { (lot.old.id ≡ vault.old.id) × (tally.old.id ≡ vault.old.id) }
     ensures ids { (vault.new.id ≡ vault.old.id) × (lot.new.id ≡ lot.old.id) × (tally.new.id ≡ tally.old.id) }
 {
     if lot.len() != 0 || n == 0 || n % 16 != 0 {
-        return Answer::Unfit;
+        return TableAnswer::Unfit;
     }
     of_start(vault.carve(lot, tally, n))
 }
 
-fn cut(vault: &mut Vault, head: &mut Lot<Any>, tail: &mut Lot<Any>, k: u32) -> Answer
+fn cut(vault: &mut Vault, head: &mut Lot<Any>, tail: &mut Lot<Any>, k: u32) -> TableAnswer
     requires ids { (head.old.id ≡ vault.old.id) × (tail.old.id ≡ vault.old.id) }
     ensures ids { (vault.new.id ≡ vault.old.id) × (head.new.id ≡ head.old.id) × (tail.new.id ≡ tail.old.id) }
 {
     if tail.len() != 0 || k == 0 || k % 16 != 0 || k >= head.len() {
-        return Answer::Unfit;
+        return TableAnswer::Unfit;
     }
     vault.cut(head, tail, k);
-    Answer::Nothing
+    TableAnswer::Nothing
 }
 
-fn given_back(vault: &mut Vault, lot: &mut Lot<Any>, tally: &mut Tally) -> Answer
+fn given_back(vault: &mut Vault, lot: &mut Lot<Any>, tally: &mut Tally) -> TableAnswer
     requires ids { (lot.old.id ≡ vault.old.id) × (tally.old.id ≡ vault.old.id) }
     ensures ids { (vault.new.id ≡ vault.old.id) × (lot.new.id ≡ lot.old.id) × (tally.new.id ≡ tally.old.id) }
 {
     if lot.len() == 0 {
-        return Answer::Unfit;
+        return TableAnswer::Unfit;
     }
     vault.give_back(lot, tally);
-    Answer::Nothing
+    TableAnswer::Nothing
 }
 
-fn audited(vault: &mut Vault, lot: &mut Lot<Any>) -> Answer
+fn audited(vault: &mut Vault, lot: &mut Lot<Any>) -> TableAnswer
     requires { lot.old.id ≡ vault.old.id }
     ensures { (vault.new.id ≡ vault.old.id) × (lot.new.id ≡ lot.old.id) }
 {
     vault.audit(lot);
-    Answer::Has(lot.record(), vault.extent(lot.record()), lot.len())
+    TableAnswer::Has(lot.record(), vault.extent(lot.record()), lot.len())
 }
 
-fn marked(lot: &mut Lot<Any>, seen: u32) -> Answer
+fn marked(lot: &mut Lot<Any>, seen: u32) -> TableAnswer
     ensures { lot.new.id ≡ lot.old.id }
 {
     lot.body_mut().seen = seen;
-    Answer::Nothing
+    TableAnswer::Nothing
 }
 
-fn seen(lot: &Lot<Any>, len: u32) -> Answer {
+fn seen(lot: &Lot<Any>, len: u32) -> TableAnswer {
     if lot.body().fits(len) {
-        Answer::Number(u64::from(lot.body().seen))
+        TableAnswer::Number(u64::from(lot.body().seen))
     } else {
-        Answer::Unfit
+        TableAnswer::Unfit
     }
 }
 
@@ -118,7 +118,7 @@ fn answer_of(
     other: &mut Lot<Any>,
     tally: &mut Tally,
     call: Call,
-) -> Answer
+) -> TableAnswer
     requires ids { (lot.old.id ≡ vault.old.id) × (other.old.id ≡ vault.old.id) × (tally.old.id ≡ vault.old.id) }
     ensures ids { (vault.new.id ≡ vault.old.id) × (lot.new.id ≡ lot.old.id) × (other.new.id ≡ other.old.id) × (tally.new.id ≡ tally.old.id) }
 {
@@ -127,19 +127,19 @@ fn answer_of(
         Call::Cut(k) => cut(vault, lot, other, k),
         Call::GiveBack => given_back(vault, lot, tally),
         Call::Audit => audited(vault, lot),
-        Call::Moved => Answer::Bytes(tally.taken(), tally.back()),
+        Call::Moved => TableAnswer::Bytes(tally.taken(), tally.back()),
         Call::Hole(at) => of_run(vault.holes().get(at).copied()),
-        Call::Size => Answer::Number(u64::from(vault.size())),
-        Call::Records => Answer::Number(u64::from(vault.records())),
+        Call::Size => TableAnswer::Number(u64::from(vault.size())),
+        Call::Records => TableAnswer::Number(u64::from(vault.records())),
         Call::Mark(seen) => marked(lot, seen),
         Call::Sees(len) => seen(lot, len),
-        Call::Books => Answer::Bytes(vault.wear(), u64::from(vault.handed_out())),
+        Call::Books => TableAnswer::Bytes(vault.wear(), u64::from(vault.handed_out())),
     }
 }
 
 /// What a call by a worker answers, of the two.
-fn by_worker(hand: &mut Hand, worker: u8, call: Call) -> Answer {
-    let Hand {
+fn by_worker(hand: &mut VaultHand, worker: u8, call: Call) -> TableAnswer {
+    let VaultHand {
         vault,
         first,
         second,
@@ -154,7 +154,7 @@ fn by_worker(hand: &mut Hand, worker: u8, call: Call) -> Answer {
 }
 
 /// Makes each call by its worker, 0 or 1, and compares what it answers.
-pub fn assert_answers(rt: &impl Abort, hand: &mut Hand, calls: &[(u8, Call, Answer)]) {
+pub fn assert_answers(rt: &impl Abort, hand: &mut VaultHand, calls: &[(u8, Call, TableAnswer)]) {
     for (at, (worker, call, expected)) in calls.iter().enumerate() {
         let answered = by_worker(hand, *worker, *call);
         assert_answer(rt, at, answered, *expected);
@@ -162,14 +162,14 @@ pub fn assert_answers(rt: &impl Abort, hand: &mut Hand, calls: &[(u8, Call, Answ
 }
 
 /// Makes each call on a new vault, and compares what it answers.
-pub fn assert_on(rt: &impl Abort, alloc: Global, calls: &[(u8, Call, Answer)]) {
+pub fn assert_on(rt: &impl Abort, alloc: Global, calls: &[(u8, Call, TableAnswer)]) {
     let mut hand = dealt(rt, alloc);
     assert_answers(rt, &mut hand, calls);
 }
 
 /// Takes both tallies in.
-pub fn collect(hand: Hand) {
-    let Hand {
+pub fn collect(hand: VaultHand) {
+    let VaultHand {
         mut vault,
         one,
         two,

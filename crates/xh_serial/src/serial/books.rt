@@ -3,7 +3,7 @@ ghost use Rattle.std.specs.Prelude.{◌≡◌, ◌+◌, ◌<◌, ◌≤◌, ◌*
 ghost use Rattle.std.specs.List.{sum_by};
 ghost use Rattle.xh_core.specs.Statuses.{is_vacant};
 ghost use Rattle.xh_serial.specs.Machine.{no_place};
-ghost use Rattle.xh_serial.specs.PlaceCommands.{glance_of, ledger_of, place_lines, total};
+ghost use Rattle.xh_serial.specs.PlaceCommands.{serial_glance, ledger_of, serial_places, total};
 ghost use Rattle.xh_model.specs.declared.limits.TheConstants.{MAX_HELD, PLACES};
 
 use crate::place::number;
@@ -37,7 +37,7 @@ impl Serial {
     /// A look at a place.
     pub(super) fn glance_at(&self, at: usize) -> Glance
         requires { at < PLACES }
-        ensures { result ≡ glance_of at (slice_index_or self.now.places at no_place) self.now.store }
+        ensures { result ≡ serial_glance at (slice_index_or self.now.places at no_place) self.now.store }
     {
         let place = self.places.at(at);
         Glance {
@@ -61,7 +61,7 @@ impl Serial {
 
     /// A line for each place that was ever used.
     fn place_lines(&self) -> ArrayVec<PlaceLine, PLACE_LINES>
-        ensures lines { result.items ≡ place_lines self.now.store 0 self.now.places }
+        ensures lines { result.items ≡ serial_places self.now.store 0 self.now.places }
         ensures places { All (λ line. line.place < PLACES) result.items }
     {
         let mut lines = ArrayVec::new();

@@ -1,7 +1,7 @@
 //! Channels are opened, for one process or between two.
 ghost use Rattle.std.specs.Prelude.{◌≡◌, ◌+◌, ◌*◌, ◌<◌, Some, None, length};
 ghost use Rattle.xh_serial.specs.ChannelCommands.{open_channel, wire_channel, wire_heads};
-ghost use Rattle.xh_serial.specs.MessageCommands.{AreOrderly};
+ghost use Rattle.xh_serial.specs.MessageCommands.{HasOrderlyLines};
 ghost use Rattle.xh_serial.specs.Commands.{IsRunning};
 ghost use Rattle.xh_core.specs.Refusing.{Tested};
 ghost use Rattle.xh_model.specs.declared.limits.TheConstants.{CHANNELS};
@@ -35,7 +35,7 @@ impl Serial {
         contract: Option<Contract>,
     ) -> Result<(Block, Block), Refused>
         ensures is { wire_channel p q arena contract self.old ≡ (result, self.new) }
-        ensures orderly { AreOrderly self.new }
+        ensures orderly { HasOrderlyLines self.new }
     {
         self.check_wire(p, q, arena)?;
         let (r, t) = self.plain.allocate_ends(p, arena)?;
@@ -63,7 +63,7 @@ impl Serial {
     #[tactic(auto, using(crate::proofs::Opening::same_process))]
     pub fn open(&mut self, p: u16, arena: u32) -> Result<(Block, Block), Refused>
         ensures is { open_channel p arena None self.old ≡ (result, self.new) }
-        ensures orderly { AreOrderly self.new }
+        ensures orderly { HasOrderlyLines self.new }
     {
         self.connect(p, p, arena, None)
     }
@@ -77,7 +77,7 @@ impl Serial {
         contract: Contract,
     ) -> Result<(Block, Block), Refused>
         ensures is { open_channel p arena (Some contract) self.old ≡ (result, self.new) }
-        ensures orderly { AreOrderly self.new }
+        ensures orderly { HasOrderlyLines self.new }
     {
         self.connect(p, p, arena, Some(contract))
     }
@@ -86,7 +86,7 @@ impl Serial {
     /// `p`, the same of `q`, and then as `open`. With `p` and `q` the same it is `open`.
     pub fn wire(&mut self, p: u16, q: u16, arena: u32) -> Result<(Block, Block), Refused>
         ensures is { wire_channel p q arena None self.old ≡ (result, self.new) }
-        ensures orderly { AreOrderly self.new }
+        ensures orderly { HasOrderlyLines self.new }
     {
         self.connect(p, q, arena, None)
     }
@@ -100,7 +100,7 @@ impl Serial {
         contract: Contract,
     ) -> Result<(Block, Block), Refused>
         ensures is { wire_channel p q arena (Some contract) self.old ≡ (result, self.new) }
-        ensures orderly { AreOrderly self.new }
+        ensures orderly { HasOrderlyLines self.new }
     {
         self.connect(p, q, arena, Some(contract))
     }

@@ -3,8 +3,8 @@ ghost use Rattle.std.specs.Prelude.{◌≡◌, ◌*◌, ◌<◌, Some, None, tru
 ghost use Rattle.std.specs.List.{list_all};
 ghost use Rattle.xh_model.specs.declared.event.Holder.TheVariants.{Process};
 ghost use Rattle.xh_model.specs.Store.{holds};
-ghost use Rattle.xh_serial.specs.Machine.{end_of, is_current, status_at};
-ghost use Rattle.xh_serial.specs.Commands.{found, IsRunning};
+ghost use Rattle.xh_serial.specs.Machine.{end_of, is_current, serial_status};
+ghost use Rattle.xh_serial.specs.Commands.{header_found, IsRunning};
 ghost use Rattle.xh_core.specs.Calls.{data_tests, end_tests, start, stop};
 ghost use Rattle.xh_core.specs.Refusing.{Tested};
 ghost use Rattle.xh_serial.specs.BlockCommands.{free_refusals};
@@ -23,14 +23,14 @@ use xh_model::limits::MAX_BLOCKS;
 impl Serial {
     /// NoProcess and Ended: the process is none, or does not run.
     pub(super) fn check_start(&self, p: u16) -> Result<(), Refused>
-        ensures { Tested (start (status_at self.now p)) result (λ _. IsRunning self.now p) }
+        ensures { Tested (start (serial_status self.now p)) result (λ _. IsRunning self.now p) }
     {
         self.places.status(p).check_start()
     }
 
     /// NoProcess and Ended: the process is none, or has ended.
     pub(super) fn check_stop(&self, p: u16) -> Result<(), Refused>
-        ensures { Tested (stop (status_at self.now p)) result (λ _. is_current self.now p ≡ true) }
+        ensures { Tested (stop (serial_status self.now p)) result (λ _. is_current self.now p ≡ true) }
     {
         self.places.status(p).check_stop()
     }
@@ -45,7 +45,7 @@ impl Serial {
 
     /// NotOwned and NotEndpoint, or the direction toward the endpoint `e` of `p`.
     pub(super) fn check_end(&self, p: u16, e: u16) -> Result<u8, Refused>
-        ensures { Tested (end_tests (found self.now p e)) result (λ d. (holds self.now.store (Process p) e ≡ true) × (end_of self.now e ≡ Some d) × (d < 2 * self.now.opened)) }
+        ensures { Tested (end_tests (header_found self.now p e)) result (λ d. (holds self.now.store (Process p) e ≡ true) × (end_of self.now e ≡ Some d) × (d < 2 * self.now.opened)) }
     {
         if !self.plain.holds(Holder::Process(p), e) {
             return Err(Refused::NotOwned);
@@ -58,7 +58,7 @@ impl Serial {
 
     /// NotOwned and NotData of a block.
     pub(super) fn check_data(&self, p: u16, r: u16) -> Result<(), Refused>
-        ensures { Tested (data_tests (found self.now p r)) result (λ _. (holds self.now.store (Process p) r ≡ true) × (end_of self.now r ≡ None)) }
+        ensures { Tested (data_tests (header_found self.now p r)) result (λ _. (holds self.now.store (Process p) r ≡ true) × (end_of self.now r ≡ None)) }
     {
         if !self.plain.holds(Holder::Process(p), r) {
             return Err(Refused::NotOwned);

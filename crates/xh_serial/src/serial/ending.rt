@@ -5,11 +5,11 @@ ghost use Rattle.xh_model.specs.Store.{holds};
 ghost use Rattle.xh_model.specs.declared.event.Holder.TheVariants.{Process};
 ghost use Rattle.xh_model.specs.declared.limits.TheConstants.{MAX_BUDGET};
 ghost use Rattle.xh_core.specs.Statuses.{is_over};
-ghost use Rattle.xh_serial.specs.Machine.{arriving, blocks, is_current, place, restated, status_at};
+ghost use Rattle.xh_serial.specs.Machine.{arriving, blocks, is_current, place, restated, serial_status};
 ghost use Rattle.xh_core.specs.Calls.{stop};
 ghost use Rattle.xh_core.specs.Refusing.{first_refusal};
 ghost use Rattle.xh_serial.specs.Commands.{IsRunning};
-ghost use Rattle.xh_serial.specs.Sweeping.{Sweeps};
+ghost use Rattle.xh_serial.specs.Sweeping.{SweepsOver};
 ghost use Rattle.xh_serial.specs.EndingCommands.{close, exit, kill, kill_refusals, moved_last, stop_answer, stopped};
 
 use crate::serial::Serial;
@@ -31,7 +31,7 @@ impl Serial {
         requires { is_current self.old p ≡ true }
         ensures is { stop_answer p self.old (stopped p budget self.old) ≡ (result, self.new) }
         ensures frees { IsOk result → Frees (arriving self.old) self.old.store self.new.store (blocks self.old p) }
-        ensures bound { Sweeps p 0 budget self.old self.new }
+        ensures bound { SweepsOver p 0 budget self.old self.new }
     {
         let _start = &self.plain;
         self.set_status(p, Status::Ending);
@@ -54,7 +54,7 @@ impl Serial {
     pub fn exit(&mut self, p: u16, budget: u32) -> Result<u64, Refused>
         ensures is { exit p budget self.old ≡ (result, self.new) }
         ensures frees { IsOk result → Frees (arriving self.old) self.old.store self.new.store (blocks self.old p) }
-        ensures bound { first_refusal (stop (status_at self.old p)) ≡ None → Sweeps p 0 budget self.old self.new }
+        ensures bound { first_refusal (stop (serial_status self.old p)) ≡ None → SweepsOver p 0 budget self.old self.new }
     {
         self.check_stop(p)?;
         self.stop(p, budget)
@@ -66,7 +66,7 @@ impl Serial {
     pub fn kill(&mut self, by: u16, victim: u16, budget: u32) -> Result<u64, Refused>
         ensures is { kill by victim budget self.old ≡ (result, self.new) }
         ensures frees { IsOk result → Frees (arriving self.old) self.old.store self.new.store (blocks self.old victim) }
-        ensures bound { first_refusal (kill_refusals self.old by victim) ≡ None → Sweeps victim 0 budget self.old self.new }
+        ensures bound { first_refusal (kill_refusals self.old by victim) ≡ None → SweepsOver victim 0 budget self.old self.new }
     {
         self.check_kill(by, victim)?;
         self.stop(victim, budget)
@@ -90,7 +90,7 @@ impl Serial {
     pub fn close(&mut self, p: u16, e: u16) -> Result<u64, Refused>
         ensures is { close p e self.old ≡ (result, self.new) }
         ensures frees { IsOk result → Frees (arriving self.old) self.old.store self.new.store (e ∷ []) }
-        ensures bound { IsOk result → Sweeps p (length (blocks self.old p) - 1) MAX_BUDGET (moved_last p e self.old) self.new }
+        ensures bound { IsOk result → SweepsOver p (length (blocks self.old p) - 1) MAX_BUDGET (moved_last p e self.old) self.new }
     {
         self.check_close(p, e)?;
         let _start = &self.plain;

@@ -3,7 +3,7 @@ ghost use Rattle.std.specs.Prelude.{◌≡◌, ℕ, ◌<◌, ◌≤◌, [], None
 ghost use Rattle.xh_model.specs.declared.limits.TheConstants.{DIRECTIONS};
 ghost use Rattle.xh_serial.specs.Machine.{end_of, on_way};
 ghost use Rattle.xh_core.specs.Flight.{AreFlightLines};
-ghost use Rattle.xh_serial.specs.PlaceCommands.{flight_line, flight_of, ledger_of};
+ghost use Rattle.xh_serial.specs.PlaceCommands.{serial_flight, flight_of, ledger_of};
 
 use super::books::total;
 use crate::serial::Serial;
@@ -15,7 +15,7 @@ impl Serial {
     /// What is in flight on a direction.
     fn flight_on(&self, direction: u8) -> FlightLine
         requires { direction < DIRECTIONS }
-        ensures { result ≡ flight_line self.now.store direction (on_way self.now direction) }
+        ensures { result ≡ serial_flight self.now.store direction (on_way self.now direction) }
     {
         let records = self.channels.on_way(direction);
         FlightLine {

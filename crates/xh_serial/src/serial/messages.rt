@@ -2,7 +2,7 @@
 ghost use Rattle.std.specs.Prelude.{◌≡◌, ℕ, ◌-◌, ◌/◌, ◌%◌, ◌<◌, IfOk, false};
 ghost use Rattle.xh_serial.specs.Lines.{IsNumbered, contract_of, is_banned, line};
 ghost use Rattle.xh_serial.specs.Commands.{toward};
-ghost use Rattle.xh_serial.specs.MessageCommands.{AreOrderly, give, take};
+ghost use Rattle.xh_serial.specs.MessageCommands.{HasOrderlyLines, give, take};
 
 use crate::channels::peer;
 use crate::message::Taken;
@@ -18,7 +18,7 @@ impl Serial {
     #[tactic(auto, unfolding(crate::specs::MessageCommands::give))]
     pub fn give(&mut self, p: u16, e: u16, tag: u16, blocks: &[u16]) -> Result<u64, Refused>
         ensures is { give p e tag blocks.now self.old ≡ (result, self.new) }
-        ensures orderly { AreOrderly self.new }
+        ensures orderly { HasOrderlyLines self.new }
         ensures numbered { (d : ℕ) → IsNumbered (line self.new.lines d) }
     {
         let _start = &self.plain;
@@ -38,7 +38,7 @@ impl Serial {
         ensures is { take p e self.old ≡ (result, self.new) }
         ensures allowed { IfOk result (λ taken.
             is_banned (contract_of self.old.contracts (toward self.old e)) (1 - toward self.old e % 2) (line self.old.lines (toward self.old e)).state taken.tag ≡ false) }
-        ensures orderly { AreOrderly self.new }
+        ensures orderly { HasOrderlyLines self.new }
         ensures numbered { (d : ℕ) → IsNumbered (line self.new.lines d) }
     {
         let _start = &self.plain;
@@ -59,7 +59,7 @@ impl Serial {
         ensures is { take p e self.old ≡ (result, self.new) }
         ensures allowed { IfOk result (λ taken.
             is_banned (contract_of self.old.contracts (toward self.old e)) (1 - toward self.old e % 2) (line self.old.lines (toward self.old e)).state taken.tag ≡ false) }
-        ensures orderly { AreOrderly self.new }
+        ensures orderly { HasOrderlyLines self.new }
         ensures numbered { (d : ℕ) → IsNumbered (line self.new.lines d) }
     {
         self.take(p, e)

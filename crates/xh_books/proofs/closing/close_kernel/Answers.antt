@@ -1,39 +1,43 @@
 use Rattle.xh_books.proofs.Common.{All, ArenaLine, IsInFlight, List, PLACES, PlaceLine, RecordsOf, TallyOf, all_lengths, ap, arena_lines, bytes_in_flight, length, places_of, refl, rules, subst, sym}
 use Rattle.xh_books.proofs.Common.{tallies_of, ◌<◌, ◌∙◌, ◌≡◌}
 use Rattle.xh_books.proofs.LedgerLines.{lines_are_of, lines_within}
+use Rattle.xh_kernel.proofs.Compared.{kept_own}
 use Rattle.xh_books.proofs.closing.close_kernel.Goals as goal
+
+pub compare-requires-clause-pens : goal.compare-requires-clause-pens
+compare-requires-clause-pens g c = kept_own g.N.Names.parts c.in-Ok-settle.settled.places.items c.in-Ok-settle.settled.pens.items c.in-Ok-settle.ensures.kept
 
 pub returns-in-Ok-close_books-clause-closed : goal.returns-in-Ok-close_books-clause-closed
 returns-in-Ok-close_books-clause-closed g c =
-    let made = c.in-Ok in let f = c.in-Ok-finish.field-0 in let done = c.in-Ok-finish.ensures in let closed = c.in-Ok-close_books.ensures in
+    let made = c.in-Ok in let s = c.in-Ok-settle.settled in let done = c.in-Ok-settle.ensures in let saw = c.in-Ok-compare.ensures in let closed = c.in-Ok-close_books.ensures in
     let workers = rw made.is at c.requires.accounts in
     let count : length made.accounts.items ≡ g.N.Names.parts.workers = search rules in (
       (made.answer, made.accounts, made.looks),
       made.is,
       refl,
       record {
-        places = f.places.items;
-        pens = done.seen.0;
-        vaults = f.vaults.items;
-        kept = done.seen.1;
+        places = s.places.items;
+        pens = s.pens.items;
+        vaults = s.vaults.items;
+        kept = done.kept;
         workers = count;
-        seen = done.seen.2;
-        open_vaults = (done.vaults.0, done.vaults.1);
-        arenas = closed.arenas ∙ ap (λ (ts : List (List TallyOf)). arena_lines ts 0 f.vaults.items) done.same;
+        seen = saw.seen;
+        open_vaults = done.vaults;
+        arenas = closed.arenas ∙ ap (λ (ts : List (List TallyOf)). arena_lines ts 0 s.vaults.items) saw.same;
         lines = closed.places;
         owned = closed.owned;
-        flight = closed.flight ∙ ap (λ (x : RecordsOf). bytes_in_flight (places_of f.places.items) x.shape.records 0 (all_lengths f.vaults.items)) done.records;
+        flight = closed.flight ∙ ap (λ (x : RecordsOf). bytes_in_flight (places_of s.places.items) x.shape.records 0 (all_lengths s.vaults.items)) done.tables.0;
         balanced = closed.balanced;
-        in_flight = subst (λ (x : RecordsOf). IsInFlight x.shape f.places.items (all_lengths f.vaults.items) c.in-Ok-close_books.books.flight.items) done.records closed.in_flight;
+        in_flight = subst (λ (x : RecordsOf). IsInFlight x.shape s.places.items (all_lengths s.vaults.items) c.in-Ok-close_books.books.flight.items) done.tables.0 closed.in_flight;
       },
     )
 
 pub returns-in-Ok-close_books-clause-arenas : goal.returns-in-Ok-close_books-clause-arenas
 returns-in-Ok-close_books-clause-arenas g c =
-    let parts = g.N.Names.parts in let f = c.in-Ok-finish.field-0 in let vaults = c.in-Ok-finish.ensures.vaults in
-    let lines = lines_are_of parts (tallies_of f.accounts.items) 0 f.vaults.items vaults.1 in
+    let parts = g.N.Names.parts in let vaults = c.in-Ok-settle.ensures.vaults in
+    let lines = lines_are_of parts (tallies_of c.in-Ok-compare.accounts.items) 0 c.in-Ok-settle.settled.vaults.items vaults.1 in
     subst (λ (ls : List ArenaLine). (length ls ≡ length parts.records.shape.names) × All (λ a. a.size ≡ parts.size) ls) (sym c.in-Ok-close_books.ensures.arenas) (lines.0 ∙ ap length vaults.0, lines.1)
 
 pub returns-in-Ok-close_books-clause-places : goal.returns-in-Ok-close_books-clause-places
 returns-in-Ok-close_books-clause-places g c =
-    subst (λ (ls : List PlaceLine). All (λ l. l.place < PLACES) ls) (sym c.in-Ok-close_books.ensures.places) (lines_within (places_of c.in-Ok-finish.field-0.places.items))
+    subst (λ (ls : List PlaceLine). All (λ l. l.place < PLACES) ls) (sym c.in-Ok-close_books.ensures.places) (lines_within (places_of c.in-Ok-settle.settled.places.items))

@@ -1,6 +1,6 @@
 use Rattle.std.proofs.Common.{rules, ◌≡◌, List, arith, inl, inr, map, refl, string_bytes, subst}
 use Rattle.clap.specs.Words.{Row, found_of}
-use Rattle.xh_command_line.specs.Asked.{HasLimits, found}
+use Rattle.xh_command_line.specs.Asked.{HasLimits, rows_found}
 use Rattle.xh_command_line.proofs.Numbers.{InRange, in_range, same_limits}
 use Rattle.xh_command_line.proofs.Ways.{asked, told}
 use Rattle.xh_command_line.proofs.options.read_options.Goals as goal
@@ -19,7 +19,7 @@ returns-then-not-is_in_script_limits-clause-unasked g c =
         inr (
           c.in-Ok.ensures.0,
           λ config is limits.
-              let bad = same_limits (found c.args.program.name.now (map string_bytes c.args.words.now)) c.in-Some.config config range (in_range config is) has limits is in
+              let bad = same_limits (rows_found c.args.program.name.now (map string_bytes c.args.words.now)) c.in-Some.config config range (in_range config is) has limits is in
               search rules,
         ),
       ),

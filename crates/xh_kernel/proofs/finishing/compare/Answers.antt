@@ -1,4 +1,5 @@
-use Rattle.xh_kernel.proofs.Common.{AccountOf, All, AreInOrder, AreSeen, Entry, LookHasSeen, List, PenOf, histories_of, rules, subst, true, ◌∙◌, ◌≡◌}
+use Rattle.xh_kernel.proofs.Common.{AccountOf, All, AreInOrder, Entry, List, PenOf, rules, subst, true, ◌∙◌, ◌≡◌}
+use Rattle.xh_kernel.proofs.Compared.{AccountSaw, LookSaw}
 use Rattle.xh_kernel.proofs.finishing.compare.Goals as goal
 
 pub returns-clause-seen : goal.returns-clause-seen
@@ -8,7 +9,7 @@ returns-clause-seen g c =
     let same_then : c.compare_accounts.new.pens ≡ pens = c.compare_accounts.ensures.same.0 ∙ same in
     let is : c.are_in_order.result ≡ true = search rules in record {
       in_order = subst AreInOrder same (c.are_in_order.ensures.0 is);
-      seen = subst (All (λ (a : AccountOf). AreSeen a (histories_of pens))) same_all
-          (subst (λ (ps : List (PenOf Entry)). All (λ (a : AccountOf). AreSeen a (histories_of ps)) c.as_mut_slice.result.now) same c.compare_accounts.ensures.seen);
-      looked = subst (λ (ps : List (PenOf Entry)). All (LookHasSeen (histories_of ps)) c.args.looks.items) same_then c.compare_looks.ensures.looked;
+      seen = subst (All (AccountSaw pens)) same_all
+          (subst (λ (ps : List (PenOf Entry)). All (AccountSaw ps) c.as_mut_slice.result.now) same c.compare_accounts.ensures.seen);
+      looked = subst (λ (ps : List (PenOf Entry)). All (LookSaw ps) c.args.looks.items) same_then c.compare_looks.ensures.looked;
     }

@@ -1,5 +1,5 @@
-use Rattle.xh_kernel.proofs.Common.{AccountOf, AreSeen, Entry, List, PenOf, arith, below_more, get_or, get_or-set_other, get_or_default, histories_of, length, rules, subst, ◌<◌, ◌∙◌, ◌≡◌, ◌≤◌}
-use Rattle.xh_kernel.proofs.Compared.{same_tallies}
+use Rattle.xh_kernel.proofs.Common.{AccountOf, Entry, List, PenOf, ap, arith, below_more, get_or, get_or-set_other, get_or_default, length, rules, subst, ◌<◌, ◌∙◌, ◌≡◌, ◌≤◌}
+use Rattle.xh_kernel.proofs.Compared.{AccountSaw, same_tallies}
 use Rattle.xh_kernel.proofs.finishing.compare_accounts.Goals as goal
 
 pub loop-worker-preserved : goal.loop-worker-preserved
@@ -8,13 +8,13 @@ loop-worker-preserved g c =
     let inside : l.worker < length all = search rules in
     let new : AccountOf = c.compare_account.new.account in
     let here : get_or l.accounts l.worker X ≡ get_or all l.worker X = l.invariant.3 l.worker X (omega arith) in
-    let seen : AreSeen (get_or all l.worker X) (histories_of c.args.pens.now) =
-    subst (λ (a : AccountOf). AreSeen a (histories_of c.args.pens.now)) here
-    (subst (λ (ps : List (PenOf Entry)). AreSeen (get_or l.accounts l.worker X) (histories_of ps)) l.invariant.0 c.compare_account.ensures.seen) in (
+    let seen : AccountSaw c.args.pens.now (get_or all l.worker X) =
+    subst (AccountSaw c.args.pens.now) here
+    (subst (λ (ps : List (PenOf Entry)). AccountSaw ps (get_or l.accounts l.worker X)) l.invariant.0 c.compare_account.ensures.seen) in (
       c.compare_account.ensures.same.0 ∙ l.invariant.0,
-      same_tallies l.accounts l.worker X new c.compare_account.ensures.same.1.1 ∙ l.invariant.1,
-      below_more (λ k. (d : AccountOf) → AreSeen (get_or all k d) (histories_of c.args.pens.now)) l.worker l.invariant.2
-          (λ d. subst (λ (a : AccountOf). AreSeen a (histories_of c.args.pens.now)) (get_or_default all l.worker X d inside) seen),
+      same_tallies l.accounts l.worker X new (ap (λ (a : AccountOf). a.tallies) c.compare_account.ensures.same.1) ∙ l.invariant.1,
+      below_more (λ k. (d : AccountOf) → AccountSaw c.args.pens.now (get_or all k d)) l.worker l.invariant.2
+          (λ d. subst (AccountSaw c.args.pens.now) (get_or_default all l.worker X d inside) seen),
       λ k d above. get_or-set_other l.accounts l.worker k new d (λ e. omega (arith, e, above)) ∙ l.invariant.3 k d (omega arith),
     )
 

@@ -20,7 +20,7 @@ named-requires g c =
 pub loop-bundle-preserved : goal.loop-bundle-preserved
 loop-bundle-preserved g c =
     let was = c.loop-bundle.invariant in let step = c.in-Some.ensures.steps in let parts = g.N.Names.parts in let done = vec_len c.loop-bundle.accounts in
-    let P : ℕ → AccountOf → Type 0 = λ k a. a ≡ fresh parts.records.shape.names k in
+    let P : ℕ → AccountOf → Type 0 = λ k a. a ≡ fresh parts k in
     let here : c.in-Some.bundle.number ≡ length c.loop-bundle.accounts.items = let h = was.2 0 c.in-Some.bundle in grind rules in (
       search rules,
       search rules,
@@ -28,5 +28,5 @@ loop-bundle-preserved g c =
       rest_of (λ k (x : FrontOf Entry). x ≡ fresh_front parts.histories k) done _ _ c.in-Some-Some.front c.in-Some-Some.ensures.items _ was.3 _ _ (search rules) (search rules),
       search rules,
       rest_of (λ k (x : FrontOf VaultOf). x ≡ fresh_front parts.vaults k) done _ _ c.in-Some-Some.seen c.in-Some-Some.ensures'.items _ was.5 _ _ (search rules) (search rules),
-      rw c.in_ok-push.ensures.items (each_push P _ _ was.6 (c.named.ensures ∙ ap (fresh parts.records.shape.names) here)),
+      rw c.in_ok-push.ensures.items (each_push P _ _ was.6 (c.named.ensures ∙ ap (fresh parts) here)),
     )

@@ -10,4 +10,4 @@ invariant-loop-bundle g l =
     × ((k : ℕ) (d : FrontOf Entry) → k < into_iter_len l.left → slice_index_or (into_iter_items l.left) k d ≡ fresh_front g.N.Names.parts.histories (done + k))
     × (into_iter_len l.unseen ≡ into_iter_len rest)
     × ((k : ℕ) (d : FrontOf VaultOf) → k < into_iter_len l.unseen → slice_index_or (into_iter_items l.unseen) k d ≡ fresh_front g.N.Names.parts.vaults (done + k))
-    × AreFresh g.N.Names.parts.records.shape.names l.accounts.items
+    × AreFresh g.N.Names.parts l.accounts.items

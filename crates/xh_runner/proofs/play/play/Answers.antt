@@ -1,5 +1,5 @@
 use Rattle.xh_runner.proofs.Common.{add-one, sym, ◌∙◌}
-use Rattle.xh_runner.proofs.Plays.{continues_own, continues_other, continues_end, is_other, is_own}
+use Rattle.xh_runner.proofs.Plays.{is_other, is_own, plays_other, plays_own}
 use Rattle.xh_runner.proofs.play.play.Goals as goal
 use Rattle.xh_runner.proofs.play.play.Goals.{then-part_of-place+else-not-before+in_ok-push, else-part_of-place}
 
@@ -8,11 +8,8 @@ loop-line-preserved g c = elim c.if-part_of-place.branch [
   | then-part_of-place+else-not-before+in_ok-push w ↦
       let own = is_own _ _ _ c.part_of.ensures.is (w.if-part_of-place.true ∙ add-one c.args.place) in
       rw (w.session-is, w.replies-is, w.in_ok-push.ensures.items)
-      (continues_own _ _ _ _ _ _ _ _ _ c.line-item.result c.loop-line-test.true (sym c.line-item.is) own w.step.ensures c.loop-line.invariant)
+      (plays_own _ _ _ _ _ _ _ _ _ c.line-item.result c.loop-line-test.true (sym c.line-item.is) own c.loop-line.invariant w.step.ensures)
   | else-part_of-place w ↦
       let other = is_other _ _ _ c.part_of.ensures.is (λ e. w.if-part_of-place.false (e ∙ sym (add-one c.args.place))) in
-      rw (w.session-is, w.replies-is) (continues_other _ _ _ _ _ _ _ c.line-item.result c.loop-line-test.true (sym c.line-item.is) other c.loop-line.invariant)
+      rw (w.session-is, w.replies-is) (plays_other _ _ _ _ _ _ _ c.line-item.result c.loop-line-test.true (sym c.line-item.is) other c.loop-line.invariant)
 ]
-
-pub returns-clause-played : goal.returns-clause-played
-returns-clause-played g c = continues_end _ _ _ _ _ _ _ c.loop-line-test.false c.loop-line.invariant

@@ -14,7 +14,7 @@ answers_of-requires g c =
     let dones = c.in_ok-dones.dones.items in
     let lasts = c.in_ok-last.last.items in
     let parts = c.in_ok-machines.parts in
-    let count : length dones ≡ 32 = omega (arith, zips_count (PlaceIsDone state did ready lines) 0 c.args.machines.items dones c.in_ok-dones.ensures, c.args.machines.ok, c.requires.count) in
+    let count : length dones ≡ 32 = omega (arith, zips_count (PlaceIsDone state did ready.names ready.contracts lines) 0 c.args.machines.items dones c.in_ok-dones.ensures, c.args.machines.ok, c.requires.count) in
     let enough = all_enough state did lines ready c.args.machines.items c.in_ok-first.first.items lasts dones c.in_ok-dones.ensures count
     (plays_length (DoesLine did) _ _ _ _ c.in_ok-first.ensures ∙ ap (λ ls. length ls) (same_head c.new.result ready.names.processes lines))
     (plays_length (DoesLine did) _ _ _ _ c.in_ok-last.ensures) in record {
@@ -37,7 +37,7 @@ returns-clause-played g c =
     let answers = c.in_ok-answers.answers.items in
     let contracts = c.args.head.now.contracts.now in
     let old = state c.args.head.now.machine in
-    let count : length dones ≡ 32 = omega (arith, zips_count (PlaceIsDone state did ready lines) 0 olds dones c.in_ok-dones.ensures, c.args.machines.ok, c.requires.count) in
+    let count : length dones ≡ 32 = omega (arith, zips_count (PlaceIsDone state did ready.names ready.contracts lines) 0 olds dones c.in_ok-dones.ensures, c.args.machines.ok, c.requires.count) in
     let began_is : first ≡ began old contracts = ap (λ (b : Bindings). record first { names = b }) c.requires.names in
     let head = subst (λ w. Plays (DoesLine did) w (part ready.names.processes 0 lines) firsts ready) began_is
     (subst (λ ls. Plays (DoesLine did) first ls firsts ready) (same_head c.new.result ready.names.processes lines) c.in_ok-first.ensures) in

@@ -17,7 +17,7 @@ returns-clause-played g c =
       workers = map (λ w. record { account = w.account; look = w.look }) workers;
       left = map (λ w. record { account = w.account; look = w.look }) machines;
       are_new = record {
-        accounts = subst (AreFresh parts.records.shape.names) (sym accounts) c.requires.accounts.1;
+        accounts = subst (AreFresh parts) (sym accounts) c.requires.accounts.1;
         looks = subst (All (λ l. l ≡ fresh_look parts.histories)) (sym looks) c.requires.looks.1;
         count = length-map {B = WorkerState} workers (λ w. record { account = w.account; look = w.look })
             ∙ omega (arith, c.in_ok-workers.workers.ok, c.in_ok-workers.ensures.count, c.requires.accounts.0);

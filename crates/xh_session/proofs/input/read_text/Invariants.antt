@@ -1,9 +1,9 @@
-use Rattle.xh_session.proofs.Common.{MAX_SCRIPT, Reads, length, ◌+◌, ◌-◌, ◌≤◌}
+use Rattle.xh_session.proofs.Common.{MAX_SCRIPT, ReadsBytes, length, ◌+◌, ◌-◌, ◌≤◌}
 use Rattle.xh_session.proofs.input.read_text.Given as goal
 
 abbrev pub invariant-loop-room : goal.invariant-loop-room
 invariant-loop-room g l = record {
-  reads : Reads g.R.Read.remaining l.fn.reader l.reader l.text.items;
+  reads : ReadsBytes g.R.Read.remaining l.fn.reader l.reader l.text.items;
   short : length l.text.items ≤ MAX_SCRIPT + 1;
 }
 

@@ -7,7 +7,7 @@ use Rattle.xh_calls.proofs.heap.Heap.close_again.Goals as goal
 pub returns-in-Err-clause-closed : goal.returns-in-Err-clause-closed
 returns-in-Err-clause-closed g c =
     let old = c.args.place.now in let same = stays_itself old in
-    (old, same, did_starts old.place.process [] old.front old.front same.1, 0, inl ((same, refl), inl (_, c.in-Err.ensures)), none_given c.args.till.now)
+    (old, same, did_starts old.place.process [] old.front old.front same.1, (0, inl ((same, refl), inl (_, c.in-Err.ensures)), none_given c.args.till.now))
 
 pub returns-then-has_low-clause-closed : goal.returns-then-has_low-clause-closed
 returns-then-has_low-clause-closed g c =
@@ -16,9 +16,9 @@ returns-then-has_low-clause-closed g c =
     c.close-closed.result (subst (λ (z : PlaceOf). first_refusal (start (status_at c.args.p z)) ≡ None) same c.in_default.ensures.0)
     (subst (λ (z : PlaceOf). AreBlocks z.blocks) same c.blocks-blocks.ensures.blocks)
     (subst (λ (z : PlaceOf). HasLow c.args.wired.now.channel c.args.wired.now.low.rec z) same (c.has_low.ensures.yes c.if-has_low.true)) c.close-closed.ensures.closed in
-    (from, c.has_low.ensures.same, c.close-closed.ensures.same.0.3, d.0, d.1, d.2)
+    (from, c.has_low.ensures.same, c.close-closed.ensures.same.0.3, d)
 
 pub returns-else-has_low-clause-closed : goal.returns-else-has_low-clause-closed
 returns-else-has_low-clause-closed g c =
     let old = c.args.place.now in let same = c.has_low.ensures.same in
-    (old, stays_itself old, did_starts old.place.process [] old.front c.has_low.new.place.front same.1, 0, inl ((same, refl), inr (c.has_low.ensures.no c.if-has_low.false)), none_given c.args.till.now)
+    (old, stays_itself old, did_starts old.place.process [] old.front c.has_low.new.place.front same.1, (0, inl ((same, refl), inr (c.has_low.ensures.no c.if-has_low.false)), none_given c.args.till.now))

@@ -1,6 +1,5 @@
-use Rattle.std.proofs.lemmas.Result.{MatchResult-weaker}
-use Rattle.xh_calls.proofs.Common.{MAX_RECORDS, Splits, Status, [], ap, arith, found, length, places, refl, rules, split_tests, start, status_at, stays_itself, subst, sym, ◌/◌, ◌∙◌, ◌∷◌, ◌≡◌, ◌≤◌}
-use Rattle.xh_calls.proofs.Moved.{entered}
+use Rattle.xh_calls.proofs.Common.{MAX_RECORDS, Splits, Status, arith, found, length, rules, split_tests, start, status_at, stays_itself, subst, sym, ◌/◌, ◌≤◌}
+use Rattle.xh_calls.proofs.Moved.{entered_or}
 use Rattle.xh_calls.proofs.Started.{stopped_first, unclaimed}
 use Rattle.xh_calls.proofs.heap.Heap.split.Goals as goal
 
@@ -9,7 +8,7 @@ returns-in_err-check_number-clause-cut g c =
     let place = c.args.place.now in record {
       cut = search rules;
       refused = unclaimed c.from_residual.result (λ cs. length cs ≤ 1) (c.args.r / MAX_RECORDS) place (omega arith);
-      why = stopped_first (start (status_at c.args.p place.place)) (split_tests (found place.place c.args.r) c.args.k) c.from_residual.result _ c.in_err-check_number.ensures.other.0 (search rules) _
+      why = stopped_first (start (status_at c.args.p place.place)) (split_tests (found place.place c.args.r) c.args.k) c.from_residual.result _ c.in_err-check_number.ensures.unstarted (search rules) _
           (stays_itself place);
     }
 
@@ -19,6 +18,5 @@ returns-clause-cut g c =
 
 pub returns-clause-asked : goal.returns-clause-asked
 returns-clause-asked g c =
-    let begun = c.desk-desk.result.vaults in let left = c.split-answer.new.desk.vaults in let start = ap (λ l. l.till) c.desk-desk.ensures.1 ∙ c.new-lent.ensures in let end = c.end.ensures.0 in
-    MatchResult-weaker c.split-answer.result c.split-answer.ensures.asked (λ ends h. entered g.N.Names.parts (c.args.r / MAX_RECORDS ∷ []) begun left (λ l. l.till) start end (left, h, refl))
-    (λ why h. ap (λ t. t.seen) (end ∙ ap (λ l. l.till) h ∙ start))
+    entered_or g.N.Names.parts (c.args.r / MAX_RECORDS) c.lend-desk.result.vaults c.split-answer.new.desk.vaults (λ l. l.till) c.lend-desk.ensures.1 c.end.ensures.0 c.split-answer.result
+    c.split-answer.ensures.asked

@@ -14,8 +14,8 @@ returns-clause-why g c =
     let is = carve_stays parts _ c.args.n _ _ _ _ _ _ result was.1 answer.done answer.refused in
     asked parts _ _ _ _ _ _ was is e.pen e.front e.seen _ c.self.view_is c.args.n _ _ result answer.lawful answer.refused
 
-pub returns-clause-entered : goal.returns-clause-entered
-returns-clause-entered g c =
+pub returns-clause-done : goal.returns-clause-done
+returns-clause-done g c =
     let parts = g.N.Names.parts in let e = c.add.ensures in let was = c.self.invariant in let answer = c.carve-answer.ensures in let result = c.carve-answer.result in
     let is = carve_stays parts _ c.args.n _ _ _ _ _ _ result was.1 answer.done answer.refused in
     MatchResult-weaker result answer.done (λ at done. does_to parts _ _ _ _ _ _ was is e.pen e.front e.seen _ c.self.view_is _ done) (λ e h. h)

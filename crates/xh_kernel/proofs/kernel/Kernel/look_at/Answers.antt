@@ -3,4 +3,4 @@ use Rattle.xh_kernel.proofs.Common.{stays_itself}
 use Rattle.xh_kernel.proofs.kernel.Kernel.look_at.Goals as goal
 
 pub returns : goal.returns
-returns g c = ((search rules, search rules), c.note.ensures.step _ (search (rules, stays_itself)))
+returns g c = (search rules, search rules, search rules, c.note.ensures.step _ (search (rules, stays_itself)))

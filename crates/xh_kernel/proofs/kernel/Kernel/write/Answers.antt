@@ -3,4 +3,4 @@ use Rattle.xh_kernel.proofs.kernel.Kernel.write.Goals as goal
 
 pub returns : goal.returns
 returns g c =
-    ((search rules, search rules), c.note.ensures.step _ (ap (λ h. h.scribe.pen.number) c.deref_mut-held.ensures.value ∙ c.held-guard.ensures))
+    (search rules, search rules, search rules, c.note.ensures.step _ (ap (λ h. h.scribe.pen.number) c.deref_mut-held.ensures.value ∙ c.held-guard.ensures))

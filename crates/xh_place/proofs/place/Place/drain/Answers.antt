@@ -2,7 +2,7 @@ use Rattle.xh_place.proofs.Common.{◌∙◌, arith, ◌≡◌, ◌+◌, ℕ, []
 use Rattle.xh_place.proofs.Common.{Accept, Did, Item, accepted_on, all_got_as, did_more, did_none, did_starts}
 use Rattle.xh_place.proofs.Common.{header_of, is_end, option_map}
 use Rattle.xh_core.specs.Headers.{has_end}
-use Rattle.xh_place.specs.Bodies.{endpoint, toward}
+use Rattle.xh_place.specs.Bodies.{endpoint, direction_toward}
 use Rattle.xh_place.specs.inner.Reclaiming.{toward_in}
 use Rattle.xh_place.proofs.Drained.{drained, drained_all, draining_at, draining_more, draining_none, draining_as, draining_way}
 use Rattle.xh_place.proofs.place.Place.drain.Goals as goal
@@ -27,8 +27,8 @@ loop-count-preserved g c =
     let whose : mid.place.process ≡ p = ap (λ q. q.process) i.2.5 ∙ ap (λ q. q.process) i.2.2.3 in
     let wide = seen_wide mid new old new (ap (λ q. q.shape) i.2.5 ∙ ap (λ q. q.shape) i.2.2.3) whose before (starts_same refl) in
     let way : toward_in (value_at c.args.e mid.place.blocks) ≡ d = draining_way (IsSeen old new) c.args.e i.0 i.1 old.place mid.place was in
-    let here : toward_in (value_at c.args.e mid.place.blocks) ≡ toward (endpoint t.made.0) = ap toward_in t.made.2 in
-    let got = all_got_as (IsSeen mid new) (IsSeen old new) wide (toward (endpoint t.made.0)) t.gained _ t.got in
+    let here : toward_in (value_at c.args.e mid.place.blocks) ≡ direction_toward (endpoint t.made.0) = ap toward_in t.made.2 in
+    let got = all_got_as (IsSeen mid new) (IsSeen old new) wide (direction_toward (endpoint t.made.0)) t.gained _ t.got in
     let next : Did p (accepted_on p d t.gained) mid.front new.front =
     subst (λ (z : ℕ × ℕ). Did z.0 (accepted_on z.0 z.1 t.gained) mid.front new.front) (λ j. (whose j, (sym here ∙ way) j)) t.list.1 in
     let long : length (i.0 ++ t.m ∷ []) ≡ length i.0 + 1 = length-append i.0 (t.m ∷ []) in (

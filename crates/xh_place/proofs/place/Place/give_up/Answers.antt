@@ -1,7 +1,7 @@
 use Rattle.xh_place.proofs.Common.{arith, ◌≡◌, ℕ, ◌+◌, ◌/◌, ◌<◌, length, sym, ap, ◌∙◌, subst, Distinct, keys, without, HasGivenBack, Item, option_map, header_of, total_of, gave, found}
 use Rattle.xh_place.proofs.Common.{total_without, enough, list_distinct, lost, place_did, placed, vacated, block_whole}
 use Rattle.xh_core.specs.Headers.{len_in}
-use Rattle.xh_place.specs.Places.{IsWhole}
+use Rattle.xh_place.specs.Places.{IsWholeItem}
 use Rattle.xh_place.proofs.Swept.{gave_some}
 use Rattle.xh_place.proofs.place.Place.give_up.Goals as goal
 
@@ -59,4 +59,4 @@ returns-clause-back g c =
 pub returns-clause-body : goal.returns-clause-body
 returns-clause-body g c = λ x at.
     let f = found c.self.invariant (placed c.self.view_is) c.args.r at in
-    (f.lot.body, (ap (λ z. z.content) f.same, subst IsWhole f.same (block_whole f.block)), (c.give_up-len.ensures.back f.lot f.held).3)
+    (f.lot.body, (ap (λ z. z.content) f.same, subst IsWholeItem f.same (block_whole f.block)), (c.give_up-len.ensures.back f.lot f.held).3)

@@ -1,6 +1,6 @@
 use Rattle.xh_place.proofs.Common.{arith, ◌≡◌, ℕ, ◌+◌, ◌-◌, ◌≤◌, true, List, refl, sym, ap, ◌∙◌, subst, Some, ◌==◌, list_any, is_running, Among, put, value_at, ◌++◌}
 use Rattle.xh_place.proofs.Common.{away, end_block, keys, lens, less_all, Item, item_at, item_in, item_of, shown, with_blocks, settled, EndpointOf, AreGot, Did, Got, IsSeenAfter, OnErr}
-use Rattle.xh_place.proofs.Common.{EndpointPuts, accepted_on, map, passed_on, picked, record_of, shown_keys, list_distinct, over_running, total_bound, IsNow, place_did, placed, all_found, found, put_other}
+use Rattle.xh_place.proofs.Common.{EndpointPuts, accepted_on, map, passed_on, picked, record_got, shown_keys, list_distinct, over_running, total_bound, IsNow, place_did, placed, all_found, found, put_other}
 use Rattle.xh_place.proofs.Common.{shown_picked}
 use Rattle.xh_place.proofs.Common.{fetched, on_err_weaker}
 use Rattle.xh_place.specs.Bodies.{IsEndAt, endpoint}
@@ -65,9 +65,9 @@ returns-clause-sent g c =
     put_other r c.args.e now old.place.blocks (λ s. c.requires.given.1 (subst (λ z. Among given z) (sym s) among))
     ∙ ap (λ p. value_at r p.blocks) (sym v) ∙ c.self.invariant.same r ∙ ap item_at k.1 ∙ ap (λ o. Some (item_in o)) (sym k.1)) in
     let did = place_did seat c.self.view_is last (λ p. passed_on p d (shown seat.lots given) ++ accepted_on p d came) a.moved.1 in
-    let saw : OnErr c.give_all-put.result.put ((gots : List Got) × (map record_of gots ≡ given)
+    let saw : OnErr c.give_all-put.result.put ((gots : List Got) × (map record_got gots ≡ given)
     × AreGot (IsSeenAfter d old.place.process old.place.shape old.front last.front) d came gots) =
-    subst (λ (z : PlaceSeen). OnErr c.give_all-put.result.put ((gots : List Got) × (map record_of gots ≡ given)
+    subst (λ (z : PlaceSeen). OnErr c.give_all-put.result.put ((gots : List Got) × (map record_got gots ≡ given)
     × AreGot (IsSeenAfter d z.place.process z.place.shape z.front last.front) d came gots)) c.self.view_is a.seen in record {
       mid = with_blocks old.place xs';
       answered = c.give_all-put.result.put;

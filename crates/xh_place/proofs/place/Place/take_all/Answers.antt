@@ -1,4 +1,4 @@
-use Rattle.xh_place.proofs.Common.{take_more, map-append, arith, ◌≡◌, ℕ, ◌<◌, List, [], ◌∷◌, ◌++◌, length, map, get_or, sym, ap, ap₂, ◌∙◌, subst, refl, AreGot, record_of, IsSeen, accepted_on}
+use Rattle.xh_place.proofs.Common.{take_more, map-append, arith, ◌≡◌, ℕ, ◌<◌, List, [], ◌∷◌, ◌++◌, length, map, get_or, sym, ap, ap₂, ◌∙◌, subst, refl, AreGot, record_got, IsSeen, accepted_on}
 use Rattle.xh_place.proofs.Common.{all_got_as, did_starts, gains_none, gains_twice, got_both, is_over, same_place, seen_wide, starts_same, stays_itself}
 use Rattle.xh_place.proofs.place.Place.take_all.Goals as goal
 
@@ -10,7 +10,7 @@ loop-k-init c = (
     subst (λ l. AreGot (IsSeen c.args.self.now c.args.self.now) c.args.direction [] l) (sym c.requires.empty) refl,
     omega (arith, ap length c.requires.empty),
   ),
-  ap (map record_of) c.requires.empty,
+  ap (map record_got) c.requires.empty,
 )
 
 pub take_one-requires-clause-own : goal.take_one-requires-clause-own
@@ -26,7 +26,7 @@ loop-k-preserved c =
     let old = c.args.self.now in let mid = c.loop-k.self in let new = c.take_one.new.self in
     let given = c.args.message.now.blocks.items in let k : ℕ = c.loop-k.k in
     let inside : k < length given = omega (arith, c.loop-k-test.true) in
-    let named : record_of c.take_one.result ≡ get_or given k 0 = c.take_one.ensures.record ∙ ap (λ l. get_or l k 0) c.deref.ensures.0 in
+    let named : record_got c.take_one.result ≡ get_or given k 0 = c.take_one.ensures.record ∙ ap (λ l. get_or l k 0) c.deref.ensures.0 in
     let before = did_starts old.place.process (accepted_on old.place.process d t.0) old.front mid.front t.1.1 in
     let after = did_starts mid.place.process (accepted_on mid.place.process d o.0) mid.front new.front o.1.1 in
     let had : AreGot (IsSeen old new) d t.0 c.loop-k.got.items =
@@ -39,7 +39,7 @@ loop-k-preserved c =
         subst (AreGot (IsSeen old new) d (t.0 ++ o.0)) (sym c.push.ensures.items) (got_both (IsSeen old new) d t.0 o.0 c.loop-k.got.items (c.take_one.result ∷ []) had one),
         omega (arith, c.push.ensures.len, t.3),
       ),
-      ap (map record_of) c.push.ensures.items ∙ map-append record_of c.loop-k.got.items (c.take_one.result ∷ [])
+      ap (map record_got) c.push.ensures.items ∙ map-append record_got c.loop-k.got.items (c.take_one.result ∷ [])
           ∙ ap₂ (λ (xs ys : List ℕ). xs ++ ys) c.loop-k.invariant.1 (ap (λ n. n ∷ []) named) ∙ sym (take_more given k 0 inside),
     )
 

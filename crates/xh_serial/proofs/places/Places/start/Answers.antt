@@ -1,4 +1,4 @@
-use Rattle.xh_serial.proofs.Common.{Place, Some, ap, is_ready, no_place, position, position-Some, refl, slice_index_or, slice_set, started, sym, ◌*◌, ◌+◌, ◌∙◌, ◌≡◌}
+use Rattle.xh_serial.proofs.Common.{Place, Some, ap, is_ready, no_place, position, position-Some, refl, slice_index_or, slice_set, serial_started, sym, ◌*◌, ◌+◌, ◌∙◌, ◌≡◌}
 use Rattle.xh_serial.proofs.Machines.{read_at}
 use Rattle.xh_serial.proofs.places.Places.start.Goals.{After-index_mut}
 use Rattle.xh_serial.proofs.places.Places.start.Goals as goal
@@ -17,6 +17,6 @@ start-generation-requires c =
 pub returns : goal.returns
 returns c =
     let d = (goal.at.returns c).After-index_mut in
-    let place : c.start-generation.new.place ≡ started (slice_index_or c.self.inside.places.items c.in-Some.at no_place) = c.start-generation.ensures.place ∙ ap started (place_is d) in
+    let place : c.start-generation.new.place ≡ serial_started (slice_index_or c.self.inside.places.items c.in-Some.at no_place) = c.start-generation.ensures.place ∙ ap serial_started (place_is d) in
     let number : c.number.result ≡ c.in-Some.at + 32 * c.start-generation.new.place.generation = c.number.ensures ∙ ap (λ k. c.in-Some.at + 32 * k) c.start-generation.ensures.generation in
     rw (← c.self.view_is, found d) (sym (λ i. (Some ((number ∙ ap (λ (x : Place). c.in-Some.at + 32 * x.generation) place) i), slice_set c.self.inside.places.items c.in-Some.at (place i))))

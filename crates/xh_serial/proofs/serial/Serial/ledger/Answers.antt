@@ -1,4 +1,4 @@
-use Rattle.xh_serial.proofs.Common.{Machine, ap, arith, carried, ledger_of, machine_of, place_lines, sum_by, sym, total, ℕ, ◌+◌, ◌-◌, ◌∙◌, ◌≡◌}
+use Rattle.xh_serial.proofs.Common.{Machine, ap, arith, carried, ledger_of, machine_of, serial_places, sum_by, sym, total, ℕ, ◌+◌, ◌-◌, ◌∙◌, ◌≡◌}
 use Rattle.xh_serial.proofs.Room.{out_is}
 use Rattle.xh_serial.proofs.serial.Serial.ledger.Goals.{After-owned-held}
 use Rattle.xh_serial.proofs.serial.Serial.ledger.Goals as goal
@@ -26,7 +26,7 @@ unfolding ledger_of
 returns-clause-fields c =
     let d = (goal.at.returns-clause-fields c).After-owned-held in
     let m : Machine = machine_of c.self.inside in
-    let lines : c.place_lines.result.items ≡ place_lines m.store 0 m.places = rw (← c.self.view_is) at c.place_lines.ensures.lines in
+    let lines : c.place_lines.result.items ≡ serial_places m.store 0 m.places = rw (← c.self.view_is) at c.place_lines.ensures.lines in
     let flight : c.handed_out-out.result - c.owned-held.result ≡ sends m = (let b = books d in omega (arith, b)) in
     rw (← c.self.view_is) (λ i. record {
       arenas = record { items = c.arena_lines.ensures.lines i };

@@ -1,4 +1,4 @@
-use Rattle.xh_serial.proofs.Common.{IsWhole, Machine, MayTake, Message, Ok, ap, described, front, machine_of, refl, subst, sym, taken, toward, ◌∙◌, ◌≡◌}
+use Rattle.xh_serial.proofs.Common.{IsWhole, Machine, MayTake, Message, Ok, ap, described, front_message, machine_of, refl, subst, sym, taken, toward, ◌∙◌, ◌≡◌}
 use Rattle.xh_serial.specs.MessageCommands.{take}
 use Rattle.xh_serial.proofs.Messages.{front_allowed, taken_room, taken_whole}
 use Rattle.xh_serial.proofs.Wired.{whole_numbered, whole_orderly}
@@ -16,7 +16,7 @@ may_there c = rw (← c.self.view_is) at c.in_ok-d.ensures.1
 may : (c : After-take_front-message) → MayTake (was c) c.args.p c.args.e (toward (was c) c.args.e)
 may c = rw ((may_there c).toward) (may_there c)
 
-first : (c : After-take_front-message) → c.take_front-message.result ≡ front (was c) c.args.e
+first : (c : After-take_front-message) → c.take_front-message.result ≡ front_message (was c) c.args.e
 first c = rw ((may_there c).toward) c.take_front-message.ensures.front
 
 pub add_all-requires : goal.add_all-requires
@@ -51,8 +51,8 @@ pub returns : goal.returns
 unfolding take
 returns c =
     let m : Machine = was (begun c) in
-    let same : front m c.args.e ≡ c.take_front-message.result = sym (first (begun c)) in
-    let blocks : described m.store (front m c.args.e).blocks.items ≡ c.describe-blocks.result.items = ap (λ (x : Message). described m.store x.blocks.items) same ∙ sym c.describe-blocks.ensures in
+    let same : front_message m c.args.e ≡ c.take_front-message.result = sym (first (begun c)) in
+    let blocks : described m.store (front_message m c.args.e).blocks.items ≡ c.describe-blocks.result.items = ap (λ (x : Message). described m.store x.blocks.items) same ∙ sym c.describe-blocks.ensures in
     let whole = invariant_of-self c in record {
       is = rw (c.in_ok-d.ensures.0, ← c.self.view_is, made c) (λ i. (Ok (record { no = (same i).no; tag = (same i).tag; blocks = record { items = blocks i } }), taken c.args.p c.args.e m));
       orderly = whole_orderly (is c) (is c) whole refl;
