@@ -8,7 +8,7 @@ use std::alloc::Global;
 use std::marker::Brand;
 use std::sync::Wait;
 use xh_core::{Block, Config, Refused};
-use xh_kernel::{Account, Kernel, Look, Names, Parts};
+use xh_kernel::{Account, Kernel, Look, Names, Never, Parts};
 use xh_model::limits::{
     MAX_ARENAS, MAX_BUDGET, MAX_BYTES, MAX_DEPTH, MAX_RECORDS, MAX_WEAR, PLACES,
 };
@@ -144,7 +144,7 @@ impl<'a, N: Names, R: Wait> Player<'a, N, R> {
     fn give(&mut self, waits: bool) -> Option<()> {
         let (rt, heap, p, end) = (self.rt, self.heap, self.process, self.ends.0);
         let given = if waits {
-            heap.give_wait(rt, p, end, 1, &self.blocks, self.account, &OpenGate)
+            heap.give_until(rt, p, end, 1, &self.blocks, &Never, self.account, &OpenGate)
         } else {
             heap.give(rt, p, end, 1, &self.blocks, self.account, &OpenGate)
         };
@@ -166,7 +166,8 @@ impl<'a, N: Names, R: Wait> Player<'a, N, R> {
         let mut bytes = Vec::with_capacity(self.alloc, self.bytes.len()).ok()?;
         bytes.extend_from_slice(&self.bytes).ok()?;
         let block = heap.put(rt, p, &mut bytes, arena_of(p), self.account, gate);
-        let given = heap.give_wait(rt, p, end, 1, &[block.ok()?.rec], self.account, gate);
+        let rec = block.ok()?.rec;
+        let given = heap.give_until(rt, p, end, 1, &[rec], &Never, self.account, gate);
         given.ok().map(drop)
     }
 

@@ -1,10 +1,10 @@
 -- What the places list of the records, and what they own.
-use Rattle.xh_books.proofs.Common.{All, Among, Bool, Distinct, Item, List, None, Option, PlaceOf, Some, [], ap, arith, below_get, bytes_in_flight, bytes_owned, cond, dite, false}
-use Rattle.xh_books.proofs.Common.{false_from_ne_true, get_or, index_back, index_of, inl, inr, is_listed, is_some, keys, length, nat_tests, no_key, none_at, number_back, number_of, picked}
-use Rattle.xh_books.proofs.Common.{range_with_len, refl, same_Some, slice_get, suc, sum, sum_add, sum_by, sum_by-cons, sum_same, sum_zero, sym, there, total_of, true, value_at, value_here}
-use Rattle.xh_books.proofs.Common.{value_there, ℕ, ◌%◌, ◌+◌, ◌<◌, ◌==◌, ◌||◌, ◌∙◌, ◌∷◌, ◌≡◌, ◌≢◌, ◌≤◌}
+use Rattle.xh_books.proofs.Common.{All, All-tail, Among, Distinct, Item, List, None, Option, PlaceOf, Some, [], ap, arith, below_get, bytes_in_flight, bytes_owned, cond, dite, false}
+use Rattle.xh_books.proofs.Common.{false_from_ne_true, index_back, index_of, is_listed, is_some, keys, length, nat_tests, none_at, number_back, number_of, picked, range_with_len, refl, same_Some}
+use Rattle.xh_books.proofs.Common.{slice_get, subst, suc, sum, sum_add, sum_by, sum_by-cons, sum_same, sum_zero, sym, there, total_of, true, value_at, value_here, value_there, ℕ, ◌%◌, ◌+◌, ◌<◌, ◌==◌}
+use Rattle.xh_books.proofs.Common.{◌||◌, ◌∙◌, ◌∷◌, ◌≡◌, ◌≢◌, ◌≤◌}
+use Rattle.xh_model.proofs.Keyed.{at_key}
 use native.Mathlib.Decide.{ℕ_discrete}
-use Rattle.xh_books.proofs.Terms.{exchanged, same_terms}
 
 -- the place at the index j lists the record r, and this is its block
 abbrev pub ListsAt : List PlaceOf → ℕ → ℕ → Item → Type 0
@@ -23,64 +23,55 @@ abbrev len_of : Option Item → ℕ
 len_of None = 0
 len_of (Some x) = x.len
 
--- what the places list of a record, where at most one does and by its length
-listing : (ps : List PlaceOf) (r m : ℕ) → ((j : ℕ) (x : Item) → ListsAt ps j r x → x.len ≡ m) → ((i j : ℕ) (x y : Item) → ListsAt ps i r x → ListsAt ps j r y → i ≡ j)
-    → sum_by (λ p. len_of (value_at r p.blocks)) ps ≡ cond (is_listed r ps) m 0
-listing [] r m len one = refl
-listing (p ∷ ps) r m len one =
-    let rest = listing ps r m (λ j x at. len (suc j) x at) (λ i j x y a b. let e : suc i ≡ suc j = one (suc i) (suc j) x y a b in omega arith) in
-    sum_by-cons (λ q. len_of (value_at r q.blocks)) p ps ∙ go (value_at r p.blocks) refl rest
-  where
-    go : (o : Option Item) → value_at r p.blocks ≡ o → sum_by (λ q. len_of (value_at r q.blocks)) ps ≡ cond (is_listed r ps) m 0
-        → len_of o + sum_by (λ q. len_of (value_at r q.blocks)) ps ≡ cond (is_some o || is_listed r ps) m 0
-    go None e rest = omega (arith, rest)
-    go (Some x) e rest =
-        let no : is_listed r ps ≡ false = false_from_ne_true (is_listed r ps) (λ h. let t = listed_at ps r h in let z : 0 ≡ suc t.0 = one 0 (suc t.0) x t.1 (p, refl, e) t.2 in absurd (omega arith)) in
-        let same = len 0 x (p, refl, e) in let none : sum_by (λ q. len_of (value_at r q.blocks)) ps ≡ 0 = rest ∙ ap (λ (b : Bool). cond {A = ℕ} b m 0) no in omega arith
-
 -- what a place lists of all records
-total : (n count : ℕ) (bs : List (ℕ × Item)) → 0 < n → n ≤ 256 → Distinct (keys bs) → ((r : ℕ) → Among (keys bs) r → (r % 256 < n) × (index_of n r < count))
+total : (n count : ℕ) (bs : List (ℕ × Item)) → 0 < n → n ≤ 256 → Distinct (keys bs) → ((r : ℕ) (x : Item) → value_at r bs ≡ Some x → (r % 256 < n) × (index_of n r < count))
     → sum_by (λ k. len_of (value_at (number_of n k) bs)) (range_with_len 0 count) ≡ total_of bs
 total n count [] some small d inside = sum_zero (range_with_len 0 count)
 total n count (b ∷ bs) some small d inside =
-    let ks = range_with_len 0 count in let mine = inside b.0 (inl refl) in
-    let rest = total n count bs some small d.1 (λ r h. inside r (inr h)) in
+    let ks = range_with_len 0 count in
+    let rest = total n count bs some small d.1 (λ r x e. inside r x (value_there r b bs (λ same. d.0 (subst (Among (keys bs)) (sym same) (at_key r x bs e))) ∙ e)) in
     let one = picked b.1.len (index_of n b.0) 0 count (omega arith) (omega (arith, mine.1)) in
     sum_same _ _ ks each ∙ sum_add (λ k. cond {A = ℕ} (index_of n b.0 == k) b.1.len 0) (λ k. len_of (value_at (number_of n k) bs)) ks ∙ (λ i. one i + rest i)
   where
+    mine : (b.0 % 256 < n) × (index_of n b.0 < count)
+    mine = inside b.0 b.1 (value_here b.0 b bs refl)
+
     each : (k : ℕ) → len_of (value_at (number_of n k) (b ∷ bs)) ≡ cond (index_of n b.0 == k) b.1.len 0 + len_of (value_at (number_of n k) bs)
     each k =
-        let back = index_back n k some small in let forth = number_back n b.0 (inside b.0 (inl refl)).0 in
+        let back = index_back n k some small in let forth = number_back n b.0 mine.0 in
         dite (ℕ_discrete (index_of n b.0) k)
         (λ e. let here : number_of n k ≡ b.0 = ap (number_of n) (sym e) ∙ forth in let none = none_at b.0 bs d.0 in grind (arith, nat_tests, here, none, value_here b.0 b bs refl))
         (λ ne. let there : b.0 ≢ number_of n k = λ e. ne (ap (index_of n) e ∙ back) in grind (arith, nat_tests, value_there (number_of n k) b bs there))
 
-valued : {P : Type 0} (r : ℕ) (bs : List (ℕ × Item)) → Among (keys bs) r → ((x : Item) → value_at r bs ≡ Some x → P) → P
-valued {P} r bs h then = go (value_at r bs) refl
-  where
-    go : (o : Option Item) → value_at r bs ≡ o → P
-    go None e = absurd (no_key r bs e h)
-    go (Some x) e = then x e
+none_listed : (n k : ℕ) (lens : List ℕ) → sum lens ≡ bytes_in_flight [] n k lens
+none_listed n k [] = refl
+none_listed n k (m ∷ ms) = omega (arith, sum_by-cons (λ x. x) m ms, none_listed n (k + 1) ms)
 
--- what is in no list are all others
-split : (ps : List PlaceOf) (n k : ℕ) (lens : List ℕ) (f : ℕ → ℕ) → ((i j m : ℕ) → j ≡ k + i → slice_get lens i ≡ Some m → f j ≡ cond (is_listed (number_of n j) ps) m 0)
-    → sum lens ≡ sum_by f (range_with_len k (length lens)) + bytes_in_flight ps n k lens
-split ps n k [] f each = refl
-split ps n k (m ∷ ms) f each =
-    let rest = split ps n (k + 1) ms f (λ i j x e at. each (suc i) j x (omega arith) at) in
-    grind (arith, sum_by-cons (λ x. x) m ms, sum_by-cons f k (range_with_len (k + 1) (length ms)), each 0 k m (omega arith) refl, rest)
+-- what one place more lists is no longer among the others
+one_place : (p : PlaceOf) (ps : List PlaceOf) (n k : ℕ) (lens : List ℕ)
+    → ((i j m : ℕ) (x : Item) → j ≡ k + i → slice_get lens i ≡ Some m → value_at (number_of n j) p.blocks ≡ Some x → (x.len ≡ m) × (is_listed (number_of n j) ps ≡ false))
+    → bytes_in_flight ps n k lens ≡ sum_by (λ j. len_of (value_at (number_of n j) p.blocks)) (range_with_len k (length lens)) + bytes_in_flight (p ∷ ps) n k lens
+one_place p ps n k [] each = refl
+one_place p ps n k (m ∷ ms) each =
+    let rest = one_place p ps n (k + 1) ms (λ i j x y e at. each (suc i) j x y (omega arith) at) in
+    omega (arith, go (value_at (number_of n k) p.blocks) refl, rest, sum_by-cons (λ j. len_of (value_at (number_of n j) p.blocks)) k (range_with_len (k + 1) (length ms)))
+  where
+    go : (o : Option Item) → value_at (number_of n k) p.blocks ≡ o → cond {A = ℕ} (is_listed (number_of n k) ps) 0 m ≡ len_of o + cond (is_some o || is_listed (number_of n k) ps) 0 m
+    go None e = omega arith
+    go (Some x) e = let is = each 0 k m x (omega arith) refl e in rw is.1 (omega (arith, is.0))
 
 -- all lengths are those that the places own, and those of the records in no list
 pub all_lists : (ps : List PlaceOf) (n : ℕ) (lens : List ℕ) → 0 < n → n ≤ 256 → All (λ p. Distinct (keys p.blocks)) ps
     → ((j r : ℕ) (x : Item) → ListsAt ps j r x → (slice_get lens (index_of n r) ≡ Some x.len) × (r % 256 < n))
     → ((i j r : ℕ) (x y : Item) → ListsAt ps i r x → ListsAt ps j r y → i ≡ j)
     → sum lens ≡ bytes_owned ps + bytes_in_flight ps n 0 lens
-all_lists ps n lens some small distinct len one =
-    let ks = range_with_len 0 (length lens) in let f : PlaceOf → ℕ → ℕ = λ p k. len_of (value_at (number_of n k) p.blocks) in
-    let parts = split ps n 0 lens (λ k. sum_by (λ p. f p k) ps) (λ i j m e at. listing ps (number_of n j) m
-    (λ q x lists. let z : j ≡ i = omega arith in same_Some x.len m (sym (len q (number_of n j) x lists).0 ∙ ap (slice_get lens) (index_back n j some small ∙ z) ∙ at))
-    (λ q s x y. one q s (number_of n j) x y)) in
-    let totals = same_terms (λ p. sum_by (f p) ks) (λ p. total_of p.blocks) ps (λ j d below.
-    let p : PlaceOf = get_or ps j d in total n (length lens) p.blocks some small (distinct j d below)
-    (λ r h. valued r p.blocks h (λ x at. let is = len j r x (p, there ps j d below, at) in (is.1, below_get lens (index_of n r) x.len is.0)))) in
-    omega (arith, parts, exchanged f ps ks, totals)
+all_lists [] n lens some small distinct len one = omega (arith, none_listed n 0 lens)
+all_lists (p ∷ ps) n lens some small distinct len one =
+    let rest = all_lists ps n lens some small (All-tail (λ q. Distinct (keys q.blocks)) p ps distinct) (λ j r x at. len (suc j) r x at)
+    (λ i j r x y a b. let e = one (suc i) (suc j) r x y a b in omega arith) in
+    let mine = total n (length lens) p.blocks some small (distinct 0 p (omega arith)) (λ r x at. let is = len 0 r x (p, refl, at) in (is.1, below_get lens (index_of n r) x.len is.0)) in
+    let step = one_place p ps n 0 lens (λ i j m x e at v. let z : j ≡ i = omega arith in let here : ListsAt (p ∷ ps) 0 (number_of n j) x = (p, refl, v) in (
+      same_Some x.len m (sym (len 0 (number_of n j) x here).0 ∙ ap (slice_get lens) (index_back n j some small ∙ z) ∙ at),
+      false_from_ne_true (is_listed (number_of n j) ps) (λ h.
+          let t = listed_at ps (number_of n j) h in let two : 0 ≡ suc t.0 = one 0 (suc t.0) (number_of n j) x t.1 here t.2 in absurd (omega arith)),
+    )) in omega (arith, rest, mine, step, sum_by-cons (λ q. total_of q.blocks) p ps)

@@ -1,7 +1,6 @@
 pub mod Common
 pub mod Collected
 pub mod Audited
-pub mod Terms
 pub mod Ending
 pub mod Flying
 pub mod Owning

@@ -1,17 +1,13 @@
 -- What the places list is what the closed table's lots have, each once.
-use Rattle.xh_books.proofs.Common.{All, AllZip-left, AllZip-right, AreAt, AreFlightLines, AreSeats, Body, Bool, Direction, Ends, FlightLine, Held, Holder, IsHeldBy, IsHolder, IsInFlight, IsLotAt}
+use Rattle.xh_books.proofs.Common.{All, AllZip-left, AllZip-right, AreAt, AreFlightLines, AreSeats, Body, Bool, Direction, Ends, FlightLine, Held, Holder, IsHeldBy, IsInFlight, IsLotAt}
 use Rattle.xh_books.proofs.Common.{IsPlaceOf, IsSeatOf, IsSeatOfPlace, IsSomeAnd, Item, List, LotOf, MatchOption-at_some, None, Option, PlaceOf, PlaceSeen, Process, RecordsOf, Shape, Some, Stands}
 use Rattle.xh_books.proofs.Common.{StartsWith, TellFlight, ap, arena_of_number, arith, below_get, bytes_in_flight, bytes_owned, elem_slice, false, false_from_ne_true, flight_lines, get_or}
 use Rattle.xh_books.proofs.Common.{get_or_from_slice_get, in_range, index_back, index_of, is_listed, is_there, item_of, length, length-map, lens_of, lot_in, map, mod-lt, never, number_back}
-use Rattle.xh_books.proofs.Common.{number_of, one_holder, option_map, place_of, place_of_number, places_of, refl, same_Some, same_place, slice_elem, slice_get, slice_get-map, subst, sum, sym, there}
+use Rattle.xh_books.proofs.Common.{number_of, one_holder, option_map, place_of, place_of_number, places_of, same_Some, same_place, slice_elem, slice_get, slice_get-map, subst, sum, sym, there}
 use Rattle.xh_books.proofs.Common.{value_at, word_of, zip, ℕ, ◌%◌, ◌+◌, ◌<◌, ◌∙◌, ◌≡◌, ◌≤◌, Deed, IsLeft, deeds_by}
-use Rattle.xh_books.proofs.{Audited.at_map, FlightLines.all_full, FlightLines.are_lines, FlightLines.flying_is, Flying.ListsAt, Flying.all_lists, Flying.listed_at}
+use Rattle.xh_books.proofs.{Audited.at_map, FlightLines.all_flying, FlightLines.are_lines, FlightLines.there_is, Flying.ListsAt, Flying.all_lists, Flying.listed_at}
 
 -- ---- the seat of a place, and the place of a seat
-
-there_is : {A : Type 0} (o : Option A) (P : A → Type 0) → IsSomeAnd o P → (x : A) × (o ≡ Some x) × P x
-there_is None P h = absurd h
-there_is (Some x) P h = (x, refl, h)
 
 abbrev IsEnd : Held Body → PlaceSeen → Type 0
 IsEnd x p = IsSeatOfPlace x p.place × (x.front ≡ p.front)
@@ -31,7 +27,8 @@ place_at xs ps j x are at =
     (q.0.place, slice_get-map (λ (z : PlaceSeen). z.place) ps j ∙ ap (option_map (λ (z : PlaceSeen). z.place)) q.1, q.2.0)
 
 -- the seats are those of the table
-pub seats_own : (all : RecordsOf) (xs : List (Held Body)) (ps : List PlaceSeen) (k : ℕ) (x : Held Body) → AreSeats xs ps → All (IsPlaceOf all) (places_of ps) → slice_get xs k ≡ Some x → IsSeatOf all x
+pub seats_own : (all : RecordsOf) (xs : List (Held Body)) (ps : List PlaceSeen) (k : ℕ) (x : Held Body) → AreSeats xs ps → All (IsPlaceOf all) (places_of ps) → slice_get xs k ≡ Some x
+    → IsSeatOf all x
 seats_own all xs ps k x are of_ at =
     let q = place_at xs ps k x are at in let own = subst (IsPlaceOf all) (get_or_from_slice_get (places_of ps) k q.0 q.0 q.1) (of_ k q.0 (below_get (places_of ps) k q.0 q.1)) in
     (q.2.same.0 ∙ own.0, q.2.same.1 ∙ own.1)
@@ -56,31 +53,23 @@ module _ (fits : Body → ℕ → Bool) (all : RecordsOf) (seats : List (Held Bo
     len : slice_get (lens_of lots) (index_of n r) ≡ Some m
     inside : r % 256 < n
 
+  lot_of : (k : ℕ) (h : Option Holder) → IsHeldBy ends.owners k h → (l : LotOf Body) × (slice_get lots k ≡ Some l)
+  lot_of k h held = let below = in_range ends.owners k h held in let t = is_there lots k (omega (arith, ends.lots_long, below)) in (t.0, elem_slice lots k t.0 t.1)
+
   block : (j : ℕ) (p : PlaceOf) (r : ℕ) (x : Item) → slice_get ps j ≡ Some p → value_at r p.blocks ≡ Some x → Block j r x.len
   block j p r item at h =
-      let s = seat_at seats places j p are at in let x = s.0 in
-      let t = s.2.lists.listed r item h in let l : LotOf Body = t.0 in
-      let own = s.2.lists.all r l t.1 in
+      let s = seat_at seats places j p are at in let x = s.0 in let t = s.2.lists.listed r item h in let l : LotOf Body = t.0 in
       let shape : x.shape ≡ all.shape = shape_of j x s.1 in
-      let inside : r % 256 < n = subst (λ (z : Shape). r % 256 < z.records) shape own.1.1 in
-      let k : ℕ = index_of n r in
-      let number : number_of x.shape.records k ≡ r = ap (λ (z : Shape). number_of z.records k) shape ∙ number_back n r inside in
+      let inside : r % 256 < n = subst (λ (z : Shape). r % 256 < z.records) shape (s.2.lists.all r l t.1).1.1 in
+      let k : ℕ = index_of n r in let number : number_of x.shape.records k ≡ r = ap (λ (z : Shape). number_of z.records k) shape ∙ number_back n r inside in
       let lot : lot_in k x ≡ Some l = ap (λ (z : ℕ). value_at z x.lots) number ∙ t.1 in
       let held : IsHeldBy ends.owners k (Some (Process x.process)) = ends.held j k x l s.1 lot in
-      let below = in_range ends.owners k (Some (Process x.process)) held in
-      let there = is_there lots k (let e : length lots ≡ length ends.owners = ends.lots_long in omega arith) in
-      let l' : LotOf Body = there.0 in
-      let at' : slice_get lots k ≡ Some l' = elem_slice lots k l' there.1 in
-      let end = ends.lots_are k (Some (Process x.process)) l' held at' in
+      let there = lot_of k (Some (Process x.process)) held in let end = ends.lots_are k (Some (Process x.process)) there.0 held there.1 in
       let one : end.0 ≡ j = ends.one end.0 j end.1 x end.2 s.1 end.3 in
-      let same_seat : end.1 ≡ x = same_Some end.1 x (sym end.2 ∙ ap (slice_get seats) one ∙ s.1) in
-      let same : l' ≡ l = same_Some l' l (sym end.4 ∙ ap (λ (z : Held Body). lot_in k z) same_seat ∙ lot) in record {
-        seat = x;
-        at = s.1;
-        held = held;
-        len = slice_get-map (λ (z : LotOf Body). z.len) lots k ∙ ap (option_map (λ (z : LotOf Body). z.len)) at' ∙ ap (λ (z : LotOf Body). Some z.len) same ∙ ap (λ (z : Item). Some z.len) (sym t.2);
-        inside = inside;
-      }
+      let seat : end.1 ≡ x = same_Some end.1 x (sym end.2 ∙ ap (slice_get seats) one ∙ s.1) in
+      let same : there.0 ≡ l = same_Some there.0 l (sym end.4 ∙ ap (λ (z : Held Body). lot_in k z) seat ∙ lot) in
+      let len : option_map (λ (z : LotOf Body). z.len) (slice_get lots k) ≡ Some item.len = rw (there.1, same) (ap (λ (z : Item). Some z.len) (sym t.2)) in
+      record { seat = x; at = s.1; held = held; len = slice_get-map (λ (z : LotOf Body). z.len) lots k ∙ len; inside = inside }
 
   -- only one place lists it
   only : (i j r : ℕ) (x y : Item) → ListsAt ps i r x → ListsAt ps j r y → i ≡ j
@@ -90,7 +79,7 @@ module _ (fits : Body → ℕ → Bool) (all : RecordsOf) (seats : List (Held Bo
       ends.one i j mine.seat yours.seat mine.at yours.at (same_place mine.seat.process yours.seat.process (ap word_of holder))
 
   -- all lengths are those that the places own, and those of the records in no list
-  pub owned : sum (lens_of lots) ≡ bytes_owned ps + bytes_in_flight ps n 0 (lens_of lots)
+  owned : sum (lens_of lots) ≡ bytes_owned ps + bytes_in_flight ps n 0 (lens_of lots)
   owned = all_lists ps n (lens_of lots) some small
       (λ j d below. (seat_at seats places j (get_or ps j d) are (there ps j d below)).2.lists.distinct)
       (λ j r x lists. let b = block j lists.0 r x lists.1 lists.2 in (b.len, b.inside)) only
@@ -107,7 +96,7 @@ module _ (fits : Body → ℕ → Bool) (all : RecordsOf) (seats : List (Held Bo
   pub lots_at : AreAt n all.shape.names lots
   lots_at k l at =
       let below = in_range lots k l (slice_elem lots k l at) in
-      let there = is_there ends.owners k (let e : length lots ≡ length ends.owners = ends.lots_long in omega arith) in
+      let there = is_there ends.owners k (omega (arith, ends.lots_long, below)) in
       let is = is_lot k there.0 l there.1 at in
       let m : k % n < n = mod-lt k some in let small : k % n < 256 = omega arith in
       (subst (λ (z : ℕ). slice_get all.shape.names z ≡ Some l.id) (arena_of_number n k small) is.1, is.0 ∙ place_of_number n k small)
@@ -126,9 +115,8 @@ module _ (fits : Body → ℕ → Bool) (all : RecordsOf) (seats : List (Held Bo
   stands k m (Some (Process p)) l at len held =
       let end = ends.lots_are k (Some (Process p)) l held at in let x = end.1 in
       let q = place_at seats places end.0 x are end.2 in
-      let number : number_of x.shape.records k ≡ number_of n k = ap (λ (z : Shape). number_of z.records k) (shape_of end.0 x end.2) in
       let value : value_at (number_of n k) q.0.blocks ≡ Some (item_of l) =
-      subst (λ (z : ℕ). value_at z q.0.blocks ≡ Some (item_of l)) number (q.2.lists.all (number_of x.shape.records k) l end.4).0 in (
+      subst (λ (z : Shape). value_at (number_of z.records k) q.0.blocks ≡ Some (item_of l)) (shape_of end.0 x end.2) (q.2.lists.all (number_of x.shape.records k) l end.4).0 in (
         subst (λ (z : ℕ). 0 < z) len (q.2.whole (number_of n k) (item_of l) value),
         (
           end.0,
@@ -145,10 +133,8 @@ module _ (fits : Body → ℕ → Bool) (all : RecordsOf) (seats : List (Held Bo
   -- what is in flight was passed there last, and has its length
   passed : (k d : ℕ) → IsHeldBy ends.owners k (Some (Direction d)) → (l : LotOf Body) × (slice_get (lens_of lots) k ≡ Some l.len) × IsLeft ends.log (number_of n k) d l
   passed k d held =
-      let below = in_range ends.owners k (Some (Direction d)) held in
-      let here = is_there lots k (let e : length lots ≡ length ends.owners = ends.lots_long in omega arith) in
-      let at : slice_get lots k ≡ Some here.0 = elem_slice lots k here.0 here.1 in
-      (here.0, slice_get-map (λ (z : LotOf Body). z.len) lots k ∙ ap (option_map (λ (z : LotOf Body). z.len)) at, ends.left k d here.0 held at)
+      let t = lot_of k (Some (Direction d)) held in
+      (t.0, slice_get-map (λ (z : LotOf Body). z.len) lots k ∙ ap (option_map (λ (z : LotOf Body). z.len)) t.1, ends.left k d t.0 held t.1)
 
   long : length ends.owners ≡ length (lens_of lots)
   long = sym (length-map lots (λ (l : LotOf Body). l.len) ∙ ends.lots_long)
@@ -175,13 +161,11 @@ module _ (fits : Body → ℕ → Bool) (all : RecordsOf) (seats : List (Held Bo
   -- and their bytes are those of the records in no list
   are_flight_lines : AreFlightLines (bytes_in_flight ps n 0 (lens_of lots)) (flight_lines (zip (map word_of ends.owners) (lens_of lots)))
   are_flight_lines =
-      let each : (i j m : ℕ) (h : Option Holder) → j ≡ 0 + i → slice_get (lens_of lots) i ≡ Some m → slice_get ends.owners i ≡ Some h → IsHolder h × Stands ps (number_of n j) m h =
-      λ i j m h e at held. let z : i ≡ j = omega arith in let here = slice_elem ends.owners i h held in
-      (ends.holders i h here, subst (λ (k : ℕ). Stands ps (number_of n k) m h) z (quiet i m h at here)) in
-      subst (λ (z : ℕ). AreFlightLines z (flight_lines (zip (map word_of ends.owners) (lens_of lots)))) (flying_is ps n 0 ends.owners (lens_of lots) long each)
-      (are_lines (zip (map word_of ends.owners) (lens_of lots)) (λ d. all_full d ps n 0 ends.owners (lens_of lots) each))
+      let flying = all_flying ps n 0 ends.owners (lens_of lots) long (λ i j m h e at held. let z : i ≡ j = omega arith in let here = slice_elem ends.owners i h held in
+      (ends.holders i h here, subst (λ (k : ℕ). Stands ps (number_of n k) m h) z (quiet i m h at here))) in
+      subst (λ (z : ℕ). AreFlightLines z (flight_lines (zip (map word_of ends.owners) (lens_of lots)))) flying.1 (are_lines (zip (map word_of ends.owners) (lens_of lots)) flying.0)
 
   pub tell_flight : (lines : List FlightLine) → lines ≡ flight_lines (zip words (lens_of lots)) → TellFlight all.shape places (lens_of lots) lines
   unfolding TellFlight in_flight
   tell_flight lines e =
-      let is = in_flight lines e in (is, subst (λ (ls : List FlightLine). AreFlightLines (bytes_in_flight ps n 0 (lens_of lots)) ls) (sym is.lines_are) are_flight_lines)
+      let is = in_flight lines e in (is, subst (λ (ls : List FlightLine). AreFlightLines (bytes_in_flight ps n 0 (lens_of lots)) ls) (sym is.lines_are) are_flight_lines, owned)

@@ -8,6 +8,7 @@ use xh_arena::{Lot, Vault};
 use xh_place::Body;
 
 // Shows of vaults that the lots, with so many records an arena, are theirs, length by length.
+#[tactic(auto, using(crate::proofs::Audited::audited))]
 pub(crate) fn audit(vaults: &mut [Vault], lots: &mut [Lot<Body>], records: usize)
     requires some { 0 < records }
     requires long { length lots.old ≡ length vaults.old * records }

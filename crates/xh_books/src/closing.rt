@@ -9,7 +9,7 @@ ghost use Rattle.xh_place.specs.Places.{IsPlaceOf};
 ghost use Rattle.xh_books.specs.Closing.{AreClosed, HasArenasOf};
 ghost use Rattle.xh_core.specs.Flight.{AreFlightLines};
 ghost use Rattle.xh_books.specs.Flight.{IsInFlight};
-ghost use Rattle.xh_books.specs.inner.Steps.{AddUp, AreLotsOf, TellFlight, TellPlaces, lens_of};
+ghost use Rattle.xh_books.specs.inner.Steps.{TellFlight};
 ghost use Rattle.xh_books.specs.Ledgers.{IsBalanced, all_lengths, arena_lines, bytes_in_flight, bytes_owned, place_lines};
 
 use crate::auditing::audit;
@@ -18,7 +18,7 @@ use crate::flight::flight_lines;
 use crate::lines::{arena_lines, end_places};
 use arrayvec::ArrayVec;
 use std::alloc::{AllocError, Global};
-use xh_arena::{Lot, Vault};
+use xh_arena::Vault;
 use xh_core::{
     ARENA_LINES, ArenaLine, FLIGHT_LINES, FlightLine, Ledger, PLACE_LINES, PlaceLine, Refused,
 };
@@ -33,29 +33,35 @@ pub struct Books {
     pub flight: ArrayVec<FlightLine, FLIGHT_LINES>,
 }
 
-// What a table of records left: the lines of the directions, the lot of each record, and the lines of the places.
+// What a table of records left: the lines of the directions, and those of the places.
 type Left = (
     ArrayVec<FlightLine, FLIGHT_LINES>,
-    Vec<Lot<Body>>,
     ArrayVec<PlaceLine, PLACE_LINES>,
 );
 
-// Ends all places and closes the table of their records.
-fn close_table(alloc: Global, records: Records<Body>, places: Vec<Place>) -> Result<Left, Refused>
+// Ends all places, closes the table of their records, and shows of the vaults that its lots are theirs.
+fn close_table(
+    alloc: Global,
+    vaults: &mut [Vault],
+    records: Records<Body>,
+    places: Vec<Place>,
+) -> Result<Left, Refused>
     requires few { length records.shape.names ≤ MAX_ARENAS }
+    requires vaults { (vault_names vaults.old ≡ records.shape.names) × All (λ v. v.arena.records ≡ records.shape.records) vaults.old }
     requires places { All (IsPlaceOf records) (places_of places.items) × (vec_len places ≡ records.shape.places) }
-    ensures lots { IfOk result (λ r. AreLotsOf records.shape r.1.items) }
-    ensures owned { IfOk result (λ r. AddUp (places_of places.items) records.shape.records (lens_of r.1.items)) }
-    ensures flight { IfOk result (λ r. TellFlight records.shape places.items (lens_of r.1.items) r.0.items) }
-    ensures lines { IfOk result (λ r. TellPlaces (places_of places.items) r.2.items) }
+    ensures flight { IfOk result (λ r. TellFlight records.shape places.items (all_lengths vaults.old) r.0.items) }
+    ensures lines { IfOk result (λ r. r.1.items ≡ place_lines (places_of places.items)) }
+    ensures owned { IfOk result (λ r. sum_by (λ l. l.bytes) r.1.items ≡ bytes_owned (places_of places.items)) }
     ensures refused { IfErr result (λ e. e ≡ Refused.OutOfMemory) }
 {
+    let each = usize::from(records.per_arena());
     let (seats, lines) = end_places(alloc, places)?;
-    let Ok((words, lots)) = records.close(alloc, seats) else {
+    let Ok((words, mut lots)) = records.close(alloc, seats) else {
         return Err(Refused::OutOfMemory);
     };
     let flight = flight_lines(words.as_slice(), lots.as_slice());
-    Ok((flight, lots, lines))
+    audit(vaults, lots.as_mut_slice(), each);
+    Ok((flight, lines))
 }
 
 // The ledger of these lines.
@@ -69,10 +75,11 @@ pub(crate) fn ledger(
     ensures out { result.out ≡ sum_by (λ a. a.out) arenas.items }
     ensures all { result.out ≡ result.owned + result.flight }
 {
-    let mut out = 0u64;
-    for line in arenas.as_slice() {
-        out += u64::from(line.out);
-    }
+    let out = arenas
+        .as_slice()
+        .iter()
+        .map(|line| u64::from(line.out))
+        .sum();
     let owned = places.as_slice().iter().map(|line| line.bytes).sum();
     Ledger {
         arenas,
@@ -111,11 +118,9 @@ pub fn close_books<N: Names>(
     ensures lines { IfOk result (λ b. AreFlightLines b.ledger.flight b.flight.items) }
     ensures refused { IfErr result (λ e. e ≡ Refused.OutOfMemory) }
 {
-    let each = usize::from(records.per_arena());
     let mut vaults = gather(vaults, accounts);
-    let (flight, mut lots, places) = close_table(alloc, records, places)?;
     let arenas = arena_lines(vaults.as_slice());
-    audit(vaults.as_mut_slice(), lots.as_mut_slice(), each);
+    let (flight, places) = close_table(alloc, vaults.as_mut_slice(), records, places)?;
     let ledger = ledger(arenas, places);
     Ok(Books { ledger, flight })
 }

@@ -1,11 +1,12 @@
 // The lines of a ledger.
-ghost use Rattle.std.specs.Prelude.{◌≡◌, ◌+◌, ◌<◌, ◌≤◌, ◌++◌, [], All, IfOk, length, map, vec_len};
+ghost use Rattle.std.specs.Prelude.{◌≡◌, ◌+◌, ◌<◌, ◌≤◌, ◌++◌, [], All, IfOk, length, map, sum, vec_len};
 ghost use Rattle.std.specs.List.{cons_option, sum_by};
 ghost use Rattle.arrayvec.specs.ArrayVec.{array_vec_len};
 ghost use Rattle.xh_model.specs.declared.limits.TheConstants.{MAX_ARENAS, PLACES};
 ghost use Rattle.xh_kernel.specs.Places.{places_of};
-ghost use Rattle.xh_books.specs.inner.Steps.{AreBooks, AreSeats, HasAllTallies, closed_line};
-ghost use Rattle.xh_books.specs.Ledgers.{bytes_owned, place_lines};
+ghost use Rattle.xh_model.specs.Arena.{lengths_of};
+ghost use Rattle.xh_books.specs.inner.Steps.{AreSeats, closed_line};
+ghost use Rattle.xh_books.specs.Ledgers.{all_lengths, bytes_owned, place_lines};
 
 use arrayvec::ArrayVec;
 use std::alloc::{AllocError, Global};
@@ -17,9 +18,10 @@ use xh_records::Seat;
 
 // The line of an arena, of a vault that took in all its tallies.
 fn arena_line(vault: &Vault) -> ArenaLine
-    requires { HasAllTallies vault.now }
+    requires { length vault.now.collected ≡ vault.now.workers }
     ensures line { result ≡ closed_line vault.now }
-    ensures books { AreBooks vault.now }
+    ensures out { result.out ≡ sum (lengths_of vault.now.arena) }
+    ensures balanced { result.taken ≡ result.back + result.out }
 {
     // These show what the tallies say.
     let (_out, _taken) = (vault.handed_out(), vault.wear());
@@ -29,9 +31,10 @@ fn arena_line(vault: &Vault) -> ArenaLine
 // The lines of all arenas.
 pub(crate) fn arena_lines(vaults: &[Vault]) -> ArrayVec<ArenaLine, ARENA_LINES>
     requires few { length vaults.now ≤ MAX_ARENAS }
-    requires full { All HasAllTallies vaults.now }
+    requires full { All (λ v. length v.collected ≡ v.workers) vaults.now }
     ensures lines { result.items ≡ map closed_line vaults.now }
-    ensures books { All AreBooks vaults.now }
+    ensures out { sum_by (λ a. a.out) result.items ≡ sum (all_lengths vaults.now) }
+    ensures balanced { All (λ a. a.taken ≡ a.back + a.out) result.items }
 {
     let mut lines = ArrayVec::new();
     for vault in vaults {

@@ -1,29 +1,26 @@
 -- A refusal for want of space is that of the arena's vault.
-use Rattle.xh_calls.proofs.Common.{Block, END_BYTES, Err, FrontOf, IfErr, IsRefusedBy, Leaves, MatchOption, None, Ok, Option, PartsOf, Refused, Result, Some}
-use Rattle.xh_calls.proofs.Common.{Bool, FindsFull, IsLack, List, PlaceSeen, SpaceOf, Status, Stays, alloc_tests, arith, cond, false, length, start, subst, sym, true, ◌++◌}
+use Rattle.xh_calls.proofs.Common.{Block, END_BYTES, Err, FrontOf, IfErr, IsRefusedBy, Leaves, MatchOption, None, Ok, PartsOf, Refused, Result, Some}
+use Rattle.xh_calls.proofs.Common.{Bool, IsLack, Status, arith, cond, false, length, start, subst, sym, true, ◌++◌}
 use Rattle.xh_calls.proofs.Common.{VaultOf, ap, first_refusal, inl, inr, ℕ, ⊎_elim, ◌*◌, ◌<◌, ◌≡◌, ◌⊎◌}
 use Rattle.std.proofs.lemmas.Bool.Decides.{nat_tests}
-use Rattle.std.proofs.lemmas.Result.{MatchResult-weaker}
 use Rattle.std.specs.Prelude.{◌≢◌}
 use Rattle.xh_arena.specs.declared.refused.Refused.{Refused as Reason}
 use Rattle.xh_arena.specs.declared.refused.Refused.TheVariants as arena
 use Rattle.xh_calls.specs.Channels.{IsNoChannel}
 use Rattle.xh_calls.specs.Vaults.{AsksVault}
 use Rattle.xh_calls.specs.declared.heap.Till.{Till}
-use Rattle.xh_core.specs.Space.{rounded}
 use Rattle.xh_core.specs.declared.refused.Refused.TheVariants as refused
 use Rattle.xh_core.specs.Calls.{arena_tests}
 use Rattle.xh_core.specs.declared.status.Status.TheVariants.{Running}
-use Rattle.xh_place.specs.Calls.{Makes}
 use Rattle.xh_records.specs.declared.shape.Shape.{Shape}
 use Rattle.xh_place.specs.Vaults.{IsNoPair, IsRefusedAt}
 
 -- what the ends of a channel lack, by what the lent vaults say
-module _ {V : Type 0} (old new : V) (front : V → FrontOf VaultOf) (parts : PartsOf) (a : ℕ) (full : Type 0) where
+module _ {V : Type 0} (old new : V) (front : V → FrontOf VaultOf) (parts : PartsOf) (a : ℕ) (same full : Type 0) where
   abbrev changes : V → V → ℕ → VaultOf → VaultOf → Type 0
   changes x y = Leaves parts (front x) (front y)
 
-  pub lacks : (e : Refused) → IsNoPair changes old new a (2 * END_BYTES) full parts.size e → IsNoChannel parts ⊥ full a e × AsksVault parts a (2 * END_BYTES) (front old) (front new) e
+  pub lacks : (e : Refused) → IsNoPair changes old new a (2 * END_BYTES) full parts.size e → IsNoChannel parts same full a e × AsksVault parts a (2 * END_BYTES) (front old) (front new) e
   lacks refused.NoSpace h = ⊎_elim
       (λ (s : (parts.size < 2 * END_BYTES) × (new ≡ old)). (inl s.0, inl (s.0, ap front s.1)))
       (λ (r : IsRefusedAt changes old new a (2 * END_BYTES) arena.NoSpace). (inr (r.0, r.1.0, r.2, r.3), inr r)) h
@@ -42,40 +39,7 @@ none_had parts same full a e h is = ⊎_elim
     (λ (s : e ≡ refused.NoChannel). rw s is)
     (λ (s : (e ≡ refused.OutOfMemory) × (parts.comes_back ≡ true)). rw s.0 (s.1, is)) h
 
--- a lack of space is none of a channel
-pub has_channel : (parts : PartsOf) (same full : Type 0) (a : ℕ) (e : Refused) → IsNoChannel parts ⊥ full a e → IsNoChannel parts same full a e
-has_channel parts same full a refused.NoChannel h = absurd h
-has_channel parts same full a refused.OutOfMemory h = absurd h.1
-has_channel parts same full a e h = h
-
 -- ---- alloc
-
--- more is so of a vault that refused
-lack_as : (full : Type 0) (P Q : Reason → Type 0) → ((why : Reason) → P why → Q why) → (e : Refused) → IsLack full P e → IsLack full Q e
-lack_as full P Q f refused.NoSpace h = f arena.NoSpace h
-lack_as full P Q f refused.Worn h = f arena.Worn h
-lack_as full P Q f e h = h
-
--- the same call, of a process of the same status, and of arenas of which more is so
-pub allocated : {status status' : Status} {space space' : SpaceOf} (n : ℕ) (xs : List ℕ) (a : ℕ) (old new : PlaceSeen) (result : Result Block Refused) → status ≡ status' → space.arenas ≡ space'.arenas
-    → space.size ≡ space'.size → ((b m : ℕ) (why : Reason) → space.refuses b m why → space'.refuses b m why) → Makes status space n xs a old new result → Makes status' space' n xs a old new result
-allocated {status} {status'} {space} {space'} n xs a old new result same arenas size more h = record {
-  made = h.made;
-  block = h.block;
-  refused = h.refused;
-  why = subst (λ (o : Option Refused). MatchOption o (IfErr result (Lack space')) Refuses) (λ i. first_refusal (start (same i) ++ alloc_tests a (arenas i) n (size i))) (go (first_refusal
-      (start status ++ alloc_tests a space.arenas n space.size)) h.why);
-}
-  where
-    Lack : SpaceOf → Refused → Type 0
-    Lack s = IsLack (FindsFull 0 old new a) (s.refuses a (rounded n))
-
-    Refuses : Refused → Type 0
-    Refuses e = (result ≡ Err e) × Stays old new
-
-    go : (o : Option Refused) → MatchOption o (IfErr result (Lack space)) Refuses → MatchOption o (IfErr result (Lack space')) Refuses
-    go None l = MatchResult-weaker result l (λ b h. h) (lack_as (FindsFull 0 old new a) (space.refuses a (rounded n)) (space'.refuses a (rounded n)) (more a (rounded n)))
-    go (Some e) l = l
 
 -- NoSpace and Worn are what the vault answered: no test of an alloc refuses so; for other reasons the vaults are as they were
 module _ (parts : PartsOf) (a n : ℕ) (f g : FrontOf VaultOf) (Same : Type 0) (is_same : Same → g ≡ f) where

@@ -1,5 +1,4 @@
 pub mod Common
-pub mod Same
 pub mod Lists
 pub mod Fresh
 pub mod Made

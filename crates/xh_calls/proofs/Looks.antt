@@ -1,7 +1,11 @@
 -- What the looks at several endpoints find, from one look to the next.
-use Rattle.xh_calls.proofs.Common.{AnswersAt, FindNone, AreEndsOf, AreReady, Bool, Empty, EndDoes, Err, HaveNone, IsUntaken, List, MatchResult, None, NotEndpoint, Ok, Option, PeerClosed, PlaceOf}
-use Rattle.xh_calls.proofs.Common.{PlaceSeen, EndpointOf, Refused, Result, Some, TakesFirst, [], ap, arith, peer_closed, cond, end_tests, first_later, first_of, first_refusal, found, inl, inr, not, refl}
-use Rattle.xh_calls.proofs.Common.{TakesAt, start, status_at, subst, suc, sym, true, ℕ, ⊎_elim, ◌++◌, ◌∙◌, ◌∷◌, ◌≡◌, ◌⊎◌}
+use Rattle.xh_calls.proofs.Common.{AnswersAt, FindNone, AreEndsOf, AreReady, Bool, Empty, EndDoes, Err, HaveLooked, HaveNone, IsUntaken, List, None, NotEndpoint, Ok, Option, PeerClosed, PlaceOf}
+use Rattle.xh_calls.proofs.Common.{PlaceSeen, EndpointOf, Refused, Result, Some, [], ap, append_assoc, arith, peer_closed, cond, end_tests, first_later, first_refusal, found, inl, inr, not, refl}
+use Rattle.xh_calls.proofs.Common.{TakesAt, drop, get_or, length, start, status_at, subst, suc, sym, take, true, ℕ, ◌+◌, ◌<◌, ⊎_elim, ◌++◌, ◌∙◌, ◌∷◌, ◌≡◌, ◌⊎◌}
+use Rattle.std.specs.Option.{option_or}
+use Rattle.std.specs.Prelude.{◌≢◌}
+use Rattle.std.proofs.lemmas.List.{drop_more, length-take-le, set-get_or, set_split, take_more}
+use Rattle.xh_calls.specs.inner.Looking.{HasAnswer}
 use Rattle.xh_channel.specs.declared.refused.Refused.{Refused as NoMessage}
 use Rattle.xh_channel.specs.declared.refused.Refused.TheVariants as none
 use Rattle.xh_channel.specs.Refusals.{same_refusal}
@@ -44,70 +48,86 @@ module _ (p e : ℕ) (s t : PlaceSeen) (why : Refused) (runs : first_refusal (st
 
 -- ---- looks one after the other
 
-none_append : (p : ℕ) (a b : List ℕ) (s t u : PlaceSeen) → HaveNone p a s t → HaveNone p b t u → HaveNone p (a ++ b) s u
-none_append p [] b s t u h k = subst (λ (x : PlaceSeen). HaveNone p b x u) h k
-none_append p (e ∷ es) b s t u h k = (h.0, h.1, h.2, none_append p es b h.0 t u h.3 k)
+none_more : (p e : ℕ) (es : List ℕ) (s t u : PlaceSeen) (why : Refused) → HaveNone p es s t → TakesAt (status_at p t.place) e t u (Err why) → HaveNone p (es ++ e ∷ []) s u
+none_more p e [] s t u why h k = (u, why, subst (λ (x : PlaceSeen). TakesAt (status_at p x.place) e x u (Err why)) h k, refl)
+none_more p e (x ∷ es) s t u why h k = (h.0, h.1, h.2, none_more p e es h.0 t u why h.3 k)
 
-empties : (p : ℕ) (es : List ℕ) (s t : PlaceSeen) → FindNone p es s t → HaveNone p es s t
-empties p [] s t h = h
-empties p (e ∷ es) s t h = (h.0, Empty, h.1, empties p es h.0 t h.3)
+empty_more : (p e : ℕ) (es : List ℕ) (s t u : PlaceSeen) → FindNone p es s t → TakesAt (status_at p t.place) e t u (Err Empty) → u.place ≡ t.place → FindNone p (es ++ e ∷ []) s u
+empty_more p e [] s t u h k same = (u, subst (λ (x : PlaceSeen). TakesAt (status_at p x.place) e x u (Err Empty)) h k, same ∙ ap (λ (x : PlaceSeen). x.place) h, refl)
+empty_more p e (x ∷ es) s t u h k same = (h.0, h.1, h.2, empty_more p e es h.0 t u h.3 k same)
 
 abbrev answered : ℕ → Result Taken Refused → AnsweredAt
 answered at answer = record { at = at; answer = answer }
 
-module _ (p : ℕ) (es : List ℕ) (s u : PlaceSeen) (at : ℕ) where
-  looked : (why : Refused) → AnswersAt p es s u (answered at (Err why)) → HaveNone p es s u
-  looked why h = subst (λ (xs : List ℕ). HaveNone p xs s u) (sym h.ends_are)
-      (none_append p h.before (h.e ∷ h.after) s h.first u (empties p h.before s h.first h.looks.1) (h.mid, why, h.takes, h.looks.2))
-
-  -- one endpoint more before it
-  later_by : (e : ℕ) (r : PlaceSeen) (answer : Result Taken Refused) (h : AnswersAt p es s u (answered at answer))
-      → MatchResult answer (λ _. HaveNone p (e ∷ h.before) r h.first × (u ≡ h.mid)) (λ why. (why ≡ peer_closed) × FindNone p (e ∷ h.before) r h.first × HaveNone p h.after h.mid u)
-      → AnswersAt p (e ∷ es) r u (answered (suc at) answer)
-  later_by e r answer h looks = record {
-    before = e ∷ h.before;
+module _ (p e : ℕ) (es : List ℕ) (s t u : PlaceSeen) where
+  -- an endpoint without a message is the last
+  behind : (at : ℕ) (why : Refused) → TakesAt (status_at p t.place) e t u (Err why) → AnswersAt p es s t (answered at (Err peer_closed))
+      → AnswersAt p (es ++ e ∷ []) s u (answered at (Err peer_closed))
+  behind at why k h = record {
+    before = h.before;
     e = h.e;
-    after = h.after;
+    after = h.after ++ e ∷ [];
     first = h.first;
     mid = h.mid;
-    ends_are = ap (λ (xs : List ℕ). e ∷ xs) h.ends_are;
-    index = ap suc h.index;
+    ends_are = ap (λ (xs : List ℕ). xs ++ e ∷ []) h.ends_are ∙ append_assoc h.before (h.e ∷ h.after) (e ∷ []);
+    index = h.index;
     takes = h.takes;
-    looks = looks;
+    looks = (h.looks.0, h.looks.1, none_more p e h.after h.mid t u why h.looks.2 k);
   }
 
-  -- behind an endpoint without a message
-  message : (e : ℕ) (r : PlaceSeen) (why : Refused) → TakesAt (status_at p r.place) e r s (Err why) → (taken : Taken) → AnswersAt p es s u (answered at (Ok taken))
-      → AnswersAt p (e ∷ es) r u (answered (suc at) (Ok taken))
-  message e r why k taken h = later_by e r (Ok taken) h ((s, why, k, h.looks.0), h.looks.1)
+-- the endpoint of the index is looked at, behind those that have no message
+module _ (p : ℕ) (ends : List ℕ) (at : ℕ) (s t u : PlaceSeen) (below : at < length ends) where
+  abbrev e : ℕ
+  e = get_or ends at 0
 
-pub first_takes : (p e : ℕ) (es ends : List ℕ) (s t : PlaceSeen) (taken : Taken) → ends ≡ e ∷ es → TakesAt (status_at p s.place) e s t (Ok taken) → AnswersAt p ends s t (answered 0 (Ok taken))
-first_takes p e es ends s t taken is k = subst (λ (xs : List ℕ). AnswersAt p xs s t (answered 0 (Ok taken))) (sym is)
-    (record { before = []; e = e; after = es; first = s; mid = t; ends_are = refl; index = refl; takes = k; looks = (refl, refl) })
+  pub took : (taken : Taken) → HaveNone p (take at ends) s t → TakesAt (status_at p t.place) e t u (Ok taken) → AnswersAt p ends s u (answered at (Ok taken))
+  took taken h k = record {
+    before = take at ends;
+    e = e;
+    after = drop (suc at) ends;
+    first = t;
+    mid = u;
+    ends_are = sym (set-get_or ends at 0) ∙ set_split ends at e below;
+    index = sym (length-take-le at ends (omega arith));
+    takes = k;
+    looks = (h, refl);
+  }
 
-shut_first : (p e : ℕ) (es : List ℕ) (s t u : PlaceSeen) → TakesAt (status_at p s.place) e s t (Err peer_closed) → HaveNone p es t u → AnswersAt p (e ∷ es) s u (answered 0 (Err peer_closed))
-shut_first p e es s t u k h = record { before = []; e = e; after = es; first = s; mid = t; ends_are = refl; index = refl; takes = k; looks = (refl, refl, h) }
+  module _ (why : Refused) (ready : AreReady p t.place (drop at ends)) (k : TakesAt (status_at p t.place) e t u (Err why)) where
+    here : AreReady p t.place (e ∷ drop (at + 1) ends)
+    here = subst (AreReady p t.place) (drop_more ends at 0 below) ready
 
-over_empty : (p e : ℕ) (es : List ℕ) (r s u : PlaceSeen) (later : Result AnsweredAt Refused) → TakesAt (status_at p r.place) e r s (Err Empty) → s.place ≡ r.place → TakesFirst p es s u later
-    → TakesFirst p (e ∷ es) r u (first_of Empty later)
-over_empty p e es r s u (Ok a) k same h = go a.answer h where
-  go : (answer : Result Taken Refused) → AnswersAt p es s u (answered a.at answer) → TakesFirst p (e ∷ es) r u (first_of Empty (Ok (answered a.at answer)))
-  go (Ok taken) g = message p es s u a.at e r Empty k taken g
-  go (Err why) g = later_by p es s u a.at e r (Err why) g (g.looks.0, (s, k, same, g.looks.1), g.looks.2)
-over_empty p e es r s u (Err why) k same h = (h.0, (s, k, same, h.1))
+    still_ready : AreReady p u.place (drop (at + 1) ends)
+    still_ready = ready_after p e t u why here.0 here.1.0 k (drop (at + 1) ends) here.1.1
 
-over_closed : (p e : ℕ) (es : List ℕ) (s t u : PlaceSeen) (later : Result AnsweredAt Refused) → TakesAt (status_at p s.place) e s t (Err peer_closed) → TakesFirst p es t u later
-    → TakesFirst p (e ∷ es) s u (first_of peer_closed later)
-over_closed p e es s t u (Ok a) k h = go a.answer h where
-  go : (answer : Result Taken Refused) → AnswersAt p es t u (answered a.at answer) → TakesFirst p (e ∷ es) s u (first_of peer_closed (Ok (answered a.at answer)))
-  go (Ok taken) g = message p es t u a.at e s peer_closed k taken g
-  go (Err why) g = shut_first p e es s t u k (looked p es t u a.at why g)
-over_closed p e es s t u (Err why) k h = shut_first p e es s t u k (empties p es t u h.1)
+    -- it is empty
+    pub empty : (closed : Option (ℕ × Refused)) → why ≡ Empty → u.place ≡ t.place → HaveLooked p (take at ends) s t closed
+        → AreReady p u.place (drop (at + 1) ends) × HaveLooked p (take (at + 1) ends) s u closed
+    empty closed is same h = (still_ready, rw (take_more ends at 0 below) (none_more p e (take at ends) s t u why h.0 k, go closed h.1)) where
+      go : (c : Option (ℕ × Refused)) → HasAnswer p (take at ends) s t c → HasAnswer p (take at ends ++ e ∷ []) s u c
+      go None none = empty_more p e (take at ends) s t u none (rw is at k) same
+      go (Some c) a = (a.0, rw a.0 (behind p e (take at ends) s t u c.0 why k (rw a.0 at a.1)))
 
-pub took : (p e : ℕ) (es : List ℕ) (s t u : PlaceSeen) (why : Refused) (later : Result AnsweredAt Refused) → AreReady p s.place (e ∷ es) → TakesAt (status_at p s.place) e s t (Err why)
-    → (why ≡ Empty → t.place ≡ s.place)
-    → TakesFirst p es t u later → TakesFirst p (e ∷ es) s u (first_of why later)
-took p e es s t u why later r k same h = ⊎_elim
-    (λ (w : why ≡ Empty). rw w (over_empty p e es s t u later (rw w at k) (same w) h))
-    (λ (w : why ≡ peer_closed). rw w (over_closed p e es s t u later (rw w at k) h))
-    (which p e s t why r.0 r.1.0 k)
+    -- its peer is closed
+    pub shut : (closed : Option (ℕ × Refused)) → (why ≢ Empty) → HaveLooked p (take at ends) s t closed
+        → AreReady p u.place (drop (at + 1) ends) × HaveLooked p (take (at + 1) ends) s u (option_or closed (Some (at, why)))
+    shut closed other h = (still_ready, rw (take_more ends at 0 below) (none_more p e (take at ends) s t u why h.0 k, go closed h.1)) where
+      is : why ≡ peer_closed
+      is = ⊎_elim (λ (w : why ≡ Empty). absurd (other w)) (λ (w : why ≡ peer_closed). w) (which p e t u why here.0 here.1.0 k)
+
+      go : (c : Option (ℕ × Refused)) → HasAnswer p (take at ends) s t c → HasAnswer p (take at ends ++ e ∷ []) s u (option_or c (Some (at, why)))
+      go None none = (
+        is,
+        record {
+          before = take at ends;
+          e = e;
+          after = [];
+          first = t;
+          mid = u;
+          ends_are = refl;
+          index = sym (length-take-le at ends (omega arith));
+          takes = k;
+          looks = (is, none, refl);
+        },
+      )
+      go (Some c) a = (a.0, rw a.0 (behind p e (take at ends) s t u c.0 why k (rw a.0 at a.1)))

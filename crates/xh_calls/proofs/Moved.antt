@@ -1,9 +1,9 @@
 -- What a place's calls say of the tallies that they were lent.
-use Rattle.xh_calls.proofs.Common.{Accepts, Block, Err, FrontOf, HasGivenBack, History, Leaves, List, MatchResult, Ok, OnOk, PartsOf, PlaceSeen, ReceivesOr, Refused, Result, TallyOf, VaultOf, [], ap, arith, inl, inr}
+use Rattle.xh_calls.proofs.Common.{Accepts, Block, Err, FrontOf, HasGivenBack, History, Leaves, List, Ok, PartsOf, PlaceSeen, ReceivesOr, Refused, Result, TallyOf, VaultOf, [], ap, arith, inl, inr}
 use Rattle.xh_calls.proofs.Common.{none_back, refl, subst, sym, ℕ, ⊎_elim, ◌∙◌, ◌∷◌, ◌≡◌}
 use Rattle.xh_calls.specs.Vaults.{Entered, EntersEach}
 use Rattle.xh_place.proofs.Swept.{still}
-use Rattle.xh_place.specs.Vaults.{Asks, AsksEach, BringsBack}
+use Rattle.xh_place.specs.Vaults.{AsksEach, BringsBack}
 use Rattle.xh_calls.specs.Places.{GivesBack}
 use Rattle.xh_calls.specs.declared.heap.Till.{Till}
 
@@ -17,45 +17,34 @@ module _ {V : Type 0} {from to : V} (changes : V → V → ℕ → VaultOf → V
       (λ m. (m.2.0, (h.away.0, inr (m.0, m.1, m.2.1)), m.2.2)) h.away.1
 
 -- what is entered of the calls on vaults that know what the worker has seen
-module _ {V : Type 0} (parts : PartsOf) where
-  entered_each : (arenas : List ℕ) (x y : V) (front : V → FrontOf VaultOf) → AsksEach (λ v w. Leaves parts (front v) (front w)) arenas x y → Entered arenas (front x) (front y)
-  entered_each [] x y front h = (ap (λ (v : V). (front v).number) h, ap (λ (v : V). (front v).fronts) h)
-  entered_each (a ∷ arenas) x y front h =
-      let mid : V = h.0 in let entry = h.1.2.1 in let rest = entered_each arenas mid y front h.2 in
-      let number = ap (λ (f : FrontOf VaultOf). f.number) entry.seen in let fronts = ap (λ (f : FrontOf VaultOf). f.fronts) entry.seen in (
-        rest.0 ∙ number,
-        (
-          entry.others,
-          h.1.1,
-          entry.not_its_own,
-          subst (λ (z : ℕ × List (History VaultOf)). EntersEach arenas z.0 z.1 (front y).fronts) (λ i. (number i, fronts i)) rest.1,
-        ),
-      )
+entered_each : {V : Type 0} (parts : PartsOf) (arenas : List ℕ) (x y : V) (front : V → FrontOf VaultOf) → AsksEach (λ v w. Leaves parts (front v) (front w)) arenas x y
+    → Entered arenas (front x) (front y)
+entered_each {V} parts [] x y front h = (ap (λ (v : V). (front v).number) h, ap (λ (v : V). (front v).fronts) h)
+entered_each {V} parts (a ∷ arenas) x y front h =
+    let mid : V = h.0 in let entry = h.1.2.1 in let rest = entered_each parts arenas mid y front h.2 in
+    let number = ap (λ (f : FrontOf VaultOf). f.number) entry.seen in let fronts = ap (λ (f : FrontOf VaultOf). f.fronts) entry.seen in (
+      rest.0 ∙ number,
+      (
+        entry.others,
+        h.1.1,
+        entry.not_its_own,
+        subst (λ (z : ℕ × List (History VaultOf)). EntersEach arenas z.0 z.1 (front y).fronts) (λ i. (number i, fronts i)) rest.1,
+      ),
+    )
 
-  -- from the till that was brought to what it is at the end
-  pub entered : (arenas : List ℕ) {f g : Till} (x y : V) (till : V → Till) → till x ≡ f → g ≡ till y → AsksEach (λ v w. Leaves parts (till v).seen (till w).seen) arenas x y
-      → Entered arenas f.seen g.seen
-  entered arenas {f} {g} x y till start end h = subst (λ (z : Till). Entered arenas z.seen g.seen) start
-      (subst (λ (z : Till). Entered arenas (till x).seen z.seen) (sym end) (entered_each arenas x y (λ v. (till v).seen) h))
+-- of vaults that were lent with what lies in a till, from the till that was brought to what it is at the end
+module _ {V : Type 0} (parts : PartsOf) (x y : V) (till : V → Till) {f g : Till} (start : till x ≡ f) (end : g ≡ till y) where
+  abbrev changes : V → V → ℕ → VaultOf → VaultOf → Type 0
+  changes v w = Leaves parts (till v).seen (till w).seen
 
-  -- one arena was asked where the call went well
-  pub entered_once : {A : Type 0} (a : ℕ) {f g : Till} (x y : V) (till : V → Till) → till x ≡ f → g ≡ till y → (result : Result A Refused)
-      → OnOk result (Asks (λ v w. Leaves parts (till v).seen (till w).seen) a x y) → OnOk result (Entered (a ∷ []) f.seen g.seen)
-  entered_once a x y till start end (Ok b) h = entered (a ∷ []) x y till start end (y, h, refl)
-  entered_once a x y till start end (Err e) h = tt
+  pub lent : (P : Till → Till → Type 0) → P (till x) (till y) → P f g
+  lent P h = subst (λ (z : Till × Till). P z.0 z.1) (λ i. (start i, sym end i)) h
 
-  -- and else none
-  pub entered_or : {A : Type 0} (a : ℕ) {f g : Till} (x y : V) (till : V → Till) → till x ≡ f → g ≡ till y → (result : Result A Refused)
-      → MatchResult result (λ _. Asks (λ v w. Leaves parts (till v).seen (till w).seen) a x y) (λ _. y ≡ x) → MatchResult result (λ _. Entered (a ∷ []) f.seen g.seen) (λ _. g.seen ≡ f.seen)
-  entered_or a x y till start end (Ok b) h = entered (a ∷ []) x y till start end (y, h, refl)
-  entered_or a x y till start end (Err e) h = ap (λ (t : Till). t.seen) (end ∙ ap till h ∙ start)
+  pub entered : (arenas : List ℕ) → AsksEach changes arenas x y → Entered arenas f.seen g.seen
+  entered arenas h = lent (λ s t. Entered arenas s.seen t.seen) (entered_each parts arenas x y (λ v. (till v).seen) h)
 
-  pub came : {n : ℕ} {f g : Till} (x y : V) (till : V → Till) → till x ≡ f → g ≡ till y → BringsBack (λ v w. Leaves parts (till v).seen (till w).seen) (λ v. (till v).tallies.items) n x y
-      → GivesBack n f g
-  came {n} {f} {g} x y till start end h = (
-    subst (λ (z : Till). HasGivenBack n z.tallies.items g.tallies.items) start (subst (λ (z : Till). HasGivenBack n (till x).tallies.items z.tallies.items) (sym end) h.0),
-    (h.1.0, entered h.1.0 x y till start end h.1.1, h.1.2),
-  )
+  pub came : {n : ℕ} → BringsBack changes (λ v. (till v).tallies.items) n x y → GivesBack n f g
+  came {n} h = (lent (λ s t. HasGivenBack n s.tallies.items t.tallies.items) h.0, (h.1.0, entered h.1.0 h.1.1, h.1.2))
 
 -- nothing came back, and no arena was asked
 pub none_given : (f : Till) → GivesBack 0 f f

@@ -1,11 +1,10 @@
 -- The vault of an arena's lock stays one of that arena under each call, and its history ends in it.
-use Rattle.xh_calls.proofs.Common.{DoesTo, EndsIn, Enters, Err, FrontOf, HasSeen, History, IfErr, IfOk, IsKeptVault, IsRefusedBy, IsVaultOf, LotOf, Ok, PartsOf, PenOf, Result}
+use Rattle.xh_calls.proofs.Common.{EndsIn, Enters, Err, FrontOf, HasSeen, History, IfErr, IfOk, IsKeptVault, IsVaultOf, Leaves, LotOf, Ok, PartsOf, PenOf, Result}
 use Rattle.xh_calls.proofs.Common.{TallyOf, VaultOf, [], ap, at, length, refl, slice_set, subst, sym, ℕ, ◌++◌, ◌∙◌, ◌∷◌, ◌≡◌}
-use Rattle.xh_calls.specs.Vaults.{KeptOf}
 use Rattle.xh_arena.specs.declared.refused.Refused.{Refused}
 use Rattle.xh_arena.specs.Refusals.{RefusesCarve}
 use Rattle.xh_arena.specs.Sharing.{IsVaultCarved, IsVaultCut, IsVaultGivenBack}
-use Rattle.xh_model.specs.Arena.{ArenaState, IsLawfulArena}
+use Rattle.xh_model.specs.Arena.{ArenaState}
 use Rattle.xh_model.proofs.Calls.{back_records, back_size, carved_records, carved_size, cut_records, cut_size}
 
 ends_push : (v : VaultOf) (h : History VaultOf) (k : ℕ) → EndsIn v (h ++ (k, v) ∷ [])
@@ -13,31 +12,23 @@ ends_push v [] k = refl
 ends_push v (c ∷ []) k = refl
 ends_push v (c ∷ d ∷ h) k = ends_push v (d ∷ h) k
 
--- once a worker has entered what the vault is now
-module _ (p : PartsOf) (v w : VaultOf) (pen pen' : PenOf VaultOf) (front front' : FrontOf VaultOf) (was : IsKeptVault p (record { vault = v; pen = pen })) (is : IsVaultOf p pen.number w)
-    (pen_is : pen' ≡ record pen { history = pen.history ++ (front.number, w) ∷ [] }) (front_is : front' ≡ record front { fronts = slice_set front.fronts pen.number pen'.history })
-    (seen : HasSeen front.number (at front.fronts pen.number) pen.history) where
-  pub entered : IsKeptVault p (record { vault = w; pen = pen' })
-  entered = subst (λ (z : PenOf VaultOf). IsKeptVault p (record { vault = w; pen = z })) (sym pen_is) (was.0, is, ends_push w pen.history front.number)
+-- the pen writes what the vault is now behind what the worker has seen
+pub entry : (v w : VaultOf) (pen pen' : PenOf VaultOf) (front front' : FrontOf VaultOf) → pen' ≡ record pen { history = pen.history ++ (front.number, w) ∷ [] }
+    → front' ≡ record front { fronts = slice_set front.fronts pen.number pen'.history } → HasSeen front.number (at front.fronts pen.number) pen.history → EndsIn v pen.history
+    → EndsIn w pen'.history × Enters pen.number v w front front'
+entry v w pen pen' front front' pen_is front_is seen was = (
+  subst (λ (z : PenOf VaultOf). EndsIn w z.history) (sym pen_is) (ends_push w pen.history front.number),
+  record { others = seen.0; not_its_own = seen.2; found = subst (EndsIn v) seen.1 was; seen = (let history = seen.1 in cc) },
+)
 
-  entry : Enters pen.number v w front front'
-  entry = record { others = seen.0; not_its_own = seen.2; found = subst (EndsIn v) seen.1 was.2; seen = (let history = seen.1 in cc) }
+-- once the worker entered what the vault is now
+module _ (p : PartsOf) (v : VaultOf) {w : VaultOf} (pen pen' : PenOf VaultOf) {front front' : FrontOf VaultOf} {X : Type 0} (was : IsKeptVault p (record { vault = v; pen = pen }))
+    (same : (pen'.table ≡ pen.table) × (pen'.number ≡ pen.number) × X) (entered : (z : VaultOf) → EndsIn z pen.history → EndsIn w pen'.history × Enters pen.number z w front front') where
+  pub keeps : IsVaultOf p pen.number w → IsKeptVault p (record { vault = w; pen = pen' })
+  keeps is = (same.0 ∙ was.0, subst (λ (a : ℕ). IsVaultOf p a w) (sym same.1) is, (entered v was.2).0)
 
-  -- as what the lock holds shows it
-  module _ (k : KeptOf) (view : record { vault = v; pen = pen } ≡ k) where
-    pub does_to : (does : VaultOf → VaultOf → Type 0) → does v w → DoesTo p k.pen.number front front' does
-    does_to does done = subst (λ (z : KeptOf). DoesTo p z.pen.number front front' does) view (v, w, (was.1, entry), done)
-
-    -- where it refused to carve
-    pub asked : (n : ℕ) (X Y : Type 0) (result : Result ℕ Refused) → IsLawfulArena w.arena → IfErr result (λ e. RefusesCarve n v.arena e × (w ≡ v) × X × Y)
-        → IfErr result (IsRefusedBy p k.pen.number n front front')
-    asked n X Y (Ok start) lawful refused = tt
-    asked n X Y (Err e) lawful refused = subst (λ (z : KeptOf). IsRefusedBy p z.pen.number n front front' e) view (
-      v,
-      (was.1, subst (λ (z : VaultOf). Enters pen.number v z front front') refused.1 entry),
-      subst (λ (z : VaultOf). IsLawfulArena z.arena) refused.1 lawful,
-      refused.0,
-    )
+  pub leaves : {a : ℕ} → pen.number ≡ a → Leaves p front front' a v w
+  leaves number = subst (λ (a : ℕ). Leaves p front front' a v w) number (was.1, (entered v was.2).1)
 
 module _ (p : PartsOf) (a : ℕ) where
   stays : (v w : VaultOf) (back : ℕ) → IsVaultOf p a v → w ≡ record v { arena = w.arena; back = back } → w.arena.records ≡ v.arena.records

@@ -2,11 +2,12 @@
 ghost use Rattle.std.specs.Prelude.{◌≡◌, ◌<◌, ◌≤◌, ◌%◌, All, IfOk, Some, length, slice_get, vec_len};
 ghost use Rattle.std.specs.Sync.Mutex.{mutex_guard_value};
 ghost use Rattle.atomic_table.specs.Seated.{TableId};
+ghost use Rattle.xh_arena.specs.Views.{VaultOf};
 ghost use Rattle.xh_core.specs.ArenaLines.{arena_line};
 ghost use Rattle.xh_model.specs.declared.limits.TheConstants.{MAX_ARENAS, MAX_BYTES, UNIT};
 ghost use Rattle.xh_calls.specs.Parts.{IsOpen, vault_names};
 ghost use Rattle.xh_calls.specs.Places.{IsTillOf};
-ghost use Rattle.xh_calls.specs.Vaults.{Tells};
+ghost use Rattle.xh_calls.specs.Vaults.{EndsIn, Enters, Tells};
 ghost use Rattle.xh_calls.specs.inner.Making.{AreFreshFrom};
 
 use crate::heap::Till;
@@ -97,6 +98,16 @@ impl<N: Names> Arenas<N> {
         unreachable!()
     }
 
+    // The worker enters what an arena's vault is now in the arena's history.
+    #[inline(always)]
+    fn enter(&self, pen: &mut Pen<Vault>, seen: &mut Front<Vault>, vault: &Vault)
+        requires tables { (pen.old.table ≡ N.parts.vaults) × (seen.old.table ≡ N.parts.vaults) }
+        ensures same { (pen.new.table ≡ pen.old.table) × (pen.new.number ≡ pen.old.number) × (seen.new.table ≡ seen.old.table) }
+        ensures entered { (v : VaultOf) → EndsIn v pen.old.history → EndsIn vault.now pen.new.history × Enters pen.old.number v vault.now seen.old seen.new }
+    {
+        self.histories.add(pen, seen, None, vault);
+    }
+
     /// What the ledger says of an arena as it is at a step of the call, which the worker enters in the arena's history.
     pub fn line<R: Wait>(&self, rt: &R, arena: u8, seen: &mut Front<Vault>) -> ArenaLine
         requires there { (id : TableId) × (slice_get N.parts.records.shape.names arena ≡ Some id) }
@@ -105,7 +116,7 @@ impl<N: Names> Arenas<N> {
     {
         let mut guard = self.kept(rt, arena);
         let kept: &mut Kept<N> = &mut guard;
-        self.histories.add(&mut kept.pen, seen, None, &kept.vault);
+        self.enter(&mut kept.pen, seen, &kept.vault);
         vault_line(&kept.vault)
     }
 
@@ -172,17 +183,21 @@ impl<'a, N: Names, R: Wait> Vaults for Lent<'a, N, R> {
 
     #[inline(always)]
     fn carve(&mut self, arena: u8, lot: &mut Lot<Body>, n: u32) -> Result<u32, Refused> {
-        let mut kept = self.arenas.kept(self.rt, arena);
+        let mut guard = self.arenas.kept(self.rt, arena);
+        let kept: &mut Kept<N> = &mut guard;
         let Till { tallies, seen } = &mut self.till;
-        let tallies = tallies.as_mut_slice();
-        let tally = &mut tallies[usize::from(arena)];
-        kept.carve(&self.arenas.histories, seen, lot, tally, n)
+        let answer = kept.vault.carve(lot, &mut tallies[usize::from(arena)], n);
+        self.arenas.enter(&mut kept.pen, seen, &kept.vault);
+        answer
     }
 
     #[inline(always)]
     fn cut(&mut self, arena: u8, head: &mut Lot<Body>, tail: &mut Lot<Body>, k: u32) {
-        let mut kept = self.arenas.kept(self.rt, arena);
-        kept.cut(&self.arenas.histories, &mut self.till.seen, head, tail, k);
+        let mut guard = self.arenas.kept(self.rt, arena);
+        let kept: &mut Kept<N> = &mut guard;
+        kept.vault.cut(head, tail, k);
+        self.arenas
+            .enter(&mut kept.pen, &mut self.till.seen, &kept.vault);
     }
 
     #[inline(always)]
@@ -197,9 +212,9 @@ impl<'a, N: Names, R: Wait> Vaults for Lent<'a, N, R> {
 
     #[inline(always)]
     fn give_back(&mut self, lock: &mut MutexGuard<'a, Kept<N>>, arena: u8, lot: &mut Lot<Body>) {
+        let kept: &mut Kept<N> = lock;
         let Till { tallies, seen } = &mut self.till;
-        let tallies = tallies.as_mut_slice();
-        let tally = &mut tallies[usize::from(arena)];
-        lock.give_back(&self.arenas.histories, seen, lot, tally);
+        kept.vault.give_back(lot, &mut tallies[usize::from(arena)]);
+        self.arenas.enter(&mut kept.pen, seen, &kept.vault);
     }
 }

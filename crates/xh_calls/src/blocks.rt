@@ -21,6 +21,7 @@ use xh_place::{Gate, Place};
 
 impl<N: Names> Heap<N> {
     /// As `Kernel::alloc`, by whoever has the place's lock.
+    #[tactic(auto, using(xh_place::proofs::Events::stays_itself))]
     pub fn alloc<R: Wait, G: Gate>(
         &self,
         rt: &R,
@@ -48,6 +49,7 @@ impl<N: Names> Heap<N> {
     }
 
     /// As `Kernel::split`, by whoever has the place's lock.
+    #[tactic(auto, using(xh_place::proofs::Events::stays_itself))]
     pub fn split<R: Wait, G: Gate>(
         &self,
         rt: &R,
@@ -143,6 +145,7 @@ impl<N: Names> Heap<N> {
     }
 
     /// As `Kernel::free`, by whoever has the place's lock.
+    #[tactic(auto, using(xh_place::proofs::Events::stays_itself))]
     pub fn free<R: Wait, G: Gate>(
         &self,
         rt: &R,

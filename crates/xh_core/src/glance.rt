@@ -8,7 +8,7 @@ use xh_model::limits::PLACES;
 
 /// A place at one moment: its latest process (place + 32 × generation), how far that has come, how
 /// many blocks it holds, and how many bytes these are.
-#[derive(Clone, Copy, Debug)]
+#[derive(Clone, Copy, Debug, Default)]
 pub struct Glance {
     pub process: u16,
     pub state: Status,

@@ -12,7 +12,7 @@ use std::alloc::Global;
 use std::sync::{Mutex, Wait};
 use std::time::{Clock, Duration, Instant};
 use xh_core::{Contract, Refused};
-use xh_kernel::{Account, Kernel, Names, OpenGate, Overview};
+use xh_kernel::{Account, Kernel, Names, Never, OpenGate, Overview};
 use xh_model::limits::MAX_BUDGET;
 
 /// The longest that a call waits which waits for a time, in seconds.
@@ -115,7 +115,7 @@ impl<'a, 'k, N: Names, R: Wait + Clock> Process for Handle<'a, 'k, N, R> {
     fn alloc_wait(&mut self, arena: u32, n: u32) -> Result<Block, Refused> {
         let (rt, alloc, p) = (self.rt, self.alloc, self.number);
         self.kernel
-            .alloc_wait(rt, alloc, p, n, arena, self.account, &OpenGate)
+            .alloc_until(rt, alloc, p, n, arena, &Never, self.account, &OpenGate)
             .map(|named| Block::of(p, named))
     }
 
@@ -125,7 +125,7 @@ impl<'a, 'k, N: Names, R: Wait + Clock> Process for Handle<'a, 'k, N, R> {
             return self.alloc_in(arena, n);
         };
         self.kernel
-            .alloc_wait_until(rt, alloc, p, n, arena, deadline, self.account, &OpenGate)
+            .alloc_until(rt, alloc, p, n, arena, &deadline, self.account, &OpenGate)
             .map(|named| Block::of(p, named))
     }
 
@@ -269,9 +269,16 @@ impl<'a, 'k, N: Names, R: Wait + Clock> Process for Handle<'a, 'k, N, R> {
         let (rt, p) = (self.rt, self.number);
         let recs = recs_at(p, &load);
         let blocks = recs.as_slice();
-        let told = self
-            .kernel
-            .give_wait(rt, p, end.at(p), tag, blocks, self.account, &OpenGate);
+        let told = self.kernel.give_until(
+            rt,
+            p,
+            end.at(p),
+            tag,
+            blocks,
+            &Never,
+            self.account,
+            &OpenGate,
+        );
         given(p, load, told)
     }
 
@@ -290,7 +297,7 @@ impl<'a, 'k, N: Names, R: Wait + Clock> Process for Handle<'a, 'k, N, R> {
         let (e, blocks) = (end.at(p), recs.as_slice());
         let told = self
             .kernel
-            .give_wait_until(rt, p, e, tag, blocks, deadline, self.account, &OpenGate);
+            .give_until(rt, p, e, tag, blocks, &deadline, self.account, &OpenGate);
         given(p, load, told)
     }
 
@@ -314,7 +321,7 @@ impl<'a, 'k, N: Names, R: Wait + Clock> Process for Handle<'a, 'k, N, R> {
             return self.take(end);
         };
         self.kernel
-            .take_wait_until(rt, p, end.at(p), deadline, self.account, &OpenGate)
+            .take_until(rt, p, end.at(p), &deadline, self.account, &OpenGate)
             .map(|taken| Message::of(p, taken))
     }
 
@@ -332,7 +339,7 @@ impl<'a, 'k, N: Names, R: Wait + Clock> Process for Handle<'a, 'k, N, R> {
         let recs = ends_at(p, ends);
         let told = self
             .kernel
-            .take_any_wait(rt, p, recs.as_slice(), self.account, &OpenGate);
+            .take_any_until(rt, p, recs.as_slice(), &Never, self.account, &OpenGate);
         Answered::of(p, told)
     }
 
@@ -345,7 +352,7 @@ impl<'a, 'k, N: Names, R: Wait + Clock> Process for Handle<'a, 'k, N, R> {
         let looked = recs.as_slice();
         let told = self
             .kernel
-            .take_any_wait_until(rt, p, looked, deadline, self.account, &OpenGate);
+            .take_any_until(rt, p, looked, &deadline, self.account, &OpenGate);
         Answered::of(p, told)
     }
 

@@ -1,19 +1,19 @@
 -- Each step keeps the rule.
-use Rattle.std.proofs.Common.{◌≡◌, ◌≢◌, ℕ, zero, suc, ◌*◌, ◌<◌, ◌≤◌, List, [], ◌∷◌, ◌++◌, length, length-set, set, get_or, cond, eqb, refl, sym, ap, ◌∙◌, subst, ⊎_elim, arith, append_assoc, append-nil, get_or-set_same}
-use Rattle.std.proofs.Common.{eqb-true, get_or-set_other, le-ltb, lt-ltb, ltb, ltb-false, ltb-true, replicate, ne_eqb}
-use Rattle.std.proofs.lemmas.Bool.{eqb-false}
-use Rattle.std.specs.Prelude.{◌==◌, Bool, Some, true, false, slice_set}
-use Rattle.std.proofs.lemmas.List.{get_or-replicate}
-use mathlib.Core.Option.{some, none, some-ne-none, some-injective}
+use Rattle.std.proofs.Common.{◌≡◌, ◌≢◌, ℕ, zero, suc, ◌*◌, ◌<◌, ◌≤◌, List, [], ◌∷◌, ◌++◌, length, length-set, set, get_or, cond, eqb, refl, sym, ap, ◌∙◌, subst, ⊎_elim, arith, append_assoc}
+use Rattle.std.proofs.Common.{append-nil, get_or-set_same, eqb-true, get_or-set_other, ltb, replicate}
+use Rattle.std.proofs.lemmas.Bool.{cond_both, eqb-false}
+use Rattle.std.proofs.lemmas.Bool.Decides.{nat_tests}
+use Rattle.std.specs.Prelude.{Option, Some, max, slice_set, unwrap_or}
+use Rattle.std.proofs.lemmas.List.{get_or-replicate, get_or_past, length-replicate}
+use mathlib.Core.Option.{some, some-ne-none, some-injective}
 use lib.ListN.{get_elem?}
-use Rattle.atomic_table.specs.Table.{Allows, Joins, Me, Splits, State, keeps, opening, step, stepped}
-use Rattle.atomic_table.specs.Seated.{TableId}
+use Rattle.atomic_table.specs.Table.{Allows, Joins, Me, Splits, State, keeps, opening, stepped}
 use Rattle.atomic_table.proofs.Lists.{at_set, set_else}
 use Rattle.xh_history.specs.declared.view.View.{View}
 use Rattle.xh_model.specs.declared.limits.TheConstants.{PLACES}
 use Rattle.xh_history.specs.Histories.{History, HasSeen, IsLastShown, StartsWith, calls_of, at, last_of}
-use Rattle.xh_history.specs.inner.Views.{Fits, IsFront, IsFrontOrNone, AreKeptHistories, Looked, front_of, Serves, WritesPlace, both, first_view, place_alone, signed, spent, with_calls, without_place, without_worker}
-use Rattle.xh_history.specs.inner.Views.{all_words, onlooker, place_of_word, stride, worker_alone}
+use Rattle.xh_history.specs.inner.Views.{Fits, IsFront, IsPen, AreKeptHistories, Looked, Serves, ShowsNext, WritesPlace, both, given_before, kept_from, signed, spent, view_from, with_calls}
+use Rattle.xh_history.specs.inner.Views.{all_words, stride}
 
 -- the function with another value at one number
 abbrev but : {A : Type 0} → (ℕ → A) → ℕ → A → ℕ → A
@@ -21,38 +21,32 @@ but f p x q = cond (eqb q p) x (f q)
 
 -- what holds of each of its values
 at_each : {A : Type 0} (P : ℕ → A → Type 0) (f : ℕ → A) (p : ℕ) (x : A) → P p x → ((q : ℕ) → q ≢ p → P q (f q)) → (q : ℕ) → P q (but f p x q)
-at_each {A} P f p x here other q = go (eqb q p) refl where
-  go : (b : Bool) → eqb q p ≡ b → P q (cond b x (f q))
-  go true e = subst (λ (m : ℕ). P m x) (sym (eqb-true q p e)) here
-  go false e = other q (eqb-false q p e)
+at_each {A} P f p x here other q = cond_both (eqb q p) x (f q) (P q) (λ e. subst (λ (m : ℕ). P m x) (sym (eqb-true q p e)) here) (λ e. other q (eqb-false q p e))
 
 -- who has the numbers, once those from one to before another are given to a seat
 abbrev given : (ℕ → ℕ) → ℕ → ℕ → ℕ → ℕ → ℕ
 given f low high to q = cond (ltb q high) (cond (ltb q low) (f q) to) (f q)
 
 given_here : (f : ℕ → ℕ) (low high to q : ℕ) → (low ≤ q) × (q < high) → to ≡ given f low high to q
-given_here f low high to q within = sym (ap (λ (b : Bool). cond b (cond (ltb q low) (f q) to) (f q)) (lt-ltb q high within.1) ∙ ap (λ (b : Bool). cond b (f q) to) (le-ltb q low within.0))
+given_here f low high to q within = grind (arith, nat_tests)
 
 given_else : (f : ℕ → ℕ) (low high to j q : ℕ) → j ≡ f q → ((low ≤ q) × (q < high) → ⊥) → j ≡ given f low high to q
-given_else f low high to j q is out = is ∙ go (ltb q high) (ltb q low) refl refl where
-  go : (a b : Bool) → ltb q high ≡ a → ltb q low ≡ b → f q ≡ cond a (cond b (f q) to) (f q)
-  go false b e e' = refl
-  go true true e e' = refl
-  go true false e e' = absurd (out (ltb-false q low e', ltb-true q high e))
+given_else f low high to j q is out = grind (arith, nat_tests, is, out)
+
+pub last_push : {A : Type 0} (xs : List A) (x : A) → last_of (xs ++ x ∷ []) ≡ Some x
+last_push [] x = refl
+last_push (y ∷ []) x = refl
+last_push (y ∷ z ∷ zs) x = last_push (z ∷ zs) x
 
 module _ {E : Type 0} (shows : ℕ → ℕ → E → Type 0) where
   calls_append : (k : ℕ) (xs ys : History E) → calls_of k (xs ++ ys) ≡ calls_of k xs ++ calls_of k ys
   calls_append k [] ys = refl
-  calls_append k (c ∷ xs) ys = go (c.0 == k) (calls_append k xs ys) where
-    go : (b : Bool) → calls_of k (xs ++ ys) ≡ calls_of k xs ++ calls_of k ys
-        → cond b (c.1 ∷ calls_of k (xs ++ ys)) (calls_of k (xs ++ ys)) ≡ cond b (c.1 ∷ calls_of k xs) (calls_of k xs) ++ calls_of k ys
-    go true e = ap (λ l. c.1 ∷ l) e
-    go false e = e
+  calls_append k (c ∷ xs) ys = grind (arith, nat_tests, calls_append k xs ys)
 
   -- what one worker did is nothing of another's
   others_calls : (n k : ℕ) (es : List E) → n ≢ k → calls_of k (signed n es) ≡ []
   others_calls n k [] ne = refl
-  others_calls n k (e ∷ es) ne = ap (λ b. cond b (e ∷ calls_of k (signed n es)) (calls_of k (signed n es))) (ne_eqb n k ne) ∙ others_calls n k es ne
+  others_calls n k (e ∷ es) ne = grind (arith, nat_tests, ne, others_calls n k es ne)
 
   -- the whole history was seen
   sees_all : (k : ℕ) (h seen : History E) → seen ≡ h → HasSeen k seen h
@@ -81,11 +75,6 @@ module _ {E : Type 0} (shows : ℕ → ℕ → E → Type 0) where
   push_each P [] w all last (suc j) u e = absurd (some-ne-none u (sym e))
   push_each P (x ∷ xs) w all last zero u e = all zero u e
   push_each P (x ∷ xs) w all last (suc j) u e = push_each (λ k y. P (suc k) y) xs w (λ k y t. all (suc k) y t) last j u e
-
-  pub last_push : {A : Type 0} (xs : List A) (x : A) → last_of (xs ++ x ∷ []) ≡ Some x
-  last_push [] x = refl
-  last_push (y ∷ []) x = refl
-  last_push (y ∷ z ∷ zs) x = last_push (z ∷ zs) x
 
   starts_itself : (seen h : History E) → h ≡ seen → StartsWith h seen
   starts_itself seen h e = ([], e ∙ sym (append-nil seen))
@@ -127,27 +116,29 @@ module _ {E : Type 0} (shows : ℕ → ℕ → E → Type 0) where
       (λ q ne below. subst (IsLastShown shows q (h q)) (sym (get_or-set_other s.words word (stride * suc q) m 0 (λ e. ne (omega (arith, e, aligned))))) (told.3.1 q below)) in
       (h', told.1, told.2, (length-set s.words word m ∙ told.3.0, last), set_each (Fits h' told.1 told.2) s.views id w own other)
 
-  -- a step by which the worker's calls come to the history of the place, whose word is kept or becomes another, and shows the last of them
-  pub adds : {S : Type 0} (slots id word : ℕ) (f : ℕ → ℕ) (me : Me S (View E)) (es : List E) → word ≡ stride * suc me.0.place → me.0.places_end ≡ suc me.0.place → me.0.workers_end ≡ suc me.0.worker
-      → me.0.place < PLACES → length me.0.fronts ≡ PLACES
-      → ((n : ℕ) → IsLastShown shows me.0.place me.0.history n → IsLastShown shows me.0.place (me.0.history ++ signed me.0.worker es) (f n))
-      → Allows (AreKeptHistories shows) slots id me word f (λ n w. (w ≡ (with_calls es me.0, me.1)) × HasSeen me.0.worker (at me.0.fronts me.0.place) me.0.history)
-  adds slots id word f me es aligned one_place one_worker inside long shown s told len here fits =
-      let v : View E = me.0 in
+  -- a step by which the calls of the worker that the seat took in come to the history of its place, whose word is kept or becomes another, and shows the last of them
+  pub adds : {S : Type 0} (slots id word number : ℕ) (stored : Option ℕ) (pen front : View E) (taken : List (ℕ × S)) (es : List E) → word ≡ stride * suc number
+      → IsPen number pen → IsFront (front ∷ []) → ShowsNext shows number pen.history (pen.history ++ signed front.worker es) stored
+      → Allows (AreKeptHistories shows) slots id (both pen front, taken) word (unwrap_or stored)
+      (λ n w. (w ≡ (with_calls es (both pen front), taken)) × HasSeen front.worker (at front.fronts pen.place) pen.history)
+  adds slots id word number stored pen front taken es aligned writer server shown s told len here fits =
+      let v : View E = both pen front in
       let p : ℕ = v.place in
       let k : ℕ = v.worker in
       let n : ℕ = get_or s.words word 0 in
       let mine = told.4 id v here in
-      let writes : WritesPlace v p = (omega arith, omega (arith, one_place)) in
-      let serves : Serves v k = (omega arith, omega (arith, one_worker)) in
+      let writes : WritesPlace v p = (omega arith, omega (arith, writer.is, writer.alone)) in
+      let serves : Serves v k = (omega arith, omega (arith, server.alone)) in
       let whole = mine.whole p writes in
-      let new : History E = v.history ++ signed k es in
-      let before : IsLastShown shows p v.history n = subst (λ (x : History E). IsLastShown shows p x n) (sym whole) (subst (λ (m : ℕ). IsLastShown shows p (told.0 p) (get_or s.words m 0)) (sym aligned) (told.3.1 p inside)) in (
+      let before : IsLastShown shows number pen.history n = rw (whole, writer.is, aligned) (told.3.1 number writer.place) in
+      let new : History E = v.history ++ signed k es in (
         with_calls es v,
         keeps,
         tt,
-        extends s told id word me p (f n) new new (signed k es) here aligned inside (omega (arith, inside, long)) (ap (λ (l : History E). l ++ signed k es) whole) (shown n before)
-            (at_each (λ q x. WritesPlace v q → new ≡ x) told.0 p new (λ _. refl) (λ q ne st. absurd (ne (omega (arith, st.0, st.1, one_place)))))
+        extends s told id word (v, taken) p (unwrap_or stored n) new new (signed k es) here (omega (arith, aligned, writer.is))
+            (omega (arith, writer.place, writer.is)) (omega (arith, writer.place, writer.is, server.fronts)) (ap (λ (l : History E). l ++ signed k es) whole)
+            (subst (λ (i : ℕ). IsLastShown shows i new (unwrap_or stored n)) (sym writer.is) (shown n before))
+            (at_each (λ q x. WritesPlace v q → new ≡ x) told.0 p new (λ _. refl) (λ q ne st. absurd (ne (omega (arith, st.0, st.1, writer.is, writer.alone)))))
             (λ j u ne g. (
               λ st. absurd (ne (g.writer p st ∙ sym (mine.writer p writes))),
               λ j' sv. others_calls k j' es (λ same. ne (g.server j' sv ∙ ap told.2 (sym same) ∙ sym (mine.server k serves))),
@@ -156,18 +147,16 @@ module _ {E : Type 0} (shows : ℕ → ℕ → E → Type 0) where
       )
 
   -- a look at a place's word
-  pub looks : {S : Type 0} (slots id word : ℕ) (me : Me S (View E)) → word ≡ stride * suc (place_of_word word) → place_of_word word < PLACES → length me.0.fronts ≡ PLACES
-      → Allows (AreKeptHistories shows) slots id me word (λ n. n) (Looked shows (step slots word 0 0 none) me)
-  looks slots id word me aligned inside long s told len here fits =
+  pub looks : {S : Type 0} (slots id word p : ℕ) (me : Me S (View E)) → word ≡ stride * suc p → p < PLACES → length me.0.fronts ≡ PLACES
+      → Allows (AreKeptHistories shows) slots id me word (λ n. n) (Looked shows p me)
+  looks slots id word p me aligned inside long s told len here fits =
       let v : View E = me.0 in
-      let p : ℕ = place_of_word word in
       let mine = told.4 id v here in
       let later = (mine.begun p).0 in
       let new : History E = at v.fronts p ++ later in
       let there : new ≡ told.0 p = sym (mine.begun p).1 in
       let whole : WritesPlace v p → v.history ≡ new = λ st. mine.whole p st ∙ sym there in
-      let shown : IsLastShown shows p new (get_or s.words word 0) = subst (λ (x : History E). IsLastShown shows p x (get_or s.words word 0)) (sym there)
-      (subst (λ (m : ℕ). IsLastShown shows p (told.0 p) (get_or s.words m 0)) (sym aligned) (told.3.1 p inside)) in (
+      let shown : IsLastShown shows p new (get_or s.words word 0) = rw (there, aligned) (told.3.1 p inside) in (
         record v { fronts = slice_set v.fronts p new },
         keeps,
         tt,
@@ -176,72 +165,43 @@ module _ {E : Type 0} (shows : ℕ → ℕ → E → Type 0) where
         (later, refl, shown, whole, λ k sv. subst (HasSeen k (at v.fronts p)) (sym there) (mine.seen k sv p)),
       )
 
-  -- what a seat has of another's view
-  record Part (u v : View E) : Type 0 where
-    places : (q : ℕ) → WritesPlace u q → WritesPlace v q × (u.history ≡ v.history)
-    workers : (k : ℕ) → Serves u k → Serves v k × (u.fronts ≡ v.fronts)
-    fronts : (q : ℕ) → StartsWith (at v.fronts q) (at u.fronts q)
-
-  part : (h : ℕ → History E) (writer_of server_of writer_of' server_of' : ℕ → ℕ) (id id' : ℕ) (u v : View E) → Part u v → Fits h writer_of server_of id v
-      → ((q : ℕ) → WritesPlace u q → id' ≡ writer_of' q) → ((k : ℕ) → Serves u k → id' ≡ server_of' k) → Fits h writer_of' server_of' id' u
-  part h writer_of server_of writer_of' server_of' id id' u v p f writer server = record {
-    whole = λ q st. let t = p.places q st in t.1 ∙ f.whole q t.0;
-    writer = writer;
-    begun = λ q. starts_on (h q) (at v.fronts q) (at u.fronts q) (f.begun q) (p.fronts q);
-    seen = λ k sv q. let t = p.workers k sv in subst (λ (x : List (History E)). HasSeen k (at x q) (h q)) (sym t.1) (f.seen k t.0 q);
-    server = server;
+  -- a seat with some of the places and of the workers of another, which fits
+  narrow : (h : ℕ → History E) (writer_of server_of writer_of' server_of' : ℕ → ℕ) (id id' p p' k k' : ℕ) (v : View E) → Fits h writer_of server_of id v
+      → ((q : ℕ) → (p ≤ q) × (q < p') → WritesPlace v q × (id' ≡ writer_of' q)) → ((j : ℕ) → (k ≤ j) × (j < k') → Serves v j × (id' ≡ server_of' j))
+      → Fits h writer_of' server_of' id' (record v { place = p; places_end = p'; worker = k; workers_end = k' })
+  narrow h writer_of server_of writer_of' server_of' id id' p p' k k' v f places workers = record {
+    whole = λ q st. f.whole q (places q st).0;
+    writer = λ q st. (places q st).1;
+    begun = f.begun;
+    seen = λ j sv. f.seen j (workers j sv).0;
+    server = λ j sv. (workers j sv).1;
   }
 
-  -- a part of a seat's view goes to a new seat
-  splits : {S : Type 0} (id : ℕ) (v left right : View E) → Part left v → Part right v → ((q : ℕ) → WritesPlace left q → WritesPlace right q → ⊥) → ((k : ℕ) → Serves left k → Serves right k → ⊥)
-      → Splits {S = S} (AreKeptHistories shows) id v left right
-  splits id v left right l r no_place no_worker s told here =
+  -- a seat's first places and workers go to a new seat
+  pub splits : {S : Type 0} (id p k : ℕ) (v : View E) → v.place ≤ p → p ≤ max v.place v.places_end → v.worker ≤ k → k ≤ max v.worker v.workers_end
+      → Splits {S = S} (AreKeptHistories shows) id v (kept_from p k v) (given_before p k v)
+  splits id p k v a b c d s told here =
       let f = told.4 id v here in
-      let n = length (set s.views id left) in
-      let writer_of = given told.1 right.place right.places_end n in
-      let server_of = given told.2 right.worker right.workers_end n in
-      let mine : Fits told.0 writer_of server_of id left = part told.0 told.1 told.2 writer_of server_of id id left v l f
-      (λ q st. given_else told.1 right.place right.places_end n id q (f.writer q (l.places q st).0) (no_place q st))
-      (λ k sv. given_else told.2 right.worker right.workers_end n id k (f.server k (l.workers k sv).0) (no_worker k sv)) in
-      let new : Fits told.0 writer_of server_of n right = part told.0 told.1 told.2 writer_of server_of id n right v r f
-      (given_here told.1 right.place right.places_end n) (given_here told.2 right.worker right.workers_end n) in
-      let other : (j : ℕ) (u : View E) → j ≢ id → get_elem? s.views j ≡ some u → Fits told.0 writer_of server_of j u = λ j u ne e. let g = told.4 j u e in record {
-        whole = g.whole;
-        writer = λ q st. given_else told.1 right.place right.places_end n j q (g.writer q st) (λ st'. ne (g.writer q st ∙ sym (f.writer q (r.places q st').0)));
-        begun = g.begun;
-        seen = g.seen;
-        server = λ k sv. given_else told.2 right.worker right.workers_end n j k (g.server k sv) (λ sv'. ne (g.server k sv ∙ sym (f.server k (r.workers k sv').0)));
-      } in (
+      let n = length (set s.views id (kept_from p k v)) in
+      let writer_of = given told.1 v.place p n in
+      let server_of = given told.2 v.worker k n in
+      let places : (q : ℕ) → (v.place ≤ q) × (q < p) → WritesPlace v q = λ q st. (st.0, omega (arith, st.0, st.1, b)) in
+      let workers : (j : ℕ) → (v.worker ≤ j) × (j < k) → Serves v j = λ j sv. (sv.0, omega (arith, sv.0, sv.1, d)) in
+      let mine : Fits told.0 writer_of server_of id (kept_from p k v) = narrow told.0 told.1 told.2 writer_of server_of id id p v.places_end k v.workers_end v f
+      (λ q st. let t : WritesPlace v q = (omega (arith, a, st.0), st.1) in (t, given_else told.1 v.place p n id q (f.writer q t) (λ st'. omega (arith, st.0, st'.1))))
+      (λ j sv. let t : Serves v j = (omega (arith, c, sv.0), sv.1) in (t, given_else told.2 v.worker k n id j (f.server j t) (λ sv'. omega (arith, sv.0, sv'.1)))) in
+      let new : Fits told.0 writer_of server_of n (given_before p k v) = narrow told.0 told.1 told.2 writer_of server_of id n v.place p v.worker k v f
+      (λ q st. (places q st, given_here told.1 v.place p n q st)) (λ j sv. (workers j sv, given_here told.2 v.worker k n j sv)) in
+      let other : (j : ℕ) (u : View E) → j ≢ id → get_elem? s.views j ≡ some u → Fits told.0 writer_of server_of j u = λ j u ne e. let g = told.4 j u e in
+      narrow told.0 told.1 told.2 writer_of server_of j j u.place u.places_end u.worker u.workers_end u g
+      (λ q st. (st, given_else told.1 v.place p n j q (g.writer q st) (λ st'. ne (g.writer q st ∙ sym (f.writer q (places q st'))))))
+      (λ i sv. (sv, given_else told.2 v.worker k n j i (g.server i sv) (λ sv'. ne (g.server i sv ∙ sym (f.server i (workers i sv')))))) in (
         told.0,
         writer_of,
         server_of,
         told.3,
-        push_each (Fits told.0 writer_of server_of) (set s.views id left) right (set_each (Fits told.0 writer_of server_of) s.views id left mine other) new,
+        push_each (Fits told.0 writer_of server_of) (set s.views id (kept_from p k v)) (given_before p k v) (set_each (Fits told.0 writer_of server_of) s.views id (kept_from p k v) mine other) new,
       )
-
-  all_seen : (v : View E) (q : ℕ) → StartsWith (at v.fronts q) (at v.fronts q)
-  all_seen v q = starts_itself (at v.fronts q) (at v.fronts q) refl
-
-  -- the first place
-  pub place_splits : {S : Type 0} (id : ℕ) (v : View E) → v.place < v.places_end → Splits {S = S} (AreKeptHistories shows) id v (without_place v) (place_alone v)
-  place_splits id v some_left = splits id v (without_place v) (place_alone v)
-      record { places = λ q st. ((omega (arith, st.0), st.1), refl); workers = λ k sv. (sv, refl); fronts = all_seen v }
-      record { places = λ q st. ((st.0, omega (arith, st.1, some_left)), refl); workers = λ k sv. absurd (omega (arith, sv.1)); fronts = λ q. (at v.fronts q, refl) }
-      (λ q a b. omega (arith, a.0, b.1)) (λ k a b. omega (arith, b.1))
-
-  -- the first worker
-  pub worker_splits : {S : Type 0} (id : ℕ) (v : View E) → v.worker < v.workers_end → Splits {S = S} (AreKeptHistories shows) id v (without_worker v) (worker_alone v)
-  worker_splits id v some_left = splits id v (without_worker v) (worker_alone v)
-      record { places = λ q st. (st, refl); workers = λ k sv. ((omega (arith, sv.0), sv.1), refl); fronts = all_seen v }
-      record { places = λ q st. absurd (omega (arith, st.1)); workers = λ k sv. ((sv.0, omega (arith, sv.1, some_left)), refl); fronts = all_seen v }
-      (λ q a b. omega (arith, b.1)) (λ k a b. omega (arith, a.0, b.1))
-
-  -- what was seen alone
-  pub onlooks : {S : Type 0} (id : ℕ) (v : View E) → Splits {S = S} (AreKeptHistories shows) id v v (onlooker v)
-  onlooks id v = splits id v v (onlooker v)
-      record { places = λ q st. (st, refl); workers = λ k sv. (sv, refl); fronts = all_seen v }
-      record { places = λ q st. absurd (omega (arith, st.1)); workers = λ k sv. absurd (omega (arith, sv.1)); fronts = all_seen v }
-      (λ q a b. omega (arith, b.1)) (λ k a b. omega (arith, b.1))
 
   -- a seat takes in whom another serves, and what that has seen
   pub joins : {S : Type 0} (id : ℕ) (v : View E) (from : ℕ) (w : View E) → Joins {S = S} (AreKeptHistories shows) id v from w (both v w) spent
@@ -250,16 +210,16 @@ module _ {E : Type 0} (shows : ℕ → ℕ → E → Type 0) where
       let g : Fits told.0 told.1 told.2 from w = told.4 from w (sym (set_else s.views id from (both v w) apart) ∙ there) in
       let server_of = given told.2 w.worker w.workers_end id in
       let mine : Fits told.0 told.1 server_of id (both v w) = record { whole = f.whole; writer = f.writer; begun = g.begun; seen = g.seen; server = given_here told.2 w.worker w.workers_end id } in
-      let nothing : Fits told.0 told.1 server_of from spent = part told.0 told.1 told.2 told.1 server_of from from spent w
-      record { places = λ q st. absurd (omega (arith, st.1)); workers = λ k sv. absurd (omega (arith, sv.1)); fronts = λ q. (at w.fronts q, refl) } g
-      (λ q st. absurd (omega (arith, st.1))) (λ k sv. absurd (omega (arith, sv.1))) in
-      let other : (j : ℕ) (u : View E) → j ≢ id → get_elem? s.views j ≡ some u → j ≢ from → Fits told.0 told.1 server_of j u = λ j u _ e ne. let x = told.4 j u e in record {
-        whole = x.whole;
-        writer = x.writer;
-        begun = x.begun;
-        seen = x.seen;
-        server = λ k sv. given_else told.2 w.worker w.workers_end id j k (x.server k sv) (λ sv'. ne (x.server k sv ∙ sym (g.server k sv')));
-      } in (
+      let nothing : Fits told.0 told.1 server_of from spent = record {
+        whole = λ q st. absurd (omega (arith, st.1));
+        writer = λ q st. absurd (omega (arith, st.1));
+        begun = λ q. (told.0 q, refl);
+        seen = λ k sv. absurd (omega (arith, sv.1));
+        server = λ k sv. absurd (omega (arith, sv.1));
+      } in
+      let other : (j : ℕ) (u : View E) → j ≢ id → get_elem? s.views j ≡ some u → j ≢ from → Fits told.0 told.1 server_of j u = λ j u _ e ne. let x = told.4 j u e in
+      narrow told.0 told.1 told.2 told.1 server_of j j u.place u.places_end u.worker u.workers_end u x (λ q st. (st, x.writer q st))
+      (λ k sv. (sv, given_else told.2 w.worker w.workers_end id j k (x.server k sv) (λ sv'. ne (x.server k sv ∙ sym (g.server k sv'))))) in (
         told.0,
         told.1,
         server_of,
@@ -269,26 +229,19 @@ module _ {E : Type 0} (shows : ℕ → ℕ → E → Type 0) where
       )
 
   empties : (n p : ℕ) → at {E = E} (replicate n []) p ≡ []
-  empties zero p = refl
-  empties (suc n) zero = refl
-  empties (suc n) (suc p) = empties n p
+  empties n p = grind (arith, get_or-replicate, get_or_past, length-replicate)
 
-  pub begins : (S : Type 0) → AreKeptHistories shows {S = S} (opening (replicate all_words 0) [] first_view)
+  pub begins : (S : Type 0) → AreKeptHistories shows {S = S} (opening (replicate all_words 0) [] (view_from 0 0))
   begins S = (
     λ p. [],
     λ p. 0,
     λ k. 0,
     (refl, λ p below. get_or-replicate all_words (stride * suc p) 0 0 (omega (arith, below))),
-    push_each (Fits (λ p. []) (λ p. 0) (λ k. 0)) [] first_view (λ j u e. absurd (some-ne-none u (sym e))) record {
+    push_each (Fits (λ p. []) (λ p. 0) (λ k. 0)) [] (view_from 0 0) (λ j u e. absurd (some-ne-none u (sym e))) record {
       whole = λ p st. refl;
       writer = λ p st. refl;
-      begun = λ p. starts_itself (at first_view.fronts p) [] (sym (empties PLACES p));
-      seen = λ k sv p. sees_all k [] (at first_view.fronts p) (empties PLACES p);
+      begun = λ p. starts_itself (at (replicate PLACES []) p) [] (sym (empties PLACES p));
+      seen = λ k sv p. sees_all k [] (at (replicate PLACES []) p) (empties PLACES p);
       server = λ k sv. refl;
     },
   )
-
-  -- a front at a table is a seat there
-  pub not_blank : (id t : TableId) (views : List (View E)) → (front_of id views).table ≡ t → t.words ≡ all_words → IsFrontOrNone views → IsFront views
-  not_blank id t [] e all is = let none : 0 ≡ all_words = ap (λ (x : TableId). x.words) e ∙ all in absurd (omega (arith, none))
-  not_blank id t (v ∷ vs) e all is = is

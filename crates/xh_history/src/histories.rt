@@ -1,7 +1,7 @@
 //! The table of histories.
-ghost use Rattle.std.specs.Prelude.{◌≡◌, ◌<◌, ◌∷◌, [], ◌++◌, ◌*◌, All, ℕ, suc, IfOk, vec_len, slice_index_or, slice_set, unwrap_or};
+ghost use Rattle.std.specs.Prelude.{◌≡◌, ◌<◌, ◌∷◌, [], ◌++◌, ◌*◌, All, ℕ, suc, IfOk, length, vec_len, slice_index_or, slice_set, unwrap_or};
 ghost use Rattle.xh_history.specs.Histories.{FrontOf, HasSeen, PenOf, Sees, IsLastShown, StartsWith, at, fresh_front, fresh_look, fresh_pen};
-ghost use Rattle.xh_history.specs.inner.Views.{ShowsNext, place_of_word, signed, stride};
+ghost use Rattle.xh_history.specs.inner.Views.{Looked, ShowsNext, all_words, place_of_word, signed, stride};
 ghost use Rattle.xh_model.specs.declared.limits.TheConstants.{PLACES};
 
 use crate::seats::{Front, Look, Pen};
@@ -9,7 +9,7 @@ use crate::steps::{
     Adds, FirstPlace, FirstWorker, Looks, OneHistory, Onlooker, Says, Shows, TakesIn,
 };
 use crate::view::View;
-use atomic_table::{Badge, Seat, Table};
+use atomic_table::{Badge, Seat, Shared, Table};
 use std::alloc::{AllocError, Global};
 use std::marker::{Brand, Model};
 use std::mem;
@@ -26,6 +26,20 @@ fn word_at(place: u8) -> usize
     ensures place { place_of_word result ≡ place }
 {
     (usize::from(place) + 1) * STRIDE
+}
+
+// The place's word. The seat has seen the place's history to its end then.
+#[inline(always)]
+fn sight<E, S: Shows<E>>(
+    shared: &Shared<(), View<E>, (), OneHistory<S>>,
+    seat: &mut Seat<(), View<E>>,
+    place: u8,
+) -> u64
+    requires table { (seat.old.table_id ≡ shared.now.table_id) × (shared.now.table_id.words ≡ all_words) }
+    requires place { (place < PLACES) × (length seat.old.me.0.fronts ≡ PLACES) }
+    ensures { (seat.new.table_id ≡ seat.old.table_id) × Looked S.shows place seat.old.me result seat.new.me }
+{
+    shared.load::<Looks<S>>(seat, word_at(place))
 }
 
 /// The one history of each place, and the word that shows its last call. Its calls are of a type of which no value
@@ -49,7 +63,7 @@ impl<E, S: Shows<E>> Model for Histories<E, S> {
 
 impl<E, S: Shows<E>> Histories<E, S> {
     /// Empty histories: the pen of each place, the fronts of so many workers, and so many looks.
-    #[tactic(auto, using(crate::proofs::Keeping::onlooks, crate::proofs::Keeping::worker_splits, crate::proofs::Keeping::place_splits))]
+    #[tactic(auto, using(crate::proofs::Keeping::splits))]
     pub fn new(
         alloc: Global,
         workers: u8,
@@ -86,7 +100,7 @@ impl<E, S: Shows<E>> Histories<E, S> {
     // The worker adds these calls, and sees the place's history to its end. The place's word becomes this one, or
     // stays.
     #[inline(always)]
-    #[tactic(auto, using(crate::proofs::Keeping::joins, crate::proofs::Keeping::worker_splits))]
+    #[tactic(auto, using(crate::proofs::Keeping::joins, crate::proofs::Keeping::splits))]
     fn step<C: Says<E>>(&self, pen: &mut Pen<E>, front: &mut Front<E>, word: Option<u64>)
         requires tables { (pen.old.table ≡ self.now) × (front.old.table ≡ self.now) }
         requires shown { ShowsNext S.shows pen.old.number pen.old.history (pen.old.history ++ signed front.old.number C.calls) word }
@@ -124,6 +138,7 @@ impl<E, S: Shows<E>> Histories<E, S> {
     /// Which call it is the caller's proof says, by what is shown here. It is inlined, so that what is shown need
     /// not lie in memory.
     #[inline(always)]
+    #[tactic(auto, using(crate::proofs::Keeping::last_push))]
     pub fn add<A>(&self, pen: &mut Pen<E>, front: &mut Front<E>, word: Option<u64>, _about: &A)
         ghost call: { E }
         requires tables { (pen.old.table ≡ self.now) × (front.old.table ≡ self.now) }
@@ -142,9 +157,7 @@ impl<E, S: Shows<E>> Histories<E, S> {
         ensures same { look.new.table ≡ look.old.table }
         ensures seen { Sees S.shows look.old.fronts place result look.new.fronts }
     {
-        self.table
-            .shared
-            .load::<Looks<S>>(&mut look.seat, word_at(place))
+        sight(&self.table.shared, &mut look.seat, place)
     }
 
     /// As `look`, by a worker: all that is new to it are calls of others.
@@ -156,13 +169,13 @@ impl<E, S: Shows<E>> Histories<E, S> {
     {
         let shared = &self.table.shared;
         let mut seat = mem::replace(&mut front.badge, Badge::blank()).into_seat();
-        let word = shared.load::<Looks<S>>(&mut seat, word_at(place));
+        let word = sight(shared, &mut seat, place);
         front.badge = seat.into_badge();
         word
     }
 
     /// Shows that what the look has seen of the pen's place is a beginning of the place's one history.
-    #[tactic(auto, using(crate::proofs::Keeping::onlooks, crate::proofs::Keeping::joins))]
+    #[tactic(auto, using(crate::proofs::Keeping::splits, crate::proofs::Keeping::joins))]
     pub fn compare_look(&self, pen: &mut Pen<E>, look: &mut Look<E>)
         requires { (pen.old.table ≡ self.now) × (look.old.table ≡ self.now) }
         ensures same { (pen.new ≡ pen.old) × (look.new ≡ look.old) }
@@ -171,6 +184,6 @@ impl<E, S: Shows<E>> Histories<E, S> {
         let shared = &self.table.shared;
         let seen = shared.split_seat::<Onlooker>(&mut look.seat);
         shared.join_seat::<TakesIn>(&mut pen.seat, seen);
-        shared.load::<Looks<S>>(&mut pen.seat, word_at(pen.number));
+        sight(shared, &mut pen.seat, pen.number);
     }
 }

@@ -71,7 +71,6 @@ pub struct Look<E> {
 }
 
 impl<E> Model for Look<E> {
-    ghost use Rattle.std.specs.Prelude.{◌≡◌, length};
     ghost use Rattle.xh_history.specs.Histories.{LookOf};
     ghost use Rattle.xh_history.specs.inner.Views.{IsOnlooker};
 

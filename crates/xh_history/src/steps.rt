@@ -23,44 +23,46 @@ pub struct OneHistory<S> {
 }
 
 impl<E, S: Shows<E>> TableRule<(), View<E>, ()> for OneHistory<S> {
-    ghost use Rattle.xh_history.specs.inner.Views.{AreKeptHistories, first_view};
+    ghost use Rattle.xh_history.specs.inner.Views.{AreKeptHistories, view_from};
 
     ghost holds = { λ _ s. AreKeptHistories S.shows s };
 
-    ghost first = { λ _. first_view };
+    ghost first = { λ _. view_from 0 0 };
 }
 
 /// The first place goes to a seat of its own.
 pub struct FirstPlace;
 
 impl<E> Split<View<E>> for FirstPlace {
-    ghost use Rattle.xh_history.specs.inner.Views.{without_place, place_alone};
+    ghost use Rattle.std.specs.Prelude.{suc};
+    ghost use Rattle.xh_history.specs.inner.Views.{given_before, kept_from};
 
-    ghost left = { without_place };
+    ghost left = { λ v. kept_from (suc v.place) v.worker v };
 
-    ghost right = { place_alone };
+    ghost right = { λ v. given_before (suc v.place) v.worker v };
 }
 
 /// The first worker goes to a seat of its own.
 pub struct FirstWorker;
 
 impl<E> Split<View<E>> for FirstWorker {
-    ghost use Rattle.xh_history.specs.inner.Views.{without_worker, worker_alone};
+    ghost use Rattle.std.specs.Prelude.{suc};
+    ghost use Rattle.xh_history.specs.inner.Views.{given_before, kept_from};
 
-    ghost left = { without_worker };
+    ghost left = { λ v. kept_from v.place (suc v.worker) v };
 
-    ghost right = { worker_alone };
+    ghost right = { λ v. given_before v.place (suc v.worker) v };
 }
 
 /// The new seat adds nothing, and has seen as much.
 pub struct Onlooker;
 
 impl<E> Split<View<E>> for Onlooker {
-    ghost use Rattle.xh_history.specs.inner.Views.{onlooker};
+    ghost use Rattle.xh_history.specs.inner.Views.{given_before, kept_from};
 
-    ghost left = { λ v. v };
+    ghost left = { λ v. kept_from v.place v.worker v };
 
-    ghost right = { onlooker };
+    ghost right = { λ v. given_before v.place v.worker v };
 }
 
 /// The seat of a place takes in that of a worker, or what a look has seen.
@@ -104,7 +106,7 @@ pub struct Looks<S> {
 }
 
 impl<E, S: Shows<E>> Play<(), View<E>> for Looks<S> {
-    ghost use Rattle.xh_history.specs.inner.Views.{Looked};
+    ghost use Rattle.xh_history.specs.inner.Views.{Looked, place_of_word};
 
-    ghost then = { Looked S.shows };
+    ghost then = { λ s. Looked S.shows (place_of_word s.word) };
 }

@@ -1,5 +1,6 @@
 -- What stands behind the lock of a place.
-use Rattle.std.specs.Prelude.{◌≡◌, List, [], ◌∷◌}
+use Rattle.std.specs.Prelude.{◌≡◌, List}
+use Rattle.std.specs.List.{AllZip}
 use Rattle.xh_calls.specs.declared.call.Entry.{Entry}
 use Rattle.xh_calls.specs.Parts.{PartsOf}
 use Rattle.xh_history.specs.Histories.{PenOf}
@@ -16,7 +17,4 @@ pub record IsKeptPlace (parts : PartsOf) (p : PlaceSeen) (pen : PenOf Entry) : T
 
 -- the same of each place, and the pen beside it
 abbrev pub AreKept : PartsOf → List PlaceSeen → List (PenOf Entry) → Type 0
-AreKept parts [] [] = Unit {0}
-AreKept parts [] (pen ∷ rest) = ⊥
-AreKept parts (p ∷ ps) [] = ⊥
-AreKept parts (p ∷ ps) (pen ∷ rest) = IsKeptPlace parts p pen × AreKept parts ps rest
+AreKept parts = AllZip (IsKeptPlace parts)

@@ -37,8 +37,8 @@ fn compare_account<N: Names>(
     ensures same { (pens.new ≡ pens.old) × (account.new ≡ record account.old { fronts = account.new.fronts }) }
     ensures seen { All (λ p. HasSeen account.old.number (at account.old.fronts p.number) p.history) pens.old }
 {
-    for place in 0..pens.len() {
-        account.compare(histories, &mut pens[place]);
+    for pen in pens.iter_mut() {
+        account.compare(histories, pen);
     }
 }
 
@@ -53,8 +53,8 @@ fn compare_accounts<N: Names>(
     ensures same { (pens.new ≡ pens.old) × (tallies_of accounts.new ≡ tallies_of accounts.old) }
     ensures seen { All (λ a. All (λ p. HasSeen a.number (at a.fronts p.number) p.history) pens.old) accounts.old }
 {
-    for worker in 0..accounts.len() {
-        compare_account(histories, pens, &mut accounts[worker]);
+    for account in accounts.iter_mut() {
+        compare_account(histories, pens, account);
     }
 }
 
@@ -65,8 +65,8 @@ fn compare_look(histories: &Histories<Entry, Glances>, pens: &mut [Pen<Entry>], 
     ensures same { (pens.new ≡ pens.old) × (look.new ≡ look.old) }
     ensures looked { All (λ p. StartsWith p.history (at look.old.fronts p.number)) pens.old }
 {
-    for place in 0..pens.len() {
-        histories.compare_look(&mut pens[place], look);
+    for pen in pens.iter_mut() {
+        histories.compare_look(pen, look);
     }
 }
 

@@ -106,11 +106,7 @@ fn lock_places<N: Names>(
     ensures refused { IfErr result (λ e. e ≡ Refused.OutOfMemory) }
 {
     let mut locks = Vec::with_capacity(alloc, seats.len())?;
-    let mut pens = pens.into_iter();
-    for seat in seats {
-        let Some(pen) = pens.next() else {
-            unreachable!()
-        };
+    for (seat, pen) in seats.into_iter().zip(pens) {
         locks.push(lock_place(alloc, records, seat, pen)?)?;
     }
     Ok(locks)

@@ -18,6 +18,7 @@ pub use finishing::compare;
 pub use kernel::{Kernel, Settled};
 pub use overview::{Awaited, Overview, PlaceNow, write_arenas, write_place};
 pub use parts::{Look, Parts};
+pub use until::{Never, Until};
 pub use words::Glances;
 pub use xh_calls::{AnsweredAt, Call, Entry, MAX_ENDS, Names};
 pub use xh_channel::Spot;

@@ -23,17 +23,10 @@ pub enum Awaited {
 }
 
 /// A place: its latest process, how far that has come, its blocks and their bytes, and what it waits for, if it does.
-#[derive(Clone, Copy, Debug)]
+#[derive(Clone, Copy, Debug, Default)]
 pub struct PlaceNow {
     pub glance: Glance,
     pub awaits: Option<Awaited>,
-}
-
-impl Default for PlaceNow {
-    fn default() -> PlaceNow {
-        let (glance, awaits) = (unpack(0, 0), None);
-        PlaceNow { glance, awaits }
-    }
 }
 
 /// All arenas and all 32 places, each as it was at a moment of the call, one after another. As a text it has the ledger's line for

@@ -7,23 +7,24 @@ use std::time::{Clock, Instant};
 use xh_channel::{Channels, Spot};
 
 /// A time until which a call looks again and again, and how it sleeps between two looks.
-pub(crate) trait Until<R: Wait> {
+pub trait Until<R: Wait> {
+    /// Whether it never comes.
     ghost never: { Bool };
 
-    // Whether it is past, or the clock can't be read.
+    /// Whether it is past, or the clock can't be read.
     fn is_past(&self, rt: &R) -> bool
         ensures { never ≡ true → result ≡ false };
 
-    // Sleeps while the turn of the spot's channel is `seen`.
+    /// Sleeps while the turn of the spot's channel is `seen`.
     fn sleep(&self, rt: &R, channels: &Channels, spot: Spot, seen: u64);
 
-    // Sleeps while the place's bell is `seen`.
+    /// Sleeps while the place's bell is `seen`.
     fn sleep_at(&self, rt: &R, channels: &Channels, place: u8, seen: u64)
         requires { place < PLACES };
 }
 
 /// A time that never comes.
-pub(crate) struct Never;
+pub struct Never;
 
 impl<R: Wait> Until<R> for Never {
     ghost never = { true };

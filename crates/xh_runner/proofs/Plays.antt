@@ -1,10 +1,12 @@
 -- Lemmas on how lines are played, and on which reply is whose.
-use Rattle.xh_runner.proofs.Common.{NumberedReply, Bool, Line, List, Plays, Processes, Reply, World, [], add-one, ap, append-nil, append_assoc, arith, drop, drop-cons, false}
+use Rattle.xh_runner.proofs.Common.{LAST, NumberedReply, Bool, Line, List, Plays, Processes, Reply, World, [], add-one, ap, append-nil, append_assoc, arith, drop, drop-cons, false}
 use Rattle.xh_runner.proofs.Common.{filter, get_or, if◌then◌else◌, length, map, nat_tests, nil_from_length, part, part_of, refl, set, subst, suc, sym, true, zero, ℕ, ◌++◌, ◌+◌, ◌<◌, ◌==◌}
 use Rattle.xh_runner.proofs.Common.{◌∙◌, ◌∷◌, ◌≡◌, ◌≤◌}
 use Rattle.std.proofs.Common.{take, ◌≢◌}
+use Rattle.std.specs.List.{AllZip}
 use Rattle.std.proofs.lemmas.List.{Elements.filter_more, get_or-set_other, get_or-set_same}
 use Rattle.xh_runner.specs.Plays.{AllZipFrom, replies_in}
+use Rattle.xh_runner.specs.inner.Tasks.{AreEnough, AreTold}
 
 -- ---- a loop that plays those of the lines that pass a test
 
@@ -19,21 +21,17 @@ plays_one Step old now new [] (r ∷ rs) line reply p step = absurd p
 plays_one Step old now new (l ∷ ls) [] line reply p step = absurd p
 plays_one Step old now new (l ∷ ls) (r ∷ rs) line reply (mid, first, p) step = (mid, first, plays_one Step mid now new ls rs line reply p step)
 
-pub plays_own : {S : Type 0} (Step : World S → Line → Reply → World S → Type 0) (own : Line → Bool) (old now new : World S) (lines : List Line) (replies : List Reply) (reply : Reply) (i : ℕ) (line : Line)
-    → i < length lines → get_or lines i line ≡ line → own line ≡ true → Plays Step old (filter own (take i lines)) replies now → Step now line reply new
-    → Plays Step old (filter own (take (i + 1) lines)) (replies ++ reply ∷ []) new
-plays_own Step own old now new lines replies reply i line below e is p step =
-    rw (filter_more own lines i line below, e, is) (plays_one Step old now new _ replies line reply p step)
+module _ {S : Type 0} (Step : World S → Line → Reply → World S → Type 0) (s : Processes) (k i n : ℕ) (lines : List Line) (line : Line) (old now : World S) (replies : List Reply) where
+  pub plays_own : (new : World S) (reply : Reply) (more : List Reply) → i < length lines → line ≡ get_or lines i line → n ≡ part_of s line → n ≡ k → more ≡ replies ++ reply ∷ []
+      → Plays Step old (part s k (take i lines)) replies now → Step now line reply new → Plays Step old (part s k (take (i + 1) lines)) more new
+  plays_own new reply more below is of own made p step =
+      let same : (part_of s line == k) ≡ true = grind (arith, nat_tests) in
+      rw (filter_more (λ l. part_of s l == k) lines i line below, sym is, same, made) (plays_one Step old now new _ replies line reply p step)
 
-pub plays_other : {S : Type 0} (Step : World S → Line → Reply → World S → Type 0) (own : Line → Bool) (old now : World S) (lines : List Line) (replies : List Reply) (i : ℕ) (line : Line)
-    → i < length lines → get_or lines i line ≡ line → own line ≡ false → Plays Step old (filter own (take i lines)) replies now → Plays Step old (filter own (take (i + 1) lines)) replies now
-plays_other Step own old now lines replies i line below e is p = rw (filter_more own lines i line below, e, is, append-nil (filter own (take i lines))) p
-
-pub is_own : (p k n : ℕ) → n ≡ p → n ≡ k → (p == k) ≡ true
-is_own p k n is same = grind (arith, nat_tests)
-
-pub is_other : (p k n : ℕ) → n ≡ p → n ≢ k → (p == k) ≡ false
-is_other p k n is apart = grind (arith, nat_tests)
+  pub plays_other : i < length lines → line ≡ get_or lines i line → n ≡ part_of s line → n ≢ k → Plays Step old (part s k (take i lines)) replies now → Plays Step old (part s k (take (i + 1) lines)) replies now
+  plays_other below is of apart p =
+      let other : (part_of s line == k) ≡ false = grind (arith, nat_tests) in
+      rw (filter_more (λ l. part_of s l == k) lines i line below, sym is, other, append-nil (part s k (take i lines))) p
 
 pub plays_length : {S : Type 0} (Step : World S → Line → Reply → World S → Type 0) (old : World S) (lines : List Line) (replies : List Reply) (new : World S)
     → Plays Step old lines replies new → length replies ≡ length lines
@@ -65,66 +63,35 @@ zips_count R k [] (y ∷ ys) p = absurd p
 zips_count R k (x ∷ xs) [] p = absurd p
 zips_count R k (x ∷ xs) (y ∷ ys) (p, ps) = ap suc (zips_count R (suc k) xs ys ps)
 
-pub zips_through : {A B C : Type 0} (P : ℕ → A → B → Type 0) (Q : ℕ → B → C → Type 0) (R : ℕ → A → C → Type 0) → ((k : ℕ) (a : A) (b : B) (c : C) → P k a b → Q k b c → R k a c)
-    → (k : ℕ) (xs : List A) (ys : List B) (zs : List C) → AllZipFrom P k xs ys → AllZipFrom Q k ys zs → AllZipFrom R k xs zs
-zips_through P Q R f k [] [] [] p q = tt
-zips_through P Q R f k [] [] (c ∷ zs) p q = absurd q
-zips_through P Q R f k [] (b ∷ ys) zs p q = absurd p
-zips_through P Q R f k (a ∷ xs) [] zs p q = absurd p
-zips_through P Q R f k (a ∷ xs) (b ∷ ys) [] p q = absurd q
-zips_through P Q R f k (a ∷ xs) (b ∷ ys) (c ∷ zs) (p, ps) (q, qs) = (f k a b c p q, zips_through P Q R f (suc k) xs ys zs ps qs)
-
--- one more item was made, of the first of the rest
-pub left_more : {X Y : Type 0} (f : X → Y) (ys more : List Y) (x : X) (rest later : List X) (all : List Y) → more ≡ ys ++ f x ∷ [] → rest ≡ x ∷ later → ys ++ map f rest ≡ all
-    → more ++ map f later ≡ all
-left_more f ys more x rest later all e r h =
-    ap (λ l. l ++ map f later) e ∙ append_assoc ys (f x ∷ []) (map f later) ∙ ap (λ l. ys ++ map f l) (sym r) ∙ h
+pub zips_through : {A B C : Type 0} (Q : B → C → Type 0) (R : ℕ → A → C → Type 0) (k : ℕ) (xs : List A) (ys : List B) (zs : List C)
+    → AllZipFrom (λ k x y. (z : C) → Q y z → R k x z) k xs ys → AllZip Q ys zs → AllZipFrom R k xs zs
+zips_through Q R k [] [] [] p q = tt
+zips_through Q R k [] [] (z ∷ zs) p q = absurd q
+zips_through Q R k [] (y ∷ ys) zs p q = absurd p
+zips_through Q R k (x ∷ xs) [] zs p q = absurd p
+zips_through Q R k (x ∷ xs) (y ∷ ys) [] p q = absurd q
+zips_through Q R k (x ∷ xs) (y ∷ ys) (z ∷ zs) (p, ps) (q, qs) = (p z q, zips_through Q R (suc k) xs ys zs ps qs)
 
 -- ---- which reply is whose
 
-if_more : (own : Bool) (x : Reply) (rs more late : List Reply) → more ≡ rs ++ late → (if own then x ∷ more else more) ≡ (if own then x ∷ rs else rs) ++ late
-if_more true x rs more late e = ap (λ l. x ∷ l) e
-if_more false x rs more late e = e
-
-module _ (b : Processes) (k : ℕ) where
-  -- one more answer is the next of its part, and of no other
-  replies_more : (lines : List Line) (answers : List NumberedReply) (i : ℕ) (line : Line) (a : NumberedReply) → i < length lines → get_or lines i line ≡ line → length answers ≡ i
-      → replies_in b k (take (suc i) lines) (answers ++ a ∷ []) ≡ replies_in b k (take i lines) answers ++ (if part_of b line == k then a.reply ∷ [] else [])
-  replies_more [] answers i line a below e long = absurd (omega arith)
-  replies_more (l ∷ lines) [] zero line a below e long = ap (λ z. if part_of b z == k then a.reply ∷ [] else []) e
-  replies_more (l ∷ lines) [] (suc i) line a below e long = absurd (omega arith)
-  replies_more (l ∷ lines) (x ∷ answers) zero line a below e long = absurd (omega arith)
-  replies_more (l ∷ lines) (x ∷ answers) (suc i) line a below e long =
-      if_more (part_of b l == k) x.reply _ _ _ (replies_more lines answers i line a (omega arith) e (omega arith))
-
-  -- what is told of a part, and then what is left of it, is all of it; and each of its lines that are left has one
-  abbrev pub Deals : List Line → List NumberedReply → List (List Reply) → List Reply → ℕ → Type 0
-  Deals lines answers parts all i = (replies_in b k (take i lines) answers ++ get_or parts k [] ≡ all) × (length (get_or parts k []) ≡ length (part b k (drop i lines)))
-
-  dealt : (own : Bool) (p : ℕ) (told : List Reply) (reply : Reply) (rest : List Reply) (parts : List (List Reply)) (all : List Reply) (line : Line) (lines : List Line) → (p == k) ≡ own
-      → p < length parts → get_or parts p [] ≡ reply ∷ rest → told ++ get_or parts k [] ≡ all → length (get_or parts k []) ≡ length (if own then line ∷ part b k lines else part b k lines)
-      → ((told ++ (if own then reply ∷ [] else [])) ++ get_or (set parts p rest) k [] ≡ all) × (length (get_or (set parts p rest) k []) ≡ length (part b k lines))
-  dealt true p told reply rest parts all line lines is below first h enough =
-      let same : p ≡ k = grind (arith, nat_tests) in
-      let now_ : get_or (set parts p rest) k [] ≡ rest = ap (λ n. get_or (set parts p rest) n []) (sym same) ∙ get_or-set_same parts p rest [] below in
-      let was : get_or parts k [] ≡ reply ∷ rest = ap (λ n. get_or parts n []) (sym same) ∙ first in
-      (rw now_ (append_assoc told (reply ∷ []) rest ∙ ap (λ l. told ++ l) (sym was) ∙ h), omega (arith, ap (λ l. length l) now_, ap (λ l. length l) was, enough))
-  dealt false p told reply rest parts all line lines is below first h enough =
-      let apart : k ≢ p = grind (arith, nat_tests) in
-      (rw (get_or-set_other parts p k rest [] apart, append-nil told) h, rw (get_or-set_other parts p k rest [] apart) enough)
-
-  pub deals_more : (lines : List Line) (answers : List NumberedReply) (i : ℕ) (line : Line) (reply : Reply) (rest : List Reply) (parts : List (List Reply)) (all : List Reply) → i < length lines
-      → get_or lines i line ≡ line → length answers ≡ i → part_of b line < length parts → get_or parts (part_of b line) [] ≡ reply ∷ rest → Deals lines answers parts all i
-      → Deals lines (answers ++ record { line = line.number; reply = reply } ∷ []) (set parts (part_of b line) rest) all (i + 1)
-  deals_more lines answers i line reply rest parts all below e long within first (h, enough) =
-      let (told, left) = dealt (part_of b line == k) (part_of b line) (replies_in b k (take i lines) answers) reply rest parts all line (drop (i + 1) lines) refl within first h
-      (enough ∙ ap (λ ls. length (part b k ls)) (drop_at lines i line below e)) in
-      (rw (add-one i, replies_more lines answers i line (record { line = line.number; reply = reply }) below e long) told, left)
+same_without : {X Y : Type 0} (own : Bool) (x : X) (xs : List X) (y : Y) (ys : List Y) → length (if own then x ∷ xs else xs) ≡ length (if own then y ∷ ys else ys) → length xs ≡ length ys
+same_without true x xs y ys e = omega (arith, e)
+same_without false x xs y ys e = e
 
 -- of a line's part a reply is left
-pub some_left : (b : Processes) (lines : List Line) (i : ℕ) (line : Line) (n : ℕ) → i < length lines → get_or lines i line ≡ line → n ≡ length (part b (part_of b line) (drop i lines)) → 0 < n
-some_left b lines i line n below e enough =
-    let own : (part_of b line == part_of b line) ≡ true = grind (arith, nat_tests) in
-    let more : length (part b (part_of b line) (drop i lines)) ≡ suc (length (part b (part_of b line) (drop (i + 1) lines))) =
-    ap (λ ls. length (part b (part_of b line) ls)) (drop_at lines i line below e) ∙ (rw own refl) in
-    omega (arith, enough, more)
+pub some_left : (s : Processes) (line : Line) (lines : List Line) (parts : List (List Reply)) → part_of s line ≤ LAST → AreEnough s (line ∷ lines) parts → 0 < length (get_or parts (part_of s line) [])
+some_left s line lines parts within enough =
+    let own : (part_of s line == part_of s line) ≡ true = grind (arith, nat_tests) in
+    omega (arith, rw own at (enough (part_of s line) within))
+
+module _ (s : Processes) (line : Line) (lines : List Line) (reply : Reply) (rest : List Reply) (parts : List (List Reply)) (within : part_of s line < length parts)
+    (first : get_or parts (part_of s line) [] ≡ reply ∷ rest) where
+  -- a part is what is left of it, and before that the reply, where it is the line's
+  dealt : (k : ℕ) → get_or parts k [] ≡ (if part_of s line == k then reply ∷ get_or (set parts (part_of s line) rest) k [] else get_or (set parts (part_of s line) rest) k [])
+  dealt k = grind (arith, nat_tests, get_or-set_same, get_or-set_other)
+
+  pub enough_next : AreEnough s (line ∷ lines) parts → AreEnough s lines (set parts (part_of s line) rest)
+  enough_next enough = λ k under. same_without (part_of s line == k) reply _ line _ (rw (sym (dealt k)) (enough k under))
+
+  pub told_next : (a : NumberedReply) (answers : List NumberedReply) → a.reply ≡ reply → AreTold s lines answers (set parts (part_of s line) rest) → AreTold s (line ∷ lines) (a ∷ answers) parts
+  told_next a answers is told = λ k under. rw (dealt k, is, told k under) refl

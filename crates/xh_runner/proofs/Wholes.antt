@@ -50,20 +50,6 @@ behind_count [] rests = refl
 behind_count (done ∷ dones) rests = ap suc (behind_count dones rests)
 
 module _ {M S : Type 0} (state : M → S) (did : S → (q : Question) → AnswerTo q → S → Type 0) where
-  -- what was joined of a place is what is left of it
-  pub place_joined : {G : Type 0} (crew : Crew G) (k : ℕ) (machine : M) (hand : Hand M G) (done : Done M) → IsHand state crew k machine hand → Joins state did hand done
-      → Left state did crew.ready.now.processes crew.lines.now k (began_at crew.ready.now crew.contracts.now k (state machine)) done
-  place_joined crew k machine (Works handle) done (same, task) d =
-      let old = world_of state handle.promise.task.value.session in
-      subst (λ x. Left state did crew.ready.now.processes crew.lines.now k x done) task.world
-      (subst (λ x. Left state did crew.ready.now.processes crew.lines.now x old done) task.place
-      (subst (λ x. Left state did x.ready.now.processes x.lines.now handle.promise.task.value.place old done) same d))
-  place_joined crew k machine (Idle idle) done (same, below, none) (left, nothing) = (
-    began_at crew.ready.now crew.contracts.now k (state machine),
-    rw (no_part crew.ready.now.processes k crew.lines.now below none, nothing) refl,
-    ap state (sym (left ∙ same)),
-  )
-
   module _ (lines : List Line) (ready : World S) where
     abbrev AreDone : ℕ → List M → List (Done M) → Type 0
     AreDone = AllZipFrom (PlaceIsDone state did ready.names ready.contracts lines)

@@ -1,7 +1,8 @@
 //! A thread for each place that has a process.
-ghost use Rattle.std.specs.Prelude.{◌≡◌, ◌<◌, ◌≤◌, [], IfOk, MatchResult, OnOk, Some, vec_len};
+ghost use Rattle.std.specs.Prelude.{◌≡◌, ◌<◌, ◌≤◌, [], IfOk, MatchResult, Some, vec_len};
+ghost use Rattle.std.specs.List.{AllZip};
 ghost use Rattle.xh_model.specs.declared.limits.TheConstants.{PLACES};
-ghost use Rattle.xh_runner.specs.inner.Tasks.{ArePlacesDone, IsHand, IsTask, Joins};
+ghost use Rattle.xh_runner.specs.inner.Tasks.{ArePlacesDone, IsHand, IsTask, Joins, LeavesPlaces};
 ghost use Rattle.xh_runner.specs.Plays.{AllZipFrom, MayStop};
 ghost use Rattle.xh_session.specs.Bindings.{process_at};
 
@@ -9,7 +10,7 @@ use crate::play::part_of;
 use crate::task::{Crew, Done, Task};
 use std::alloc::{AllocError, Global};
 use std::snapshot::Snapshot;
-use std::sync::Wait;
+use std::sync::{Mutex, Wait};
 use std::thread;
 use std::thread::{Promise, PromisedHandle, Scope, Threads};
 use xh_place::Gate;
@@ -29,11 +30,11 @@ impl<'s, 'a, M: Machine, G: Gate> Promise<Result<Done<M>, Fault>> for DoesTask<'
     ghost kept_by = { λ p left. LeavesTask M.state M.did G.always p.crew.now p.task.value left };
 }
 
-/// A worker of a place, or the machine of one without a process.
+/// A worker of a place, or what is left of one without a process.
 #[derive(Drop)]
 enum Hand<'s, 'a, M: Machine, G: Gate> {
     Works(PromisedHandle<Result<Done<M>, Fault>, DoesTask<'s, 'a, M, G>>),
-    Idle(M),
+    Idle(Done<M>),
 }
 
 // The task of a place, with what the names of its process stand for after the head, and room for its replies.
@@ -72,10 +73,13 @@ fn start<'s, 'a: 's, E, M: Machine + Send + 's, R: Threads + Wait + Sync + 's, G
     crew: &'s Crew<'a, G>,
 ) -> Result<Hand<'s, 'a, M, G>, AllocError>
     requires { place < PLACES }
-    ensures { IfOk result (IsHand M.state crew.now place machine) }
+    ensures { IfOk result (IsHand M.state M.did crew.now place machine) }
 {
     let Some(process) = crew.ready.processes.process_at(place) else {
-        return Ok(Hand::Idle(machine));
+        return Ok(Hand::Idle(Done {
+            machine,
+            replies: Vec::new(alloc),
+        }));
     };
     let task = task(alloc, machine, place, process, crew)?;
     let promise = DoesTask {
@@ -100,12 +104,11 @@ fn start_all<
     alloc: Global,
     machines: Vec<M>,
     crew: &'s Crew<'a, G>,
-    hands: &mut Vec<Hand<'s, 'a, M, G>>,
-) -> Result<(), AllocError>
-    requires empty { hands.old.items ≡ [] }
-    requires count { vec_len machines ≤ PLACES }
-    ensures { OnOk result (AllZipFrom (IsHand M.state crew.now) 0 machines.items hands.new.items) }
+) -> Result<Vec<Hand<'s, 'a, M, G>>, AllocError>
+    requires { vec_len machines ≤ PLACES }
+    ensures { IfOk result (λ hands. AllZipFrom (IsHand M.state M.did crew.now) 0 machines.items hands.items) }
 {
+    let mut hands = Vec::with_capacity(alloc, machines.len())?;
     let mut started = crew.started.lock(rt);
     let mut place = 0u8;
     for machine in machines {
@@ -113,20 +116,17 @@ fn start_all<
         place += 1;
     }
     *started = true;
-    Ok(())
+    Ok(hands)
 }
 
 impl<'s, 'a, M: Machine, G: Gate> Hand<'s, 'a, M, G> {
     // What the place leaves.
-    fn join<R: Threads>(self, rt: &R, alloc: Global) -> Result<Done<M>, Fault>
+    fn join<R: Threads>(self, rt: &R) -> Result<Done<M>, Fault>
         ensures { MatchResult result (Joins M.state M.did self.entry) (MayStop G.always) }
     {
         match self {
             Hand::Works(handle) => handle.join(rt),
-            Hand::Idle(machine) => Ok(Done {
-                machine,
-                replies: Vec::new(alloc),
-            }),
+            Hand::Idle(done) => Ok(done),
         }
     }
 }
@@ -134,16 +134,15 @@ impl<'s, 'a, M: Machine, G: Gate> Hand<'s, 'a, M, G> {
 // Joins all, also past one that was stopped. There is room for what they leave.
 fn join_all<'s, 'a: 's, M: Machine, R: Threads, G: Gate>(
     rt: &R,
-    alloc: Global,
     hands: Vec<Hand<'s, 'a, M, G>>,
     mut dones: Vec<Done<M>>,
 ) -> Result<Vec<Done<M>>, Fault>
     requires { dones.items ≡ [] }
-    ensures { MatchResult result (λ dones. AllZipFrom (λ _ hand done. Joins M.state M.did hand done) 0 hands.entry.items dones.items) (MayStop G.always) }
+    ensures { MatchResult result (λ dones. AllZip (Joins M.state M.did) hands.entry.items dones.items) (MayStop G.always) }
 {
     let mut ended = Ok(());
     for hand in hands {
-        match hand.join(rt, alloc) {
+        match hand.join(rt) {
             Ok(done) => dones.push(done)?,
             Err(fault) => ended = Err(fault),
         }
@@ -152,51 +151,38 @@ fn join_all<'s, 'a: 's, M: Machine, R: Threads, G: Gate>(
     Ok(dones)
 }
 
-// Does the commands of each place by a machine, in a thread of the scope, and joins all.
-fn run_in<
-    's,
-    'a: 's,
-    E,
-    M: Machine + Send + 's,
-    R: Threads + Wait + Sync + 's,
-    G: Gate + Sync + 's,
->(
-    scope: &Scope<'s, E>,
-    rt: &'s R,
-    alloc: Global,
-    machines: Vec<M>,
-    crew: &'s Crew<'a, G>,
-) -> Result<Vec<Done<M>>, Fault>
-    requires { vec_len machines ≤ PLACES }
-    ensures { MatchResult result (λ dones. ArePlacesDone M.state M.did crew.now machines.items dones.items) (MayStop G.always) }
-{
-    let dones = Vec::with_capacity(alloc, machines.len())?;
-    let mut hands = Vec::with_capacity(alloc, machines.len())?;
-    let started = start_all(scope, rt, alloc, machines, crew, &mut hands);
-    let dones = join_all(rt, alloc, hands, dones);
-    match started {
-        Ok(()) => dones,
-        Err(_refused) => Err(Fault::Memory),
-    }
-}
-
 /// Does the commands of the processes that have a place, each by a machine and in a thread of its own, and
 /// joins all: what each machine's worker leaves, by place.
-pub(crate) fn work_all<'s, 'a: 's, M: Machine + Send, R: Threads + Wait + Sync, G: Gate + Sync>(
-    rt: &'s R,
+pub(crate) fn work<M: Machine + Send, R: Threads + Wait + Sync, G: Gate + Sync>(
+    rt: &R,
     alloc: Global,
     machines: Vec<M>,
-    crew: &'s Crew<'a, G>,
+    head: &Session<'_, M>,
+    lines: &[Line],
+    gate: &G,
 ) -> Result<Vec<Done<M>>, Fault>
     requires { vec_len machines ≤ PLACES }
-    ensures { MatchResult result (λ dones. ArePlacesDone M.state M.did crew.now machines.items dones.items) (MayStop G.always) }
+    ensures { MatchResult result (λ dones. LeavesPlaces M.state M.did head.now.names head.now.contracts.now lines.now machines.items dones.items) (MayStop G.always) }
 {
+    let crew = Crew {
+        lines,
+        contracts: head.contracts,
+        ready: &head.names,
+        gate,
+        processes: Mutex::new(head.names.processes),
+        started: Mutex::new(false),
+    };
+    let crew = &crew;
     thread::scope(
         thread::scope_env(),
         rt,
         |scope| -> Result<Vec<Done<M>>, Fault>
             requires { vec_len machines ≤ PLACES }
             ensures { MatchResult result (λ dones. ArePlacesDone M.state M.did crew.entry.now machines.items dones.items) (MayStop G.always) }
-        { run_in(scope, rt, alloc, machines, crew) },
+        {
+            let dones = Vec::with_capacity(alloc, machines.len())?;
+            let hands = start_all(scope, rt, alloc, machines, crew)?;
+            join_all(rt, hands, dones)
+        },
     )
 }

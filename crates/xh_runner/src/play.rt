@@ -94,6 +94,7 @@ fn step<'a, M: Machine, R: Wait, G>(
 }
 
 // Does the commands of a place in order, as far as the gate lets them: the replies, for which there is room.
+#[tactic(auto, using(crate::proofs::Plays::plays_own, crate::proofs::Plays::plays_other))]
 fn play<'a, M: Machine, R: Wait, G: Gate>(
     rt: &R,
     alloc: Global,
@@ -108,14 +109,15 @@ fn play<'a, M: Machine, R: Wait, G: Gate>(
 {
     let mut command = 0u32;
     for line in crew.lines {
-        if part_of(&crew.ready.processes, line) == place + 1 {
-            if !crew.gate.before(place, command) {
-                return Err(Fault::Gate);
-            }
-            replies.push(step(rt, alloc, crew, session, line))?;
-            crew.gate.after(place, command);
-            command = command.saturating_add(1);
+        if part_of(&crew.ready.processes, line) != 1 + place {
+            continue;
         }
+        if !crew.gate.before(place, command) {
+            return Err(Fault::Gate);
+        }
+        replies.push(step(rt, alloc, crew, session, line))?;
+        crew.gate.after(place, command);
+        command = command.saturating_add(1);
     }
     Ok(replies)
 }
@@ -130,17 +132,15 @@ impl<'a, M: Machine> Task<'a, M> {
     ) -> Result<Done<M>, Fault>
         ensures { LeavesTask M.state M.did G.always crew.now self.entry result }
     {
+        if !*crew.started.lock(rt) {
+            return Err(Fault::Memory);
+        }
         let Task {
             mut session,
             place,
             room,
         } = self;
-        let started = *crew.started.lock(rt);
-        let played = if started {
-            play(rt, alloc, crew, &mut session, place, room)
-        } else {
-            Err(Fault::Memory)
-        };
+        let played = play(rt, alloc, crew, &mut session, place, room);
         let Session { machine, .. } = session;
         let replies = played?;
         Ok(Done { machine, replies })

@@ -1,7 +1,7 @@
 //! The replies to the lines of a script, out of those of its parts, and what they tell.
 ghost use Rattle.std.specs.Prelude.{◌≡◌, [], ◌∷◌, ◌++◌, IfOk, map, replicate, suc, vec_len};
 ghost use Rattle.std.specs.Vec.Iter.{into_iter_items};
-ghost use Rattle.xh_runner.specs.inner.Tasks.{AreEnough, AreTold};
+ghost use Rattle.xh_runner.specs.inner.Tasks.{AreEnough, Tells};
 ghost use Rattle.xh_runner.specs.Plays.{AreAnswersTo, LAST, numbers_after, processes_after, told};
 ghost use Rattle.xh_model.specs.declared.limits.TheConstants.{PLACES};
 ghost use Rattle.xh_session.specs.Bindings.{no_processes};
@@ -46,8 +46,7 @@ pub(crate) fn answers_of(
 ) -> Result<Vec<NumberedReply>, AllocError>
     requires count { vec_len parts ≡ suc LAST }
     requires enough { AreEnough processes.now lines.now (map into_iter_items parts.items) }
-    ensures same { IfOk result (λ answers. AreAnswersTo lines.now answers.items) }
-    ensures told { IfOk result (λ answers. AreTold processes.now lines.now answers.items (map into_iter_items parts.items)) }
+    ensures { IfOk result (λ answers. Tells processes.now lines.now answers.items (map into_iter_items parts.items)) }
 {
     let mut answers = Vec::with_capacity(alloc, lines.len())?;
     for line in lines {

@@ -1,17 +1,16 @@
 //! The run itself: the head, the workers, and what they leave.
-ghost use Rattle.std.specs.Prelude.{◌≡◌, ◌≤◌, IfErr, IfOk, MatchResult, length, vec_len};
+ghost use Rattle.std.specs.Prelude.{◌≡◌, IfErr, IfOk, length, vec_len};
 ghost use Rattle.xh_model.specs.declared.limits.TheConstants.{MAX_WORKERS, PLACES};
 ghost use Rattle.xh_runner.specs.Plays.{AreAnswersTo, DoesLine, HasNames, MayStop, Plays, part};
-ghost use Rattle.xh_runner.specs.inner.Tasks.{AllPlay, LeavesPlaces, PlayScript};
+ghost use Rattle.xh_runner.specs.inner.Tasks.{AllPlay, PlayScript};
 ghost use Rattle.xh_session.specs.Bindings.{no_bindings};
 ghost use Rattle.xh_session.specs.Plans.{world_of};
 
-use crate::crew::work_all;
+use crate::crew::work;
 use crate::play::part_of;
 use crate::replies::{answers_of, latest, parts_of};
-use crate::task::{Crew, Done};
 use std::alloc::{AllocError, Global};
-use std::sync::{Mutex, Wait};
+use std::sync::Wait;
 use std::thread::Threads;
 use xh_model::limits::{MAX_WORKERS, PLACES};
 use xh_place::Gate;
@@ -27,6 +26,7 @@ pub(crate) struct Remains<M> {
 }
 
 // Does the lines of a part in order.
+#[tactic(auto, using(crate::proofs::Plays::plays_own, crate::proofs::Plays::plays_other))]
 fn run_part<'a, M: Machine>(
     alloc: Global,
     head: &mut Session<'a, M>,
@@ -38,34 +38,12 @@ fn run_part<'a, M: Machine>(
 {
     let mut replies = Vec::new(alloc);
     for line in lines {
-        if part_of(processes, line) == number {
-            replies.push(head.step(alloc, &line.command))?;
+        if part_of(processes, line) != number {
+            continue;
         }
+        replies.push(head.step(alloc, &line.command))?;
     }
     Ok(replies)
-}
-
-// Does the commands of the processes that have a place, each by a machine: what the workers leave.
-fn work<'a, M: Machine + Send, R: Threads + Wait + Sync, G: Gate + Sync>(
-    rt: &R,
-    alloc: Global,
-    machines: Vec<M>,
-    head: &'a Session<'_, M>,
-    lines: &'a [Line],
-    gate: &'a G,
-) -> Result<Vec<Done<M>>, Fault>
-    requires { vec_len machines ≤ PLACES }
-    ensures { MatchResult result (λ dones. LeavesPlaces M.state M.did head.entry.now lines.entry.now machines.items dones.items) (MayStop G.always) }
-{
-    let crew = Crew {
-        lines,
-        contracts: head.contracts,
-        ready: &head.names,
-        gate,
-        processes: Mutex::new(head.names.processes),
-        started: Mutex::new(false),
-    };
-    work_all(rt, alloc, machines, &crew)
 }
 
 // Plays all lines, with the head's machine and one for each place: the machines of the places, and the answers.

@@ -1,4 +1,4 @@
+pub mod BlockNames
 pub mod Common
 pub mod Ends
-pub mod Rows
 pub mod Plans

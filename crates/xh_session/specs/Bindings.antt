@@ -1,7 +1,7 @@
 -- What the names of a script stand for. NOTHING stands for no process, and for a name that is bound to nothing.
-use Rattle.std.specs.Prelude.{ℕ, ◌*◌, ◌%◌, List, map, replicate, slice_index_or, slice_set, slice_get, if◌then◌else◌, not, ◌==◌, Bool, codes, option_and_then, Option, Some, None}
+use Rattle.std.specs.Prelude.{ℕ, ◌%◌, List, map, replicate, slice_index_or, slice_set, slice_get, if◌then◌else◌, not, ◌==◌, Bool, codes, option_and_then, Option, Some, None}
 use Rattle.xh_model.specs.declared.limits.TheConstants.{PLACES}
-use Rattle.xh_script.specs.declared.limits.TheConstants.{MAX_PROCESSES, MAX_BLOCK_NAMES}
+use Rattle.xh_script.specs.declared.limits.TheConstants.{MAX_PROCESSES}
 use Rattle.xh_session.specs.declared.bindings.Bindings.{Bindings}
 use Rattle.xh_session.specs.declared.bindings.Processes.{Processes}
 use Rattle.xh_session.specs.declared.bindings.TheConstants.{NOTHING}
@@ -41,7 +41,7 @@ names_by_place names s = map (λ p. name_or_vacant names p) s.latest
 
 -- no process has a place, and no name is bound
 unfoldable pub no_bindings : Bindings
-no_bindings = record { processes = no_processes; blocks = record { first = 0; records = nothings (MAX_PROCESSES * MAX_BLOCK_NAMES) } }
+no_bindings = record { processes = no_processes; blocks = record { first = 0; rows = replicate MAX_PROCESSES nothings } }
 
 -- what processes stand for, and of names for blocks those of one process alone
 abbrev pub names_of : Bindings → ℕ → Bindings

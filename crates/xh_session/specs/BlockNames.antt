@@ -1,35 +1,35 @@
 -- What the names of a script stand for that are of blocks.
-use Rattle.std.specs.Prelude.{ℕ, zero, suc, ◌-◌, ◌*◌, List, [], ◌∷◌, ◌++◌, map, take, drop, replicate, slice_index_or, slice_set, if◌then◌else◌, ◌==◌, Option, Some, None}
+use Rattle.std.specs.Prelude.{ℕ, ◌-◌, nat_lt, List, [], ◌∷◌, length, map, take, drop, replicate, slice_index_or, slice_set, if◌then◌else◌, ◌==◌, Option, Some, None}
 use Rattle.xh_core.specs.declared.block.Block.{Block}
 use Rattle.xh_script.specs.declared.limits.TheConstants.{MAX_BLOCK_NAMES}
 use Rattle.xh_script.specs.declared.command.Word.{Word}
 use Rattle.xh_script.specs.Operands.{name_in}
 use Rattle.xh_session.specs.declared.bindings.TheConstants.{NOTHING}
 
--- the record of each name, from those of the process `first` on, those of one process behind those of another
+-- the record of each name: a row for each process, from the process `first` on
 pub record BlockNames : Type 0 where
   pub first : ℕ
-  pub records : List ℕ
+  pub rows : List (List ℕ)
 
--- as many entries, each of which stands for nothing
-unfoldable pub nothings : ℕ → List ℕ
-nothings count = replicate count NOTHING
+-- a row in which each name stands for nothing
+abbrev pub nothings : List ℕ
+nothings = replicate MAX_BLOCK_NAMES NOTHING
 
--- where the records of a process's names begin, and those of the one before it end
-abbrev pub names_start : BlockNames → ℕ → ℕ
-names_start b p = MAX_BLOCK_NAMES * (p - b.first)
+-- which row is a process's; past the last where its names are not here
+unfoldable pub row_of : BlockNames → ℕ → ℕ
+row_of b p = if nat_lt p b.first then length b.rows else p - b.first
 
 -- the records of a process's names
-unfoldable pub row : BlockNames → ℕ → List ℕ
-row b p = take (names_start b (suc p) - names_start b p) (drop (names_start b p) b.records)
+abbrev pub row : BlockNames → ℕ → List ℕ
+row b p = slice_index_or b.rows (row_of b p) []
 
 -- a process's names stand for these from now on; those of all others stay
-unfoldable pub with_row : BlockNames → ℕ → List ℕ → BlockNames
-with_row b p records = record b { records = take (names_start b p) b.records ++ (records ++ drop (names_start b (suc p)) b.records) }
+abbrev pub with_row : BlockNames → ℕ → List ℕ → BlockNames
+with_row b p records = record b { rows = slice_set b.rows (row_of b p) records }
 
 -- the names of one process alone
 abbrev pub names_alone : BlockNames → ℕ → BlockNames
-names_alone b p = record { first = p; records = row b p }
+names_alone b p = record { first = p; rows = take 1 (drop (row_of b p) b.rows) }
 
 -- the record that a process's name for a block stands for, and those of several names
 abbrev pub record_at : BlockNames → ℕ → ℕ → ℕ
@@ -66,10 +66,6 @@ abbrev pub unbound_each : BlockNames → ℕ → List ℕ → BlockNames
 unbound_each b p [] = b
 unbound_each b p (r ∷ rs) = unbound_each (unbound b p r) p rs
 
--- the names below n are bound to nothing, and all names of a process
-unfoldable pub unbound_below : BlockNames → ℕ → ℕ → BlockNames
-unbound_below b p zero = b
-unbound_below b p (suc n) = bound (unbound_below b p n) p n NOTHING
-
+-- all names of a process are bound to nothing
 abbrev pub unbound_all : BlockNames → ℕ → BlockNames
-unbound_all b p = unbound_below b p MAX_BLOCK_NAMES
+unbound_all b p = with_row b p nothings

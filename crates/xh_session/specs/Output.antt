@@ -16,7 +16,7 @@ text_of r = answer_texts r.answers.items ++ ledger_text r.ledger r.names.items
 
 -- the same, and after it, where it is asked for, what is in flight
 abbrev pub told_text : Bool → Report → List ℕ
-told_text flight r = text_of r ++ (if flight then flight_texts r.flight.items else [])
+told_text flight r = text_of r ++ flight_texts (if flight then r.flight.items else [])
 
 -- the ledger of a world, with the names of the script's processes
 abbrev pub world_text : List (List ℕ) → World Machine → List ℕ

@@ -1,5 +1,5 @@
 -- What a command means on any machine: what it asks, and what follows of the answer.
-use Rattle.std.specs.Prelude.{◌≡◌, ℕ, ◌%◌, ◌==◌, ◌||◌, min, Bool, true, false, not, List, [], ◌∷◌, drop, map, if◌then◌else◌, option_map, Option, Some, None, Result, Ok, Err, slice_get}
+use Rattle.std.specs.Prelude.{◌≡◌, ℕ, ◌%◌, ◌==◌, ◌||◌, min, Bool, true, false, not, List, [], ◌∷◌, drop, map, if◌then◌else◌, option_and_then, option_map, Option, Result, Ok, Err, slice_get}
 use Rattle.xh_model.specs.declared.limits.TheConstants.{PLACES, MAX_BUDGET}
 use Rattle.xh_model.specs.declared.row.Row.{Row}
 use Rattle.xh_core.specs.declared.block.Block.{Block}
@@ -17,7 +17,6 @@ use Rattle.xh_script.specs.declared.replies.Reply.TheVariants.{Started, Bytes, T
 use Rattle.xh_script.specs.Texts.{done}
 use Rattle.xh_serial.specs.MessageCommands.{without_records}
 use Rattle.xh_script.specs.Operands.{name, number, number_or, contract, bytes}
-use Rattle.xh_session.specs.declared.machine.Received.{Received}
 use Rattle.xh_session.specs.declared.session.Session.{Session}
 use Rattle.xh_session.specs.declared.bindings.Bindings.{Bindings}
 use Rattle.xh_session.specs.Bindings.{number_at, has_place, with_started}
@@ -47,8 +46,7 @@ FollowsPlan {S} did (asks q next) old reply new = (a : AnswerTo q) × (mid : S) 
 
 -- the contract with a number, where a line names one
 abbrev pub contract_at : List (List Row) → Option ℕ → Option (List Row)
-contract_at contracts None = None
-contract_at contracts (Some k) = slice_get contracts k
+contract_at contracts number = option_and_then (slice_get contracts) number
 
 -- with success the reply tells the answer and names may stand for something else; a refusal binds nothing
 abbrev pub replied : {A : Type 0} → (A → Reply) → (A → Bindings) → Bindings → Result A Refused → Plan
@@ -71,10 +69,6 @@ abbrev pub given_plan : Bindings → ℕ → List ℕ → Result ℕ Refused →
 given_plan names p rs (Ok number) = says (done (number ∷ [])) (record names { blocks = unbound_each names.blocks p rs })
 given_plan names p rs (Err refused) = says (NotGiven refused) (record names { blocks = handed_back p rs refused names.blocks })
 
--- a taken message
-abbrev pub taken_reply : Received → Reply
-taken_reply message = Taken message.number message.tag (record { items = map (option_map (λ b. b.len)) message.blocks.items })
-
 -- what a place shows of a process: Ended where it shows a later one
 abbrev pub look_shown : ℕ → Result Look Refused → Result Look Refused
 look_shown n (Ok look) = if look.process == n then Ok look else Err Ended
@@ -84,10 +78,6 @@ look_shown n (Err refused) = Err refused
 abbrev pub is_alive : Result Look Refused → Bool
 is_alive (Ok look) = not (is_ended look.state)
 is_alive (Err refused) = false
-
--- a new process has this name, and none of its blocks
-abbrev pub started_again : Bindings → ℕ → ℕ → Bindings
-started_again names p n = record { processes = with_started names.processes p n; blocks = unbound_all names.blocks p }
 
 -- ---- each command
 
@@ -102,13 +92,11 @@ record_in b ws i = record_at b.blocks (name ws 0) (name ws i)
 abbrev pub give_plan : Bindings → ℕ → ℕ → ℕ → List Word → Plan
 give_plan b p e tag xs = asks (ask.Give (number_at b.processes p) (record_at b.blocks p e) (min tag MAX_TAG) (records_of b.blocks p xs)) (given_plan b p (records_of b.blocks p xs))
 
+-- a message is taken, and waited for or not
 abbrev pub take_plan : Bool → Bindings → List Word → Plan
-take_plan waits b ws = asks (ask.Take (number_named b ws 0) (record_in b ws 1) waits)
-    (replied taken_reply (λ message. record b { blocks = bound_each b.blocks (name ws 0) (drop 2 ws) message.blocks.items }) b)
-
--- what a place shows, asked of the place of a process
-abbrev pub glance_at : ℕ → Question
-glance_at n = ask.Glance (n % PLACES)
+take_plan waits b ws = asks (ask.Take (number_named b ws 0) (record_in b ws 1) waits) (replied
+    (λ message. Taken message.number message.tag (record { items = map (option_map (λ k. k.len)) message.blocks.items }))
+    (λ message. record b { blocks = bound_each b.blocks (name ws 0) (drop 2 ws) message.blocks.items }) b)
 
 -- what a command asks, and what follows; the words stand where the form's row of the table has them. A line reads at most so many bytes,
 -- and a sweep has the greatest budget where none is named
@@ -134,10 +122,11 @@ plan_by b contracts Exit ws = asks (ask.Exit (number_named b ws 0) (number_or ws
 plan_by b contracts Kill ws = asks (ask.Kill (number_named b ws 0) (number_named b ws 1) (number_or ws 2 MAX_BUDGET)) (replied (λ n. done (n ∷ [])) (λ _. b) b)
 plan_by b contracts Glance ws =
     if not (has_place b.processes (name ws 0)) || not (has_place b.processes (name ws 1)) then says (No NoProcess) b
-    else asks (glance_at (number_named b ws 1)) (λ a. replied (λ look. done (look.blocks ∷ look.bytes ∷ [])) (λ _. b) b (look_shown (number_named b ws 1) a))
+    else asks (ask.Glance (number_named b ws 1 % PLACES)) (λ a. replied (λ look. done (look.blocks ∷ look.bytes ∷ [])) (λ _. b) b (look_shown (number_named b ws 1) a))
 plan_by b contracts Again ws =
     if not (has_place b.processes (name ws 0)) then says (No NoProcess) b
-    else asks (glance_at (number_named b ws 0)) (λ a. if is_alive (look_shown (number_named b ws 0) a) then says (No Twice) b else asks ask.Spawn (replied Started (λ n. started_again b (name ws 0) n) b))
+    else asks (ask.Glance (number_named b ws 0 % PLACES)) (λ a. if is_alive (look_shown (number_named b ws 0) a) then says (No Twice) b
+    else asks ask.Spawn (replied Started (λ n. record { processes = with_started b.processes (name ws 0) n; blocks = unbound_all b.blocks (name ws 0) }) b))
 
 -- a machine did a command of this form: what it asks was answered by the machine, and the reply and the names follow of the answers
 abbrev pub DoesForm : {S : Type 0} → (S → (q : Question) → AnswerTo q → S → Type 0) → Form → List Word → World S → Reply → World S → Type 0

@@ -1,5 +1,5 @@
 -- Reading a script.
-use Rattle.std.specs.Prelude.{◌≡◌, ◌≢◌, ◌≤◌, ◌++◌, ℕ, List, length, Option, Ok, Err, ⊤}
+use Rattle.std.specs.Prelude.{◌≡◌, ◌≢◌, ◌≤◌, ℕ, List, length, Option, Ok, Err, ⊤}
 use Rattle.std.specs.Io.KnownBytes.{Consumes, IsAtEnd}
 use Rattle.xh_model.specs.declared.config.Config.{Config}
 use Rattle.xh_script.specs.Config.{IsScriptConfig}
@@ -14,10 +14,6 @@ module _ {R : Type 0} (remaining : R → Option (List ℕ)) where
   -- the reader gave no more bytes than this
   abbrev pub ReadsAtMost : ℕ → Watched R → Watched R → Type 0
   ReadsAtMost most old new = (bytes : List ℕ) × Consumes (remaining (inner_of old)) (remaining (inner_of new)) bytes × (length bytes ≤ most)
-
-  -- the reader gave so many bytes, and they were added to the text
-  abbrev pub ReadsMore : Watched R → Watched R → List ℕ → List ℕ → ℕ → Type 0
-  ReadsMore old new text text' n = (bytes : List ℕ) × (length bytes ≡ n) × ReadsBytes remaining old new bytes × (text' ≡ text ++ bytes)
 
   -- the reader gave these bytes, and has no more, or gave more than a script may have
   abbrev pub ReadsScript : Watched R → Watched R → List ℕ → Type 0

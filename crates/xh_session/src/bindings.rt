@@ -1,8 +1,8 @@
 //! What the names of a script stand for.
-ghost use Rattle.std.specs.Prelude.{◌≡◌, ◌+◌, ◌*◌, ◌%◌, ◌≤◌, ◌==◌, if◌then◌else◌, suc, length, min, codes, IfOk, slice_index_or, slice_set};
+ghost use Rattle.std.specs.Prelude.{◌≡◌, ◌+◌, ◌%◌, ◌≤◌, ◌==◌, if◌then◌else◌, length, codes, IfOk};
 ghost use Rattle.xh_serial.specs.MessageCommands.{without_records};
 ghost use Rattle.xh_session.specs.Bindings.{no_bindings, no_processes, names_of, number_at, has_place, with_started, renumbered, process_at, name_or_vacant, names_by_place};
-ghost use Rattle.xh_session.specs.BlockNames.{nothings, names_start, names_alone, record_at, records_of, bound, bound_block, bound_each, cleared, unbound, unbound_each, unbound_all};
+ghost use Rattle.xh_session.specs.BlockNames.{row_of, names_alone, record_at, records_of, bound_block, bound_each, cleared, unbound, unbound_each, unbound_all};
 ghost use Rattle.xh_model.specs.declared.limits.TheConstants.{PLACES};
 ghost use Rattle.xh_script.specs.declared.limits.TheConstants.{MAX_WORDS, MAX_BLOCK_NAMES};
 ghost use Rattle.xh_session.specs.declared.bindings.TheConstants.{NOTHING};
@@ -26,12 +26,11 @@ pub struct Processes {
     pub(crate) latest: [u8; PLACE_LINES],
 }
 
-/// The record of each name for a block, from those of the process `first` on, those of one process behind those of
-/// another.
+/// The record of each name for a block: a row for each process, from the process `first` on.
 #[derive(Drop)]
 pub(crate) struct BlockNames {
     first: u8,
-    records: Vec<u16>,
+    rows: Vec<[u16; MAX_BLOCK_NAMES]>,
 }
 
 impl Model for BlockNames {
@@ -39,7 +38,7 @@ impl Model for BlockNames {
 
     ghost Value = { BlockNames };
 
-    ghost view = { λ s. record { first = s.first; records = s.records.items } };
+    ghost view = { λ s. record { first = s.first; rows = s.rows.items } };
 }
 
 /// What the names of a script stand for.
@@ -49,59 +48,13 @@ pub struct Bindings {
     pub(crate) blocks: BlockNames,
 }
 
-// As many entries that stand for nothing.
-#[tactic(auto, unfolding(crate::specs::BlockNames::nothings))]
-fn nothings(alloc: Global, count: usize) -> Result<Vec<u16>, AllocError>
-    ensures { IfOk result (λ entries. entries.items ≡ nothings count) }
-{
-    vec![in alloc; NOTHING; count]
-}
-
-// The entry, or nothing past the last.
-fn at(entries: &[u16], index: usize) -> u16
-    ensures { result ≡ slice_index_or entries.now index NOTHING }
-{
-    entries.get(index).copied().unwrap_or(NOTHING)
-}
-
-// Sets the entry, where there is one.
-fn put(entries: &mut [u16], index: usize, entry: u16)
-    ensures { entries.new ≡ slice_set entries.old index entry }
-{
-    if index < entries.len() {
-        entries[index] = entry;
-    }
-}
-
-// The entry, or nothing where it is this record.
-fn unless(entry: u16, rec: u16) -> u16
-    ensures { result ≡ (if entry == rec then NOTHING else entry) }
-{
-    if entry == rec { NOTHING } else { entry }
-}
-
-// Every entry is written, so that the compiler can do many at once.
-#[tactic(auto, using(crate::proofs::Rows::cleared_next))]
+// The entries that are this record become nothing. Every entry is written, so that the compiler can do many at once.
 fn clear(entries: &mut [u16], rec: u16)
     ensures { entries.new ≡ cleared rec entries.old }
 {
     for entry in entries.iter_mut() {
-        *entry = unless(*entry, rec);
+        *entry = if *entry == rec { NOTHING } else { *entry };
     }
-}
-
-/// Those of the records that are not among others.
-pub(crate) fn without(others: &[u16], records: &[u16]) -> ArrayVec<u16, MAX_WORDS>
-    requires { length records.now ≤ MAX_WORDS }
-    ensures { result.items ≡ without_records others.now records.now }
-{
-    let mut found = ArrayVec::new();
-    for rec in records {
-        if !others.contains(rec) {
-            found.push(*rec);
-        }
-    }
-    found
 }
 
 #[tactic(auto, unfolding(xh_script::specs::Sorts::name_at))]
@@ -111,16 +64,6 @@ fn vacant() -> Name
     match Name::read(b"vacant") {
         Ok(name) => name,
         Err(_) => unreachable!(),
-    }
-}
-
-#[tactic(auto, unfolding(crate::specs::Bindings::name_or_vacant))]
-fn name_at(processes: &[Name], process: u8) -> Name
-    ensures { result ≡ name_or_vacant processes.now process }
-{
-    match processes.get(usize::from(process)) {
-        Some(name) => name.copy(),
-        None => vacant(),
     }
 }
 
@@ -140,7 +83,10 @@ impl Processes {
     pub fn number(&self, process: u8) -> u16
         ensures { result ≡ number_at self.now process }
     {
-        at(&self.numbers, usize::from(process))
+        self.numbers
+            .get(usize::from(process))
+            .copied()
+            .unwrap_or(NOTHING)
     }
 
     /// Whether a `process` line gave the process a place.
@@ -162,7 +108,10 @@ impl Processes {
     pub fn renumber(&mut self, process: u8, number: u16)
         ensures { self.new ≡ renumbered self.old process number }
     {
-        put(&mut self.numbers, usize::from(process), number);
+        let process = usize::from(process);
+        if process < MAX_PROCESSES {
+            self.numbers[process] = number;
+        }
     }
 
     /// The process has this number, and is the latest of its place.
@@ -174,11 +123,15 @@ impl Processes {
     }
 
     /// The names of the processes by place, 32 of them, from the names by number.
+    #[tactic(auto, unfolding(crate::specs::Bindings::name_or_vacant))]
     pub fn by_place(&self, alloc: Global, processes: &[Name]) -> Result<Vec<Name>, AllocError>
         ensures names { IfOk result (λ names. names.items ≡ names_by_place processes.now self.now) }
         ensures count { IfOk result (λ names. length names.items ≡ PLACES) }
     {
-        let name = |process: &u8| name_at(processes, *process);
+        let name = |process: &u8| match processes.get(usize::from(*process)) {
+            Some(name) => name.copy(),
+            None => vacant(),
+        };
         self.latest.iter().map(name).collect(alloc)
     }
 }
@@ -193,7 +146,7 @@ impl Bindings {
             processes: Processes::new(),
             blocks: BlockNames {
                 first: 0,
-                records: nothings(alloc, MAX_PROCESSES * MAX_BLOCK_NAMES)?,
+                rows: vec![in alloc; [NOTHING; MAX_BLOCK_NAMES]; MAX_PROCESSES]?,
             },
         })
     }
@@ -210,40 +163,36 @@ impl Bindings {
 }
 
 impl BlockNames {
-    // Where the records of the process's names stand: from here on, up to here.
-    fn row(&self, process: u8) -> (usize, usize)
-        ensures start { result.0 ≡ min (names_start self.now process) (length self.now.records) }
-        ensures end { result.1 ≡ min (names_start self.now (suc process)) (length self.now.records) }
+    // Which row is the process's; past the last where its names are not here.
+    #[tactic(auto, unfolding(crate::specs::BlockNames::row_of))]
+    fn row_of(&self, process: u8) -> usize
+        ensures { result ≡ row_of self.now process }
     {
-        let first = usize::from(self.first);
-        let before = usize::from(process).saturating_sub(first);
-        let through = (usize::from(process) + 1).saturating_sub(first);
-        let count = self.records.len();
-        (
-            (MAX_BLOCK_NAMES * before).min(count),
-            (MAX_BLOCK_NAMES * through).min(count),
-        )
+        process
+            .checked_sub(self.first)
+            .map_or(self.rows.len(), usize::from)
     }
 
     // The names of the process alone.
-    #[tactic(auto, using(crate::proofs::Rows::row_is))]
     fn of_process(&self, alloc: Global, process: u8) -> Result<BlockNames, AllocError>
         ensures { IfOk result (λ names. names ≡ names_alone self.now process) }
     {
-        let (start, end) = self.row(process);
+        let row = self.row_of(process).min(self.rows.len());
+        let end = self.rows.len().min(row + 1);
         Ok(BlockNames {
             first: process,
-            records: Vec::from_slice(alloc, &self.records[start..end])?,
+            rows: Vec::from_slice(alloc, &self.rows[row..end])?,
         })
     }
 
     /// The record of a block's name, or `NOTHING` where it is bound to none.
-    #[tactic(auto, using(crate::proofs::Rows::row_is))]
     pub(crate) fn record_of(&self, process: u8, block: u8) -> u16
         ensures { result ≡ record_at self.now process block }
     {
-        let (start, end) = self.row(process);
-        at(&self.records[start..end], usize::from(block))
+        match self.rows.get(self.row_of(process)) {
+            Some(row) => row[usize::from(block)],
+            None => NOTHING,
+        }
     }
 
     /// The records of the names that words say.
@@ -258,32 +207,27 @@ impl BlockNames {
         found
     }
 
-    /// The name stands for this record.
-    pub(crate) fn bind(&mut self, process: u8, block: u8, rec: u16)
-        ensures { self.new ≡ bound self.old process block rec }
+    /// The name stands for this block, and stays as it was where the block is missing.
+    pub(crate) fn bind(&mut self, process: u8, name: u8, block: Option<Block>)
+        ensures { self.new ≡ bound_block self.old process name block }
     {
-        let (start, end) = self.row(process);
-        put(&mut self.records[start..end], usize::from(block), rec);
-    }
-
-    // The name stands for this block, where it is there.
-    fn bind_block(&mut self, process: u8, name: u8, block: &Option<Block>)
-        ensures { self.new ≡ bound_block self.old process name block.now }
-    {
-        if let Some(block) = block {
-            self.bind(process, name, block.rec);
+        let row = self.row_of(process);
+        if let Some(block) = block
+            && row < self.rows.len()
+        {
+            self.rows[row][usize::from(name)] = block.rec;
         }
     }
 
     /// The names that words say stand for the blocks of a message, from left to right. Names past the
     /// last block and those of missing blocks stay as they were; blocks past the last name have none.
-    #[tactic(auto, using(crate::proofs::Rows::bound_each_end))]
+    #[tactic(auto, using(crate::proofs::BlockNames::bound_each_end))]
     pub(crate) fn bind_each(&mut self, process: u8, words: &[Word], message: &[Option<Block>])
         ensures { self.new ≡ bound_each self.old process words.now message.now }
     {
         let count = words.len().min(message.len());
         for i in 0..count {
-            self.bind_block(process, words[i].name(), &message[i]);
+            self.bind(process, words[i].name(), message[i]);
         }
     }
 
@@ -291,26 +235,30 @@ impl BlockNames {
     pub(crate) fn unbind(&mut self, process: u8, rec: u16)
         ensures { self.new ≡ unbound self.old process rec }
     {
-        let (start, end) = self.row(process);
-        clear(&mut self.records[start..end], rec);
+        let row = self.row_of(process);
+        if row < self.rows.len() {
+            clear(&mut self.rows[row], rec);
+        }
     }
 
-    /// Each name of the process that stands for one of these records is bound to nothing.
-    pub(crate) fn unbind_each(&mut self, process: u8, gone: &[u16])
-        ensures { self.new ≡ unbound_each self.old process gone.now }
+    /// Each name of the process that stands for one of these records, and for none that came back, is bound to nothing.
+    pub(crate) fn unbind_each(&mut self, process: u8, records: &[u16], back: &[u16])
+        ensures { self.new ≡ unbound_each self.old process (without_records back.now records.now) }
     {
-        for rec in gone {
-            self.unbind(process, *rec);
+        for rec in records {
+            if !back.contains(rec) {
+                self.unbind(process, *rec);
+            }
         }
     }
 
     /// All names of the process are bound to nothing.
-    #[tactic(auto, unfolding(crate::specs::BlockNames::unbound_below))]
     pub(crate) fn unbind_all(&mut self, process: u8)
         ensures { self.new ≡ unbound_all self.old process }
     {
-        for block in 0..MAX_BLOCK_NAMES {
-            self.bind(process, block as u8, NOTHING);
+        let row = self.row_of(process);
+        if row < self.rows.len() {
+            self.rows[row] = [NOTHING; MAX_BLOCK_NAMES];
         }
     }
 }

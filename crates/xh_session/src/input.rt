@@ -1,11 +1,10 @@
 //! The bytes of a script, read once from the front.
-ghost use Rattle.std.specs.Prelude.{◌≡◌, ◌≢◌, ◌<◌, ◌≤◌, ◌+◌, ◌⊎◌, length, IfOk, IfErr, OnOk, Err};
-ghost use Rattle.std.specs.Io.KnownBytes.{IsAtEnd};
+ghost use Rattle.std.specs.Prelude.{◌≡◌, ◌≢◌, ◌≤◌, ◌+◌, ◌⊎◌, length, IfOk, IfErr, OnOk, Err};
 ghost use Rattle.xh_script.specs.Config.{IsScriptConfig};
 ghost use Rattle.xh_script.specs.declared.limits.TheConstants.{MAX_SCRIPT};
 ghost use Rattle.xh_script.specs.Scripts.{listing_of};
-ghost use Rattle.xh_script.specs.Watching.{failures, inner_of};
-ghost use Rattle.xh_session.specs.Reading.{GivesScript, ReadsAtMost, ReadsMore, ReadsScript, Unread};
+ghost use Rattle.xh_script.specs.Watching.{failures};
+ghost use Rattle.xh_session.specs.Reading.{GivesScript, ReadsAtMost, ReadsScript, Unread};
 
 use std::alloc::Global;
 use std::io::Read;
@@ -20,30 +19,7 @@ pub struct Input {
     pub script: Script,
 }
 
-/// Reads once, and adds what was read.
-fn read_some<R: Read>(
-    reader: &mut Watched<R>,
-    text: &mut Vec<u8>,
-    room: &mut [u8],
-) -> Result<usize, Fault>
-    requires { 0 < length room.old }
-    ensures room { IfOk result (λ n. n ≤ length room.old) }
-    ensures ok { IfOk result (ReadsMore R.remaining reader.old reader.new text.old.items text.new.items) }
-    ensures end { IfOk result (λ n. n ≡ 0 → IsAtEnd (R.remaining (inner_of reader.new))) }
-    ensures err { IfErr result (λ e. (e ≡ Fault.Memory) ⊎ ((e ≡ Fault.Read) × (failures reader.new ≢ failures reader.old))) }
-    ensures limit { ReadsAtMost R.remaining (length room.old) reader.old reader.new }
-{
-    match reader.read(room) {
-        None => Err(Fault::Read),
-        Some(n) => {
-            text.extend_from_slice(&room[..n])?;
-            Ok(n)
-        }
-    }
-}
-
 /// Reads to the end, or to one byte past the most that a script may have.
-#[tactic(auto, using(crate::proofs::Ends::reads_then, crate::proofs::Ends::length_both))]
 fn read_text<R: Read>(alloc: Global, reader: &mut Watched<R>) -> Result<Vec<u8>, Fault>
     ensures ok { IfOk result (λ text. ReadsScript R.remaining reader.old reader.new text.items × (length text.items ≤ MAX_SCRIPT + 1)) }
     ensures err { IfErr result (λ e. (e ≡ Fault.Memory) ⊎ ((e ≡ Fault.Read) × (failures reader.new ≢ failures reader.old))) }
@@ -53,9 +29,10 @@ fn read_text<R: Read>(alloc: Global, reader: &mut Watched<R>) -> Result<Vec<u8>,
     let mut room = [0u8; 4096];
     while text.len() <= MAX_SCRIPT {
         let most = (MAX_SCRIPT + 1 - text.len()).min(4096);
-        let n = read_some(reader, &mut text, &mut room[..most])?;
-        if n == 0 {
-            return Ok(text);
+        match reader.read(&mut room[..most]) {
+            None => return Err(Fault::Read),
+            Some(0) => return Ok(text),
+            Some(n) => text.extend_from_slice(&room[..n])?,
         }
     }
     Ok(text)
@@ -65,7 +42,7 @@ fn read_text<R: Read>(alloc: Global, reader: &mut Watched<R>) -> Result<Vec<u8>,
 ///
 /// A config outside its limits is BadConfig, and nothing is read. The reader is asked for at most
 /// one byte more than a script may have, so a reader without an end is TooLong. Memory comes where a growth was refused.
-#[tactic(auto, using(crate::proofs::Ends::no_text, crate::proofs::Ends::no_script, crate::proofs::Ends::script_short))]
+#[tactic(auto, unfolding(xh_script::specs::Scripts::script_of))]
 pub fn read_input<R: Read>(
     alloc: Global,
     config: Config,

@@ -11,7 +11,7 @@ mod stage;
 
 pub use bindings::{Bindings, Processes};
 pub use input::{Input, read_input};
-pub use machine::{Machine, Received, Told};
+pub use machine::{Ends, Machine, Received, Told};
 pub use report::{Report, write_report};
 pub use serial::{RunOptions, run_serial, run_serial_as};
 pub use session::Session;

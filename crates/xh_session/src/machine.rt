@@ -13,6 +13,9 @@ use xh_model::limits::MAX_BLOCKS;
 /// What a call tells, or why it was refused.
 pub type Told<T> = Result<T, Refused>;
 
+/// The two ends of a channel, side 0 the first.
+pub type Ends = (Block, Block);
+
 /// A message that was taken: its number in its direction, its tag, and its blocks in their order,
 /// which are the taker's now. `None` stands for a block that another holds.
 #[derive(Drop)]
@@ -44,12 +47,7 @@ pub trait Machine: Drop {
         ensures { did (state self.old) Spawn result (state self.new) };
 
     /// Makes a channel, under a contract or none, whose ends are the process's; side 0 is the first.
-    fn open(
-        &mut self,
-        process: u16,
-        arena: u32,
-        contract: Option<&Contract>,
-    ) -> Told<(Block, Block)>
+    fn open(&mut self, process: u16, arena: u32, contract: Option<&Contract>) -> Told<Ends>
         ensures { did (state self.old) (Open process arena (option_map (λ c. c.now) contract.entry)) result (state self.new) };
 
     /// Makes a channel, under a contract or none: the process has side 0, and the other side 1.
@@ -59,7 +57,7 @@ pub trait Machine: Drop {
         other: u16,
         arena: u32,
         contract: Option<&Contract>,
-    ) -> Told<(Block, Block)>
+    ) -> Told<Ends>
         ensures { did (state self.old) (Wire process other arena (option_map (λ c. c.now) contract.entry)) result (state self.new) };
 
     /// Gives the process a new block of the arena, of as many bytes rounded up to 16, all 0.

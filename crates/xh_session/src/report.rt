@@ -30,11 +30,13 @@ pub fn write_report<W: Write>(
     requires { All (λ line. line.place < length report.now.names.items) report.now.ledger.places.items }
     ensures { WritesOrFails W.contents writer.old writer.new result (told_text flight report.now) }
 {
+    let lines = if flight {
+        report.flight.as_slice()
+    } else {
+        &[]
+    };
     write_answers(writer, &report.answers)?;
     write_ledger(writer, &report.ledger, &report.names)?;
-    if !flight {
-        return writer.flush();
-    }
-    write_flight(writer, &report.flight)?;
+    write_flight(writer, lines)?;
     writer.flush()
 }

@@ -18,7 +18,7 @@ use xh_core::Config;
 use xh_script::{Fault, Script, Watched};
 
 // Runs a script on a new machine.
-#[tactic(auto, using(crate::proofs::Ends::told))]
+#[tactic(auto, unfolding(crate::specs::Output::meaning))]
 fn report_of(alloc: Global, config: Config, script: &Script) -> Result<Report, Fault>
     requires { IsScriptConfig config }
     ensures told { IfOk result (λ r. (flight : Bool) → IsWrittenOut flight config (listing_of script.now) (told_text flight r)) }
@@ -40,7 +40,6 @@ pub struct RunOptions {
 }
 
 /// As `run_serial`, and with what is in flight, where the run is to tell it.
-#[tactic(auto, using(crate::proofs::Ends::memory_stops, crate::proofs::Ends::unread_stops, crate::proofs::Ends::wrote_all, crate::proofs::Ends::wrote_part))]
 pub fn run_serial_as<R: Read, W: Write>(
     alloc: Global,
     reader: &mut Watched<R>,

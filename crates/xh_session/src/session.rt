@@ -1,17 +1,17 @@
 //! A script on a machine, command by command.
 #![tactic(auto, unfolding(crate::specs::Plans::plan_by))]
 
-ghost use Rattle.std.specs.Prelude.{◌≡◌, ◌%◌, ◌≤◌, length, map, option_map};
-ghost use Rattle.xh_model.specs.declared.limits.TheConstants.{MAX_BLOCKS, PLACES};
-ghost use Rattle.xh_script.specs.declared.limits.TheConstants.{MAX_HEX, MAX_WORDS};
-ghost use Rattle.xh_session.specs.Plans.{DoesForm, FollowsPlan, contract_at, give_plan, handed_back, is_alive, reply_of, look_shown, take_plan, world_of};
+ghost use Rattle.std.specs.Prelude.{◌≡◌, ◌%◌, ◌≤◌, length, option_map};
+ghost use Rattle.xh_model.specs.declared.limits.TheConstants.{PLACES};
+ghost use Rattle.xh_script.specs.declared.limits.TheConstants.{MAX_WORDS};
+ghost use Rattle.xh_session.specs.Plans.{DoesForm, FollowsPlan, contract_at, give_plan, reply_of, look_shown, take_plan, world_of};
 
-use crate::bindings::{Bindings, BlockNames, without};
+use crate::bindings::Bindings;
 use crate::machine::Machine;
 use arrayvec::ArrayVec;
 use std::alloc::Global;
-use xh_core::{Block, Contract, Glance, Refused, Status};
-use xh_model::limits::{MAX_BLOCKS, MAX_BUDGET, PLACES};
+use xh_core::{Contract, Glance, Refused, Status};
+use xh_model::limits::{MAX_BUDGET, PLACES};
 use xh_script::limits::{MAX_HEX, MAX_LEN, MAX_TAG};
 use xh_script::{Command, Form, Reply, Word};
 
@@ -21,16 +21,6 @@ pub struct Session<'a, M> {
     pub machine: M,
     pub names: Bindings,
     pub contracts: &'a [Contract],
-}
-
-/// Whether a process runs, or is being reclaimed.
-fn is_alive(look: &Result<Glance, Refused>) -> bool
-    ensures { result ≡ is_alive look.now }
-{
-    match look {
-        Ok(look) => !matches!(look.state, Status::Ended),
-        Err(_) => false,
-    }
 }
 
 /// What a place shows of a process; Ended where it shows a later one.
@@ -55,48 +45,11 @@ fn contract_at<'a>(contracts: &'a [Contract], number: Option<u8>) -> Option<&'a 
     contracts.get(usize::from(number?))
 }
 
-fn array_of(bytes: &[u8]) -> ArrayVec<u8, MAX_HEX>
-    requires { length bytes.now ≤ MAX_HEX }
-    ensures { result.items ≡ bytes.now }
-{
-    let mut array = ArrayVec::new();
-    let _ = array.try_extend_from_slice(bytes);
-    array
-}
-
-fn lengths_of(blocks: &[Option<Block>]) -> ArrayVec<Option<u32>, MAX_BLOCKS>
-    requires { length blocks.now ≤ MAX_BLOCKS }
-    ensures { result.items ≡ map (option_map (λ b. b.len)) blocks.now }
-{
-    let mut lengths = ArrayVec::new();
-    for block in blocks {
-        lengths.push(block.map(|block| block.len));
-    }
-    lengths
-}
-
-/// A refused give unbinds the names of the blocks that were not handed back.
-fn keep_back(blocks: &mut BlockNames, process: u8, records: &[u16], refused: &Refused)
-    requires { length records.now ≤ MAX_WORDS }
-    ensures { blocks.new ≡ handed_back process records.now refused.now blocks.old }
-{
-    let back = match refused {
-        Refused::Full { back } => back,
-        Refused::PeerClosed { back } => back,
-        Refused::Protocol { back } => back,
-        _ => return,
-    };
-    blocks.unbind_each(process, without(back.as_slice(), records).as_slice());
-}
-
 /// A refusal is a reply too.
 fn reply_of(answer: Result<Reply, Refused>) -> Reply
     ensures { result ≡ reply_of answer }
 {
-    match answer {
-        Ok(reply) => reply,
-        Err(refused) => Reply::No(refused),
-    }
+    answer.unwrap_or_else(Reply::No)
 }
 
 impl<'a, M: Machine> Session<'a, M> {
@@ -143,8 +96,8 @@ impl<'a, M: Machine> Session<'a, M> {
         let other = self.names.processes.number(c.name(2));
         let contract = contract_at(self.contracts, c.contract(5));
         let (first, second) = self.machine.wire(number, other, c.number(4), contract)?;
-        self.names.blocks.bind(c.name(0), c.name(1), first.rec);
-        self.names.blocks.bind(c.name(2), c.name(3), second.rec);
+        self.names.blocks.bind(c.name(0), c.name(1), Some(first));
+        self.names.blocks.bind(c.name(2), c.name(3), Some(second));
         Ok(Reply::done(&[]))
     }
 
@@ -154,8 +107,8 @@ impl<'a, M: Machine> Session<'a, M> {
         let number = self.names.processes.number(c.name(0));
         let contract = contract_at(self.contracts, c.contract(4));
         let (first, second) = self.machine.open(number, c.number(3), contract)?;
-        self.names.blocks.bind(c.name(0), c.name(1), first.rec);
-        self.names.blocks.bind(c.name(0), c.name(2), second.rec);
+        self.names.blocks.bind(c.name(0), c.name(1), Some(first));
+        self.names.blocks.bind(c.name(0), c.name(2), Some(second));
         Ok(Reply::done(&[]))
     }
 
@@ -164,7 +117,7 @@ impl<'a, M: Machine> Session<'a, M> {
     {
         let number = self.names.processes.number(c.name(0));
         let made = self.machine.alloc(alloc, number, c.number(2), c.number(3))?;
-        self.names.blocks.bind(c.name(0), c.name(1), made.rec);
+        self.names.blocks.bind(c.name(0), c.name(1), Some(made));
         Ok(Reply::done(&[u64::from(made.len)]))
     }
 
@@ -174,7 +127,7 @@ impl<'a, M: Machine> Session<'a, M> {
         let number = self.names.processes.number(c.name(0));
         let rec = self.names.blocks.record_of(c.name(0), c.name(1));
         let (head, rest) = self.machine.split(alloc, number, rec, c.number(2))?;
-        self.names.blocks.bind(c.name(0), c.name(3), rest.rec);
+        self.names.blocks.bind(c.name(0), c.name(3), Some(rest));
         Ok(Reply::done(&[u64::from(head.len), u64::from(rest.len)]))
     }
 
@@ -186,7 +139,9 @@ impl<'a, M: Machine> Session<'a, M> {
         let mut bytes = [0u8; MAX_HEX];
         let room = &mut bytes[..c.number(3).min(MAX_LEN) as usize];
         self.machine.read(number, rec, c.number(2), room)?;
-        Ok(Reply::Bytes(array_of(room)))
+        let mut read = ArrayVec::new();
+        let _ = read.try_extend_from_slice(room);
+        Ok(Reply::Bytes(read))
     }
 
     fn write(&mut self, c: &Command) -> Result<Reply, Refused>
@@ -198,6 +153,8 @@ impl<'a, M: Machine> Session<'a, M> {
         Ok(Reply::done(&[]))
     }
 
+    /// Of a refused give, the names of the blocks that were not handed back are unbound.
+    #[tactic(auto, using(crate::proofs::BlockNames::without_none))]
     fn give(&mut self, process: u8, endpoint: u8, tag: u32, words: &[Word]) -> Reply
         requires { length words.now ≤ MAX_WORDS }
         ensures { FollowsPlan M.did (give_plan self.old.names process endpoint tag words.now) (world_of M.state self.old) result (world_of M.state self.new) }
@@ -205,19 +162,22 @@ impl<'a, M: Machine> Session<'a, M> {
         let number = self.names.processes.number(process);
         let rec = self.names.blocks.record_of(process, endpoint);
         let records = self.names.blocks.records_of(process, words);
+        let sent = records.as_slice();
         let tag = tag.min(MAX_TAG) as u16;
-        match self.machine.give(number, rec, tag, records.as_slice()) {
+        match self.machine.give(number, rec, tag, sent) {
             Ok(message) => {
-                self.names.blocks.unbind_each(process, records.as_slice());
+                self.names.blocks.unbind_each(process, sent, &[]);
                 Reply::done(&[message])
             }
             Err(refused) => {
-                keep_back(
-                    &mut self.names.blocks,
-                    process,
-                    records.as_slice(),
-                    &refused,
-                );
+                if let Refused::Full { back }
+                | Refused::PeerClosed { back }
+                | Refused::Protocol { back } = &refused
+                {
+                    self.names
+                        .blocks
+                        .unbind_each(process, sent, back.as_slice());
+                }
                 Reply::NotGiven(refused)
             }
         }
@@ -232,10 +192,14 @@ impl<'a, M: Machine> Session<'a, M> {
         let message = self.machine.take(number, rec, waits)?;
         let blocks = message.blocks.as_slice();
         self.names.blocks.bind_each(c.name(0), c.from(2), blocks);
+        let mut lengths = ArrayVec::new();
+        for block in blocks {
+            lengths.push(block.map(|block| block.len));
+        }
         Ok(Reply::Taken {
             number: message.number,
             tag: message.tag,
-            blocks: lengths_of(blocks),
+            blocks: lengths,
         })
     }
 
@@ -298,7 +262,9 @@ impl<'a, M: Machine> Session<'a, M> {
             return Err(Refused::NoProcess);
         }
         let number = self.names.processes.number(c.name(0));
-        if is_alive(&shown(number, self.machine.glance(place_of(number)))) {
+        if let Ok(look) = shown(number, self.machine.glance(place_of(number)))
+            && !matches!(look.state, Status::Ended)
+        {
             return Err(Refused::Twice);
         }
         let number = self.machine.spawn()?;

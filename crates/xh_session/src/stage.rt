@@ -3,7 +3,7 @@ ghost use Rattle.std.specs.Prelude.{◌≡◌, ◌⊎◌, ◌<◌, length, IfOk,
 ghost use Rattle.std.specs.List.{All};
 ghost use Rattle.xh_model.specs.Config.{IsConfig};
 ghost use Rattle.xh_model.specs.declared.limits.TheConstants.{PLACES};
-ghost use Rattle.xh_serial.specs.PlaceCommands.{flight_of, new_machine};
+ghost use Rattle.xh_serial.specs.PlaceCommands.{flight_of};
 ghost use Rattle.xh_script.specs.Scripts.{listing_of};
 ghost use Rattle.xh_session.specs.Meaning.{new_world, step, answers, world_after};
 ghost use Rattle.xh_session.specs.Output.{run_text, text_of};
@@ -33,27 +33,22 @@ impl<'a> Model for Stage<'a> {
     ghost view = { λ s. world_of (λ m. m) s.session };
 }
 
-fn new_machine(alloc: Global, config: Config) -> Result<Serial, Fault>
-    ensures fresh { IfOk result (λ machine. machine ≡ new_machine config) }
-    ensures refused { IfErr result (λ e. ((e ≡ Fault.BadConfig) × ¬ IsConfig config) ⊎ (e ≡ Fault.Memory)) }
-{
-    match Serial::new(alloc, config) {
-        Ok(machine) => Ok(machine),
-        Err(Refused::BadSize) => Err(Fault::BadConfig),
-        Err(_refused) => Err(Fault::Memory),
-    }
-}
-
 impl<'a> Stage<'a> {
     /// A new machine, on which no command was done yet.
     pub fn new(alloc: Global, config: Config, contracts: &'a [Contract]) -> Result<Stage<'a>, Fault>
         ensures fresh { IfOk result (λ stage. stage ≡ new_world config contracts.entry.now) }
         ensures refused { IfErr result (λ e. ((e ≡ Fault.BadConfig) × ¬ IsConfig config) ⊎ (e ≡ Fault.Memory)) }
     {
+        let names = Bindings::new(alloc)?;
+        let machine = match Serial::new(alloc, config) {
+            Ok(machine) => machine,
+            Err(Refused::BadSize) => return Err(Fault::BadConfig),
+            Err(_refused) => return Err(Fault::Memory),
+        };
         Ok(Stage {
             session: Session {
-                names: Bindings::new(alloc)?,
-                machine: new_machine(alloc, config)?,
+                machine,
+                names,
                 contracts,
             },
         })
@@ -76,7 +71,6 @@ impl<'a> Stage<'a> {
     }
 
     // Does the commands of lines in order. Want of memory ends the run.
-    #[tactic(auto, using(crate::proofs::Plans::answers_more, crate::proofs::Plans::after_more))]
     fn run(&mut self, alloc: Global, lines: &[Line]) -> Result<Vec<NumberedReply>, AllocError>
         ensures answers { IfOk result (λ replies. replies.items ≡ answers self.old lines.now) }
         ensures after { OnOk result (self.new ≡ world_after self.old lines.now) }

@@ -3,7 +3,7 @@ use std::alloc::Global;
 use std::sync::Wait;
 use std::time::{Clock, Instant};
 use xh_core::{Block, Refused};
-use xh_kernel::{Account, Kernel, Names, OpenGate, Taken};
+use xh_kernel::{Account, Kernel, Names, Never, OpenGate, Taken};
 
 /// What was answered; or the name of a refusal, or what was wrong.
 pub(crate) type SoakTold<T> = Result<T, &'static str>;
@@ -84,9 +84,11 @@ impl<'a, N: Names, R: Wait + Clock> Caller for Hired<'a, N, R> {
             }
             SoakCall::Give(p, e, tag, load, None) => kernel.give(rt, p, e, tag, load, to, gate),
             SoakCall::Give(p, e, tag, load, Some(until)) => {
-                kernel.give_wait_until(rt, p, e, tag, load, until, to, gate)
+                kernel.give_until(rt, p, e, tag, load, &until, to, gate)
             }
-            SoakCall::GiveWait(p, e, tag, load) => kernel.give_wait(rt, p, e, tag, load, to, gate),
+            SoakCall::GiveWait(p, e, tag, load) => {
+                kernel.give_until(rt, p, e, tag, load, &Never, to, gate)
+            }
             SoakCall::Close(p, e) => kernel.close(rt, p, e, to, gate),
             SoakCall::Exit(p, budget) => kernel.exit(rt, p, budget, to, gate),
             SoakCall::Kill(p, q, budget) => kernel.kill(rt, p, q, budget, to, gate),
@@ -101,13 +103,13 @@ impl<'a, N: Names, R: Wait + Clock> Caller for Hired<'a, N, R> {
         let (rt, alloc, kernel, to, gate) = (self.0, self.1, self.2, &mut *self.3, &OpenGate);
         told(match by {
             None => kernel.alloc(rt, alloc, p, bytes, arena, to, gate),
-            Some(by) => kernel.alloc_wait_until(rt, alloc, p, bytes, arena, by, to, gate),
+            Some(by) => kernel.alloc_until(rt, alloc, p, bytes, arena, &by, to, gate),
         })
     }
 
     fn alloc_wait(&mut self, p: u16, bytes: u32, arena: u32) -> SoakTold<Block> {
         let (rt, alloc, kernel, to, gate) = (self.0, self.1, self.2, &mut *self.3, &OpenGate);
-        told(kernel.alloc_wait(rt, alloc, p, bytes, arena, to, gate))
+        told(kernel.alloc_until(rt, alloc, p, bytes, arena, &Never, to, gate))
     }
 
     fn put(&mut self, p: u16, bytes: u32, arena: u32, byte: u8) -> SoakTold<Block> {
@@ -128,9 +130,9 @@ impl<'a, N: Names, R: Wait + Clock> Caller for Hired<'a, N, R> {
         let (rt, kernel, to, gate) = (self.0, self.2, &mut *self.3, &OpenGate);
         let told_any = match (any, by) {
             (None, None) => return told(kernel.take(rt, p, e, to, gate)),
-            (None, Some(by)) => return told(kernel.take_wait_until(rt, p, e, by, to, gate)),
+            (None, Some(by)) => return told(kernel.take_until(rt, p, e, &by, to, gate)),
             (Some(ends), None) => kernel.take_any(rt, p, ends, to, gate),
-            (Some(ends), Some(by)) => kernel.take_any_wait_until(rt, p, ends, by, to, gate),
+            (Some(ends), Some(by)) => kernel.take_any_until(rt, p, ends, &by, to, gate),
         };
         told(told_any.and_then(|told| told.answer))
     }

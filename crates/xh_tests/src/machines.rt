@@ -21,7 +21,7 @@ use std::thread::Threads;
 use std::time::{Clock, Instant};
 use xh_books::close_kernel;
 use xh_core::{Block, Config, Ledger, Refused};
-use xh_kernel::{Account, AnsweredAt, Kernel, Look, MAX_ENDS, Names, Parts};
+use xh_kernel::{Account, AnsweredAt, Kernel, Look, MAX_ENDS, Names, Never, Parts};
 use xh_place::{Got, Taken};
 use xh_runner::{Gate, Machine, OpenGate, Worker, hire, leave_all};
 use xh_serial::Serial;
@@ -134,8 +134,10 @@ impl<'a, N: Names, R: Wait + Clock, G: Gate> SharedMachine for Worker<'a, N, R, 
         told_given(match until {
             Some(until) => self
                 .kernel
-                .give_wait_until(rt, p, e, 1, blocks, until, account, gate),
-            None => self.kernel.give_wait(rt, p, e, 1, blocks, account, gate),
+                .give_until(rt, p, e, 1, blocks, &until, account, gate),
+            None => self
+                .kernel
+                .give_until(rt, p, e, 1, blocks, &Never, account, gate),
         })
     }
 
@@ -144,7 +146,7 @@ impl<'a, N: Names, R: Wait + Clock, G: Gate> SharedMachine for Worker<'a, N, R, 
         let answer = match until {
             Some(until) => self
                 .kernel
-                .take_wait_until(rt, p, e, until, &mut self.account, gate),
+                .take_until(rt, p, e, &until, &mut self.account, gate),
             None => self.kernel.take_wait(rt, p, e, &mut self.account, gate),
         };
         told(0, answer)
@@ -160,10 +162,10 @@ impl<'a, N: Names, R: Wait + Clock, G: Gate> SharedMachine for Worker<'a, N, R, 
         let answer = match until {
             Some(until) => self
                 .kernel
-                .take_any_wait_until(rt, p, ends, until, &mut self.account, gate),
+                .take_any_until(rt, p, ends, &until, &mut self.account, gate),
             None => self
                 .kernel
-                .take_any_wait(rt, p, ends, &mut self.account, gate),
+                .take_any_until(rt, p, ends, &Never, &mut self.account, gate),
         };
         told_at(answer)
     }
@@ -188,8 +190,8 @@ impl<'a, N: Names, R: Wait + Clock, G: Gate> SharedMachine for Worker<'a, N, R, 
     ) -> &'static str {
         let (kernel, account, gate) = (self.kernel, &mut self.account, self.gate);
         let answer = match until {
-            Some(until) => kernel.alloc_wait_until(clock, alloc, p, 16, 0, until, account, gate),
-            None => kernel.alloc_wait(clock, alloc, p, 16, 0, account, gate),
+            Some(until) => kernel.alloc_until(clock, alloc, p, 16, 0, &until, account, gate),
+            None => kernel.alloc_until(clock, alloc, p, 16, 0, &Never, account, gate),
         };
         let freed = match answer {
             Ok(block) => kernel.free(clock, p, block.rec, account, gate),

@@ -52,26 +52,13 @@ module _ {E : Type 0} where
   abbrev pub view_from : ℕ → ℕ → View E
   view_from p k = record { place = p; places_end = PLACES; history = []; worker = k; workers_end = 256; fronts = replicate PLACES [] }
 
-  abbrev pub first_view : View E
-  first_view = view_from 0 0
+  -- the seat keeps its places from p on and its workers from k on
+  abbrev pub kept_from : ℕ → ℕ → View E → View E
+  kept_from p k v = record v { place = p; worker = k }
 
-  -- the first place goes to a seat of its own
-  abbrev pub without_place : View E → View E
-  without_place v = record v { place = suc v.place }
-
-  abbrev pub place_alone : View E → View E
-  place_alone v = record { place = v.place; places_end = suc v.place; history = v.history; worker = 0; workers_end = 0; fronts = [] }
-
-  -- the first worker goes to a seat of its own
-  abbrev pub without_worker : View E → View E
-  without_worker v = record v { worker = suc v.worker }
-
-  abbrev pub worker_alone : View E → View E
-  worker_alone v = record { place = 0; places_end = 0; history = []; worker = v.worker; workers_end = suc v.worker; fronts = v.fronts }
-
-  -- a seat that writes no history and serves no worker, and has seen what this one has
-  abbrev pub onlooker : View E → View E
-  onlooker v = record { place = 0; places_end = 0; history = []; worker = 0; workers_end = 0; fronts = v.fronts }
+  -- and those before go to a seat that has seen as much
+  abbrev pub given_before : ℕ → ℕ → View E → View E
+  given_before p k v = record v { places_end = p; workers_end = k }
 
   -- the seat of a place takes in that of a worker, or what a look has seen
   abbrev pub both : View E → View E → View E
@@ -96,11 +83,10 @@ module _ {E : Type 0} where
   abbrev pub Added : List E → {S : Type 0} → Step S → Me S (View E) → ℕ → Me S (View E) → Type 0
   Added es s v n w = (w ≡ (with_calls es v.0, v.1)) × HasSeen v.0.worker (at v.0.fronts v.0.place) v.0.history
 
-  -- a load: the history was seen to its end, of which the word shows the last call; a seat that writes it knows that end, and had seen all calls of a worker whom it serves
-  abbrev pub Looked : (ℕ → ℕ → E → Type 0) → {S : Type 0} → Step S → Me S (View E) → ℕ → Me S (View E) → Type 0
-  Looked shows s v n w = (later : History E) × (w ≡ (record v.0 { fronts = slice_set v.0.fronts (place_of_word s.word) (at v.0.fronts (place_of_word s.word) ++ later) }, v.1))
-      × IsLastShown shows (place_of_word s.word) (at v.0.fronts (place_of_word s.word) ++ later) n × (WritesPlace v.0 (place_of_word s.word) → v.0.history ≡ at v.0.fronts (place_of_word s.word) ++ later)
-      × ((k : ℕ) → Serves v.0 k → HasSeen k (at v.0.fronts (place_of_word s.word)) (at v.0.fronts (place_of_word s.word) ++ later))
+  -- a load of the place's word: the history was seen to its end, of which the word shows the last call; a seat that writes it knows that end, and had seen all calls of a worker whom it serves
+  abbrev pub Looked : (ℕ → ℕ → E → Type 0) → {S : Type 0} → ℕ → Me S (View E) → ℕ → Me S (View E) → Type 0
+  Looked shows p v n w = (later : History E) × (w ≡ (record v.0 { fronts = slice_set v.0.fronts p (at v.0.fronts p ++ later) }, v.1)) × IsLastShown shows p (at v.0.fronts p ++ later) n
+      × (WritesPlace v.0 p → v.0.history ≡ at v.0.fronts p ++ later) × ((k : ℕ) → Serves v.0 k → HasSeen k (at v.0.fronts p) (at v.0.fronts p ++ later))
 
   -- the seat that writes the history of this one place, and serves no worker
   pub record IsPen (number : ℕ) (v : View E) : Type 0 where
@@ -111,7 +97,7 @@ module _ {E : Type 0} where
 
   -- a seat that serves no worker, and has seen of each place a beginning
   pub record IsOnlooker (v : View E) : Type 0 where
-    pub none : v.workers_end ≡ 0
+    pub none : v.workers_end ≤ v.worker
     pub fronts : length v.fronts ≡ PLACES
 
   abbrev pub view_in : List (View E) → View E
@@ -122,7 +108,7 @@ module _ {E : Type 0} where
   pub record IsFront (views : List (View E)) : Type 0 where
     pub one : views ≡ view_in views ∷ []
     pub alone : (view_in views).workers_end ≡ suc (view_in views).worker
-    pub none : (view_in views).places_end ≡ 0
+    pub none : (view_in views).places_end ≤ (view_in views).place
     pub fronts : length (view_in views).fronts ≡ PLACES
 
   -- or no seat

@@ -1,5 +1,5 @@
 -- What a kernel is made of, while it is made.
-use Rattle.std.specs.Prelude.{◌≡◌, ℕ, ◌%◌, ◌<◌, ◌≤◌, Bool, List, [], length, All, Some, slice_get, slice_index_or}
+use Rattle.std.specs.Prelude.{◌≡◌, ℕ, ◌%◌, ◌<◌, ◌≤◌, Bool, List, [], length, All, slice_index_or}
 use Rattle.atomic_table.specs.Seated.{TableId}
 use Rattle.xh_arena.specs.Views.{VaultOf}
 use Rattle.xh_history.specs.Histories.{FrontOf, LookOf, PenOf, fresh_front, fresh_look, fresh_pen}
@@ -17,7 +17,7 @@ abbrev pub IsFirstSeat : RecordsOf → ℕ → Held Body → Type 0
 IsFirstSeat all k x = IsSeatOf all x × (x.process ≡ k) × (x.lots ≡ []) × (x.front ≡ [])
 
 abbrev pub AreFirstSeats : RecordsOf → List (Held Body) → Type 0
-AreFirstSeats all xs = (length xs ≡ PLACES) × ((k : ℕ) (x : Held Body) → slice_get xs k ≡ Some x → IsFirstSeat all k x)
+AreFirstSeats all xs = (length xs ≡ PLACES) × ((k : ℕ) (d : Held Body) → k < PLACES → IsFirstSeat all k (slice_index_or xs k d))
 
 -- the pen of each place's history, in which no call stands yet
 abbrev pub ArePens : TableId → List (PenOf Entry) → Type 0

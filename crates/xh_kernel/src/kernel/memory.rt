@@ -8,56 +8,14 @@ use crate::account::Account;
 use crate::kernel::Kernel;
 use crate::looking::bell_of;
 use crate::overview::Awaited;
-use crate::until::{Never, Until};
+use crate::until::Until;
 use std::alloc::Global;
 use std::sync::Wait;
-use std::time::{Clock, Instant};
 use xh_calls::{Lack, Names};
 use xh_core::{Block, Refused};
 use xh_place::Gate;
 
 impl<N: Names> Kernel<N> {
-    /// As `alloc`; where the arena has no free record or no space, it waits, without a lock, until a record of it is vacated, and
-    /// asks again. Each asking in vain stands in the place's history. A process that ends meanwhile is answered Ended. That memory
-    /// comes isn't promised: it may wait for ever.
-    ///
-    /// NoProcess, Ended, NoArena, BadSize, OutOfMemory, Worn.
-    pub fn alloc_wait<R: Wait, G: Gate>(
-        &self,
-        rt: &R,
-        alloc: Global,
-        p: u16,
-        n: u32,
-        arena: u32,
-        account: &mut Account<N>,
-        gate: &G,
-    ) -> Result<Block, Refused>
-        ensures calls { AtLastOf (DidAlloc N.parts N.leads p n arena) IsNoMemory result account.old account.new }
-        ensures waits { IfErr result (λ why. (why ≢ refused.NoRecord) × (why ≢ refused.NoSpace)) }
-    {
-        self.alloc_until(rt, alloc, p, n, arena, &Never, account, gate)
-    }
-
-    /// As `alloc_wait`; where there is no memory once the time is past, it answers NoRecord or NoSpace. A clock that can't be read
-    /// ends the wait too.
-    ///
-    /// NoProcess, Ended, NoArena, BadSize, NoRecord, OutOfMemory, NoSpace, Worn.
-    pub fn alloc_wait_until<R: Wait + Clock, G: Gate>(
-        &self,
-        rt: &R,
-        alloc: Global,
-        p: u16,
-        n: u32,
-        arena: u32,
-        deadline: Instant,
-        account: &mut Account<N>,
-        gate: &G,
-    ) -> Result<Block, Refused>
-        ensures { AtLastOf (DidAlloc N.parts N.leads p n arena) IsNoMemory result account.old account.new }
-    {
-        self.alloc_until(rt, alloc, p, n, arena, &deadline, account, gate)
-    }
-
     // The bell of the process's place as it is; who vacates what it lacks of the arena, and its end, ring it after that.
     fn hear<R: Wait>(&self, rt: &R, p: u16, arena: u32, lack: Lack) -> u64 {
         let mut held = self.held(rt, p);
@@ -68,8 +26,12 @@ impl<N: Names> Kernel<N> {
         seen
     }
 
-    // Asks for memory until there is some or the time is past.
-    fn alloc_until<R: Wait, G: Gate, U: Until<R>>(
+    /// As `alloc`; where the arena has no free record or no space, it waits until a record of it is vacated, or until a time, without
+    /// a lock, and asks again. Each asking in vain stands in the place's history. A process that ends meanwhile is answered Ended.
+    /// That memory comes isn't promised. A clock that can't be read ends the wait too.
+    ///
+    /// NoProcess, Ended, NoArena, BadSize, OutOfMemory, Worn; NoRecord and NoSpace once the time is past.
+    pub fn alloc_until<R: Wait, G: Gate, U: Until<R>>(
         &self,
         rt: &R,
         alloc: Global,

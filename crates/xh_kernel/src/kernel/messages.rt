@@ -9,7 +9,6 @@ use crate::kernel::Kernel;
 use crate::overview::Awaited;
 use crate::until::{Never, Until};
 use std::sync::Wait;
-use std::time::{Clock, Instant};
 use xh_calls::{AnsweredAt, Names};
 use xh_core::Refused;
 use xh_place::{Gate, Taken};
@@ -79,24 +78,6 @@ impl<N: Names> Kernel<N> {
         self.take_until(rt, p, e, &Never, account, gate)
     }
 
-    /// As `take_wait`; where no message waits once the time is past, it answers Empty. A clock that can't be
-    /// read ends the wait too.
-    ///
-    /// NoProcess, Ended, NotOwned, NotEndpoint, PeerClosed, Empty.
-    pub fn take_wait_until<R: Wait + Clock, G: Gate>(
-        &self,
-        rt: &R,
-        p: u16,
-        e: u16,
-        deadline: Instant,
-        account: &mut Account<N>,
-        gate: &G,
-    ) -> Result<Taken, Refused>
-        ensures { AtLast (DidTake N.leads p e) (Err refused.Empty) result account.old account.new }
-    {
-        self.take_until(rt, p, e, &deadline, account, gate)
-    }
-
     /// Looks at the endpoints in the order given, takes at the first that has a message, and answers its
     /// index and what `take` answers of it. Where none has one, PeerClosed with the index of the first whose
     /// peer is closed, if there is any, and else Empty.
@@ -117,87 +98,11 @@ impl<N: Names> Kernel<N> {
         held.take_any(rt, &self.shared, p, ends, account, gate)
     }
 
-    /// As `take_any`; where no message waits and no peer is closed, it waits for one, without a lock, and
-    /// looks again once it is woken. A process that ends meanwhile is answered Ended. Of no endpoints it
-    /// answers Empty at once.
+    /// As `take_wait`, until a time: where no message waits once it is past, it answers Empty. A clock that can't be read ends
+    /// the wait too.
     ///
-    /// NoProcess, Ended, TooMany, NotOwned, NotEndpoint, Twice.
-    pub fn take_any_wait<R: Wait, G: Gate>(
-        &self,
-        rt: &R,
-        p: u16,
-        ends: &[u16],
-        account: &mut Account<N>,
-        gate: &G,
-    ) -> Result<AnsweredAt, Refused>
-        ensures calls { AtLast (DidTakeAny N.leads p ends.now) (Err refused.Empty) result account.old account.new }
-        ensures waits { IfErr result (λ why. why ≡ refused.Empty → ends.now ≡ []) }
-    {
-        self.take_any_until(rt, p, ends, &Never, account, gate)
-    }
-
-    /// As `take_any_wait`; where no message waits once the time is past, it answers Empty. A clock that can't
-    /// be read ends the wait too.
-    ///
-    /// NoProcess, Ended, TooMany, NotOwned, NotEndpoint, Twice, Empty.
-    pub fn take_any_wait_until<R: Wait + Clock, G: Gate>(
-        &self,
-        rt: &R,
-        p: u16,
-        ends: &[u16],
-        deadline: Instant,
-        account: &mut Account<N>,
-        gate: &G,
-    ) -> Result<AnsweredAt, Refused>
-        ensures { AtLast (DidTakeAny N.leads p ends.now) (Err refused.Empty) result account.old account.new }
-    {
-        self.take_any_until(rt, p, ends, &deadline, account, gate)
-    }
-
-    /// As `give`; where the direction is full and all blocks came back, it waits until the receiver takes, without a lock, and
-    /// gives again. Each give in vain stands in the place's history. A process that ends meanwhile is answered Ended, and
-    /// PeerClosed comes once the peer is closed.
-    ///
-    /// NoProcess, Ended, NotOwned, NotEndpoint, TooMany, NotOwned, Twice, Protocol, PeerClosed; Full where a block didn't come
-    /// back, with those that did. In a direction that has carried its last message, 2^62 - 1, it waits on.
-    pub fn give_wait<R: Wait, G: Gate>(
-        &self,
-        rt: &R,
-        p: u16,
-        e: u16,
-        tag: u16,
-        blocks: &[u16],
-        account: &mut Account<N>,
-        gate: &G,
-    ) -> Result<u64, Refused>
-        ensures calls { AtLast (DidGive N.leads p e tag blocks.now) (no_room blocks.now) result account.old account.new }
-        ensures waits { result ≢ no_room blocks.now }
-    {
-        self.give_until(rt, p, e, tag, blocks, &Never, account, gate)
-    }
-
-    /// As `give_wait`; where there is no room once the time is past, it answers Full with all blocks. A clock that can't be read
-    /// ends the wait too.
-    ///
-    /// NoProcess, Ended, NotOwned, NotEndpoint, TooMany, NotOwned, Twice, Protocol, PeerClosed, Full.
-    pub fn give_wait_until<R: Wait + Clock, G: Gate>(
-        &self,
-        rt: &R,
-        p: u16,
-        e: u16,
-        tag: u16,
-        blocks: &[u16],
-        deadline: Instant,
-        account: &mut Account<N>,
-        gate: &G,
-    ) -> Result<u64, Refused>
-        ensures { AtLast (DidGive N.leads p e tag blocks.now) (no_room blocks.now) result account.old account.new }
-    {
-        self.give_until(rt, p, e, tag, blocks, &deadline, account, gate)
-    }
-
-    // Looks for a message until one is there or the time is past.
-    fn take_until<R: Wait, G: Gate, U: Until<R>>(
+    /// NoProcess, Ended, NotOwned, NotEndpoint, PeerClosed, Empty.
+    pub fn take_until<R: Wait, G: Gate, U: Until<R>>(
         &self,
         rt: &R,
         p: u16,
@@ -226,8 +131,12 @@ impl<N: Names> Kernel<N> {
         unreachable!()
     }
 
-    // Looks at several endpoints for a message until one is there or the time is past.
-    fn take_any_until<R: Wait, G: Gate, U: Until<R>>(
+    /// As `take_any`; where no message waits and no peer is closed, it waits for one until a time, without a lock, and looks again
+    /// once it is woken. A process that ends meanwhile is answered Ended. Empty is answered at once of no endpoints, and of others
+    /// once the time is past; a clock that can't be read ends the wait too.
+    ///
+    /// NoProcess, Ended, TooMany, NotOwned, NotEndpoint, Twice, Empty.
+    pub fn take_any_until<R: Wait, G: Gate, U: Until<R>>(
         &self,
         rt: &R,
         p: u16,
@@ -255,8 +164,14 @@ impl<N: Names> Kernel<N> {
         unreachable!()
     }
 
-    // Gives until there is room or the time is past.
-    fn give_until<R: Wait, G: Gate, U: Until<R>>(
+    /// As `give`; where the direction is full and all blocks came back, it waits until the receiver takes, or until a time, without
+    /// a lock, and gives again. Each give in vain stands in the place's history. A process that ends meanwhile is answered Ended,
+    /// and PeerClosed comes once the peer is closed. A clock that can't be read ends the wait too.
+    ///
+    /// NoProcess, Ended, NotOwned, NotEndpoint, TooMany, NotOwned, Twice, Protocol, PeerClosed; Full with all blocks once the time is
+    /// past, and where a block didn't come back, with those that did. In a direction that has carried its last message, 2^62 - 1, it
+    /// waits on.
+    pub fn give_until<R: Wait, G: Gate, U: Until<R>>(
         &self,
         rt: &R,
         p: u16,

@@ -7,7 +7,7 @@ use Rattle.xh_runner.specs.declared.crew.Hand.TheVariants.{Works, Idle}
 use Rattle.xh_runner.specs.declared.task.Done.{Done}
 use Rattle.xh_runner.specs.declared.task.Task.{Task}
 use Rattle.xh_runner.specs.declared.task.Crew.{Crew}
-use Rattle.xh_runner.specs.Plays.{AllZipFrom, ArePlayed, began_at, DoesAmong, LAST, MayStop, PlayAll, Plays, names_renewed, other_of, part, replies_in}
+use Rattle.xh_runner.specs.Plays.{AllZipFrom, AreAnswersTo, ArePlayed, began_at, DoesAmong, LAST, MayStop, PlayAll, Plays, names_renewed, other_of, part, replies_in}
 use Rattle.xh_script.specs.declared.command.Line.{Line}
 use Rattle.xh_script.specs.declared.fault.Fault.{Fault}
 use Rattle.xh_script.specs.declared.replies.NumberedReply.{NumberedReply}
@@ -45,9 +45,9 @@ module _ {M S : Type 0} (state : M → S) where
     abbrev pub PlaceIsDone : Bindings → List (List Row) → List Line → ℕ → M → Done M → Type 0
     PlaceIsDone b contracts lines k machine done = Left b.processes lines k (began_at b contracts k (state machine)) done
 
-    -- what is left of all places by their machines, from what the head's session left on
-    abbrev pub LeavesPlaces : Session M → List Line → List M → List (Done M) → Type 0
-    LeavesPlaces head lines = AllZipFrom (PlaceIsDone head.names head.contracts.now lines) 0
+    -- what is left of all places by their machines
+    abbrev pub LeavesPlaces : Bindings → List (List Row) → List Line → List M → List (Done M) → Type 0
+    LeavesPlaces b contracts lines = AllZipFrom (PlaceIsDone b contracts lines) 0
 
     -- all lines were played by the head's session and the machines of the places, which are these then
     abbrev pub AllPlay : Session M → List Line → List NumberedReply → List M → Session M → List M → Type 0
@@ -60,29 +60,27 @@ module _ {M S : Type 0} (state : M → S) where
 
 -- ---- a thread
 
-module _ {M G S : Type 0} (state : M → S) where
-  -- what was started for the place k and its machine
+module _ {M G S : Type 0} (state : M → S) (did : S → (q : Question) → AnswerTo q → S → Type 0) where
+  -- a task is done
+  abbrev pub IsTaskDone : Crew G → Task M → Done M → Type 0
+  IsTaskDone crew task done = Left state did crew.ready.now.processes crew.lines.now task.place (world_of state task.session) done
+
+  -- or its worker was stopped
+  abbrev pub LeavesTask : Bool → Crew G → Task M → Result (Done M) Fault → Type 0
+  LeavesTask always crew task left = MatchResult left (IsTaskDone crew task) (MayStop always)
+
+  -- what is joined of a hand
+  abbrev pub Joins : Hand M G → Done M → Type 0
+  Joins (Works handle) done = IsTaskDone handle.promise.crew.now handle.promise.task.value done
+  Joins (Idle left) done = done ≡ left
+
+  -- what was started for the place k and its machine: whatever is joined of it is what is left of the place
   abbrev pub IsHand : Crew G → ℕ → M → Hand M G → Type 0
-  IsHand crew k machine (Works handle) = (handle.promise.crew.now ≡ crew) × IsTask state crew k machine handle.promise.task.value
-  IsHand crew k machine (Idle idle) = (idle ≡ machine) × (k < PLACES) × (process_at crew.ready.now.processes k ≡ None)
+  IsHand crew k machine hand = (done : Done M) → Joins hand done → PlaceIsDone state did crew.ready.now crew.contracts.now crew.lines.now k machine done
 
-  module _ (did : S → (q : Question) → AnswerTo q → S → Type 0) where
-    -- a task is done
-    abbrev pub IsTaskDone : Crew G → Task M → Done M → Type 0
-    IsTaskDone crew task done = Left state did crew.ready.now.processes crew.lines.now task.place (world_of state task.session) done
-
-    -- or its worker was stopped
-    abbrev pub LeavesTask : Bool → Crew G → Task M → Result (Done M) Fault → Type 0
-    LeavesTask always crew task left = MatchResult left (IsTaskDone crew task) (MayStop always)
-
-    -- whatever was started, that is done
-    abbrev pub Joins : Hand M G → Done M → Type 0
-    Joins (Works handle) done = IsTaskDone handle.promise.crew.now handle.promise.task.value done
-    Joins (Idle machine) done = (done.machine ≡ machine) × (done.replies.items ≡ [])
-
-    -- what is left of the places
-    abbrev pub ArePlacesDone : Crew G → List M → List (Done M) → Type 0
-    ArePlacesDone crew = AllZipFrom (PlaceIsDone state did crew.ready.now crew.contracts.now crew.lines.now) 0
+  -- what is left of the places
+  abbrev pub ArePlacesDone : Crew G → List M → List (Done M) → Type 0
+  ArePlacesDone crew = LeavesPlaces state did crew.ready.now crew.contracts.now crew.lines.now
 
 -- ---- the replies
 
@@ -93,3 +91,7 @@ AreEnough s lines parts = (k : ℕ) → k ≤ LAST → length (get_or parts k []
 -- the answers tell these replies of the parts
 abbrev pub AreTold : Processes → List Line → List NumberedReply → List (List Reply) → Type 0
 AreTold s lines answers parts = (k : ℕ) → k ≤ LAST → replies_in s k lines answers ≡ get_or parts k []
+
+-- and are answers to the lines
+abbrev pub Tells : Processes → List Line → List NumberedReply → List (List Reply) → Type 0
+Tells s lines answers parts = AreAnswersTo lines answers × AreTold s lines answers parts

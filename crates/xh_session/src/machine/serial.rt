@@ -1,33 +1,25 @@
 //! The serial machine's calls.
-ghost use Rattle.std.specs.Prelude.{◌≡◌, ◌≤◌, length, map, Some};
+ghost use Rattle.std.specs.Prelude.{◌≡◌};
 ghost use Rattle.xh_session.specs.Machines.{received};
 
-use crate::machine::{Machine, Received, Told};
+use crate::machine::{Ends, Machine, Received, Told};
 use arrayvec::ArrayVec;
 use std::alloc::Global;
 use xh_core::{Block, Contract, Glance};
-use xh_model::limits::MAX_BLOCKS;
 use xh_serial::{Serial, Taken};
 
-/// Blocks that are all there.
-fn here(blocks: &[Block]) -> ArrayVec<Option<Block>, MAX_BLOCKS>
-    requires { length blocks.now ≤ MAX_BLOCKS }
-    ensures { result.items ≡ map (λ b. Some b) blocks.now }
-{
-    let mut all = ArrayVec::new();
-    for block in blocks {
-        all.push(Some(*block));
-    }
-    all
-}
-
+/// A message whose blocks are all there.
 fn received(message: Taken) -> Received
     ensures { result ≡ received message }
 {
+    let mut blocks = ArrayVec::new();
+    for block in message.blocks.as_slice() {
+        blocks.push(Some(*block));
+    }
     Received {
         number: message.no,
         tag: message.tag,
-        blocks: here(message.blocks.as_slice()),
+        blocks,
     }
 }
 
@@ -45,12 +37,7 @@ impl Machine for Serial {
         Serial::spawn(self)
     }
 
-    fn open(
-        &mut self,
-        process: u16,
-        arena: u32,
-        contract: Option<&Contract>,
-    ) -> Told<(Block, Block)> {
+    fn open(&mut self, process: u16, arena: u32, contract: Option<&Contract>) -> Told<Ends> {
         match contract {
             Some(contract) => self.open_with(process, arena, contract.copy()),
             None => Serial::open(self, process, arena),
@@ -63,7 +50,7 @@ impl Machine for Serial {
         other: u16,
         arena: u32,
         contract: Option<&Contract>,
-    ) -> Told<(Block, Block)> {
+    ) -> Told<Ends> {
         match contract {
             Some(contract) => self.wire_with(process, other, arena, contract.copy()),
             None => Serial::wire(self, process, other, arena),

@@ -1,6 +1,5 @@
 use Rattle.xh_books.proofs.Common.{All, ArenaLine, IsInFlight, List, PLACES, PlaceLine, RecordsOf, TallyOf, all_lengths, ap, arena_lines, bytes_in_flight, length, places_of, refl, rules, subst, sym}
-use Rattle.xh_books.proofs.Common.{tallies_of, ◌<◌, ◌∙◌, ◌≡◌}
-use Rattle.xh_books.proofs.LedgerLines.{lines_are_of, lines_within}
+use Rattle.xh_books.proofs.{Common.tallies_of, Common.◌<◌, Common.◌∙◌, Common.◌≡◌, LedgerLines.lines_are_of, LedgerLines.lines_within}
 use Rattle.xh_kernel.proofs.Compared.{kept_own}
 use Rattle.xh_books.proofs.closing.close_kernel.Goals as goal
 

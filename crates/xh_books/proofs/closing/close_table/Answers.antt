@@ -1,5 +1,6 @@
-use Rattle.xh_books.proofs.Common.{AllZip-long, Body, Held, IsSeatOfPlace, IsSmall, PlaceSeen, flight_lines, lens_of, rules, subst, sym, zip, ◌∙◌, ◌≡◌}
-use Rattle.xh_books.proofs.Owning.{lots_at, owned, seats_own, tell_flight}
+use Rattle.xh_books.proofs.Common.{AllZip-long, Body, Held, IsSeatOfPlace, IsSmall, List, PlaceSeen, TellFlight, VaultOf, ap, flight_lines, length, length-map, lens_of, rules, subst, sym, zip, ℕ}
+use Rattle.xh_books.proofs.Common.{◌*◌, ◌∙◌, ◌≡◌}
+use Rattle.xh_books.proofs.Owning.{lots_at, seats_own, tell_flight}
 use Rattle.xh_books.proofs.closing.close_table.Goals as goal
 
 pub close-requires-clause-own : goal.close-requires-clause-own
@@ -10,15 +11,26 @@ close-requires-clause-all c =
     let l = sym (AllZip-long (λ (x : Held Body) (p : PlaceSeen). IsSeatOfPlace x p.place × (x.front ≡ p.front)) c.in_ok-seats.seats.items c.args.places.items c.in_ok-seats.ensures.seats) in
     let count = c.requires.places.1 in search rules
 
+pub audit-requires : goal.audit-requires
+audit-requires c =
+    let small : IsSmall c.args.records.shape = subst (λ r. IsSmall r.shape) c.records.view_is c.records.invariant.small in
+    let each : c.from-each.result ≡ c.args.records.shape.records = c.from-each.ensures ∙ c.per_arena.ensures.0 in let ends = c.in-Ok.ensures in
+    rw (each, c.as_mut_slice.ensures.value, c.requires.vaults.0) record {
+      some = small.0;
+      long = ends.all ∙ ap (λ n. n * c.args.records.shape.records) (ap length (sym c.requires.vaults.0) ∙ length-map c.args.vaults.now (λ (v : VaultOf). v.id));
+      each = c.requires.vaults.1;
+      at = lots_at _ c.args.records c.in_ok-seats.seats.items c.args.places.items c.in-Ok.words.items c.in-Ok.lots.items ends c.in_ok-seats.ensures.seats c.requires.places.0 small.0 small.1;
+    }
+
 pub returns : goal.returns
 returns c =
     let small : IsSmall c.args.records.shape = subst (λ r. IsSmall r.shape) c.records.view_is c.records.invariant.small in
-    let seats = c.in_ok-seats.seats.items in let places = c.args.places.items in let words = c.in-Ok.words.items in let lots = c.in-Ok.lots.items in
-    let ends = c.in-Ok.ensures in let are = c.in_ok-seats.ensures.seats in let own = c.requires.places.0 in record {
-      lots = (ends.all, lots_at _ c.args.records seats places words lots ends are own small.0 small.1);
-      owned = owned _ c.args.records seats places words lots ends are own small.0 small.1;
-      flight = tell_flight _ c.args.records seats places words lots ends are own small.0 small.1 c.flight_lines-flight.result.items
-          (c.flight_lines-flight.ensures ∙ (λ i. flight_lines (zip (c.as_slice.ensures.value i) (lens_of (c.as_slice-2.ensures.value i)))));
-      lines = (c.in_ok-seats.ensures.lines, c.in_ok-seats.ensures.owned);
+    let told = tell_flight _ c.args.records c.in_ok-seats.seats.items c.args.places.items c.in-Ok.words.items c.in-Ok.lots.items c.in-Ok.ensures c.in_ok-seats.ensures.seats
+    c.requires.places.0 small.0 small.1 c.flight_lines-flight.result.items
+    (c.flight_lines-flight.ensures ∙ (λ i. flight_lines (zip (c.as_slice.ensures.value i) (lens_of (c.as_slice-2.ensures.value i))))) in record {
+      flight = subst (λ (lens : List ℕ). TellFlight c.args.records.shape c.args.places.items lens c.flight_lines-flight.result.items)
+          (ap lens_of (sym c.as_mut_slice.ensures.value) ∙ c.audit.ensures) told;
+      lines = c.in_ok-seats.ensures.lines;
+      owned = c.in_ok-seats.ensures.owned;
       refused = tt;
     }

@@ -1,26 +1,22 @@
-use Rattle.xh_books.proofs.Common.{TallyOf, VaultOf, ap, arith, rules, slice_index_or, sym, ◌+◌, ◌∙◌, ◌≡◌}
-use Rattle.std.proofs.lemmas.{Grind.get_or-set_at, List.get_or-set_other, List.get_or_default}
-use Rattle.xh_books.proofs.Collected.{as_many, same_id}
+use Rattle.std.proofs.lemmas.List.{map-set}
+use Rattle.xh_books.proofs.Common.{Move, VaultOf, [], ap, get_or, get_or-map, length, rules, set, set-get_or, sym, vault_names, ◌<◌, ◌∙◌, ◌∷◌, ◌≡◌}
+use Rattle.xh_books.proofs.Collected.{next_tally, one_more}
 use Rattle.xh_books.proofs.collecting.collect_tallies.Goals as goal
-
-pub loop-tally-init : goal.loop-tally-init
-loop-tally-init c = let long = as_many c.args.tallies.items c.args.vaults.now c.requires in search (rules, long)
 
 pub collect-requires : goal.collect-requires
 collect-requires c =
-    let l = c.loop-tally in let was = l.invariant in let k = l.arena in let d = c.index-vaults-arena.result in let t = c.in-Some.tally in let step = c.in-Some.ensures.steps in
-    let tally : t ≡ slice_index_or c.args.tallies.items k t = let h = was.4 0 t in grind rules in
-    ap (λ (x : TallyOf). x.id) tally ∙ same_id c.args.tallies.items c.args.vaults.now c.requires k t d (search rules) ∙ sym (ap (λ (v : VaultOf). v.id) (was.3 k d (omega arith)))
+    let l = c.loop-tally in
+    (next_tally c.args.tallies.items _ l.vaults l.arena c.in-Some.tally c.index-vaults-arena.result l.invariant.2 (sym l.invariant.1 ∙ c.in-Some.ensures.steps.0) (search rules)).0
 
 pub loop-tally-preserved : goal.loop-tally-preserved
 loop-tally-preserved c =
-    let l = c.loop-tally in let was = l.invariant in let n = l.arena in let r = c.index-vaults-arena.result in let t = c.in-Some.tally in let step = c.in-Some.ensures.steps in
-    let vs = c.args.vaults.now in let ts = c.args.tallies.items in let new = c.collect.new.self in let kept = c.collect.ensures.kept in
-    let tally : t ≡ slice_index_or ts n t = let h = was.4 0 t in grind rules in (
+    let l = c.loop-tally in let was = l.invariant in let k = l.arena in let v = c.index-vaults-arena.result in let new = c.collect.new.self in let kept = c.collect.ensures.kept in
+    let inside : k < length l.vaults = search rules in let id : VaultOf → _ = λ x. x.id in
+    let next = next_tally c.args.tallies.items _ l.vaults k c.in-Some.tally v was.2 (sym was.1 ∙ c.in-Some.ensures.steps.0) inside in
+    let names : vault_names (set l.vaults k new) ≡ vault_names l.vaults = map-set id l.vaults k new ∙ ap (set (vault_names l.vaults) k) (ap id kept ∙ sym (get_or-map id l.vaults k v v.id inside))
+    ∙ set-get_or (vault_names l.vaults) k v.id in (
       search rules,
-      search rules,
-      (λ k d e below. let h = was.2 k d e in let at = get_or-set_at l.vaults n k new d in let other = get_or-set_other l.vaults n k new d in let before = was.3 n r in
-          let vault = get_or_default vs n r d in let mine = get_or_default ts n t e in grind (rules, tally, kept, h, at, other, before, vault, mine)),
-      (λ k d from. let h = was.3 k d in let other = get_or-set_other l.vaults n k new d in grind (rules, h, other)),
-      (λ k e below. let h = was.4 (k + 1) e in grind rules),
+      next.1,
+      was.2 ∙ sym names,
+      one_more (c.args.tallies.items ∷ []) l.vaults k v new inside (kept ∙ ap (λ (m : Move). record (get_or l.vaults k v) { collected = m ∷ (get_or l.vaults k v).collected }) next.2) ∙ was.3,
     )

@@ -1,4 +1,4 @@
-use Rattle.xh_books.proofs.Common.{FlightLine, ap, arith, common_steps, filter, flight_line, lens_of, map, nat_lt, nat_tests, range_with_len, zip, ◌∙◌, ◌≡◌}
+use Rattle.xh_books.proofs.Common.{FlightLine, arith, common_steps, flight_line, lens_of, nat_lt, nat_tests, zip, ◌≡◌}
 use Rattle.std.proofs.lemmas.List.FromFn.{filter_of_map_range_with_len_more}
 use Rattle.xh_books.proofs.flight.flight_lines.Goals.{else-line-gt0, then-line-gt0}
 use Rattle.xh_books.proofs.flight.flight_lines.Goals as goal
@@ -11,6 +11,4 @@ loop-direction-preserved c =
     elim c.if-line-gt0.branch [ then-line-gt0 w ↦ grind (arith, common_steps, nat_tests, more, is) | else-line-gt0 w ↦ grind (arith, common_steps, nat_tests, more, is) ]
 
 pub returns : goal.returns
-returns c =
-    let end : c.loop-direction.direction ≡ 128 = omega arith in
-    c.loop-direction.invariant.0 ∙ ap (λ n. filter (λ (x : FlightLine). nat_lt 0 x.blocks) (map (flight_line (zip c.args.words.now (lens_of c.args.lots.now))) (range_with_len 0 n))) end
+returns c = let end : c.loop-direction.direction ≡ 128 = omega arith in rw end at c.loop-direction.invariant.0

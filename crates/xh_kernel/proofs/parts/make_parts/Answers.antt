@@ -1,4 +1,4 @@
-use Rattle.xh_kernel.proofs.Common.{ap, arith, fresh_pen, rules, ◌+◌, ◌∙◌, ◌≡◌}
+use Rattle.xh_kernel.proofs.Common.{ap, arith, fresh_pen, rules, there, ◌+◌, ◌∙◌, ◌≡◌}
 use Rattle.xh_kernel.proofs.parts.make_parts.Goals as goal
 
 pub invariant_of-result : goal.invariant_of-result
@@ -10,7 +10,7 @@ invariant_of-result c =
       size = search rules;
       places = search rules;
       often = search rules;
-      seats = (search rules, c.in-Ok.ensures.seats.1);
+      seats = (search rules, λ k d below. c.in-Ok.ensures.seats.1 k _ (there _ k d (search rules)));
       bundles = search rules;
       pens_are = (search rules, c.in_ok-histories.ensures.pens.1);
       looks_are = search rules;

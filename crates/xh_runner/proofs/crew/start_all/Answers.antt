@@ -5,7 +5,7 @@ use Rattle.xh_runner.proofs.crew.start_all.Goals as goal
 pub loop-machine-init : goal.loop-machine-init
 loop-machine-init g c = record {
   count = search rules;
-  hands = zips_begin _ _ _ _ c.requires.empty c.into_iter-machine-iterator.ensures.into_iter_gives.0;
+  hands = zips_begin _ _ _ _ c.in_ok-hands.ensures.items c.into_iter-machine-iterator.ensures.into_iter_gives.0;
 }
 
 pub loop-machine-preserved : goal.loop-machine-preserved

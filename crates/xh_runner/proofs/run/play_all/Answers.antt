@@ -41,6 +41,6 @@ returns-clause-played g c =
     let began_is : first ≡ began old contracts = ap (λ (b : Bindings). record first { names = b }) c.requires.names in
     let head = subst (λ w. Plays (DoesLine did) w (part ready.names.processes 0 lines) firsts ready) began_is
     (subst (λ ls. Plays (DoesLine did) first ls firsts ready) (same_head c.new.result ready.names.processes lines) c.in_ok-first.ensures) in
-    let told = subst (AreTold ready.names.processes lines answers) c.in_ok-machines.ensures.parts c.in_ok-answers.ensures.told in
+    let told = subst (AreTold ready.names.processes lines answers) c.in_ok-machines.ensures.parts c.in_ok-answers.ensures.1 in
     subst (λ ms. PlayAll did contracts lines answers old (map state olds) end.machine (map state ms)) (sym c.in_ok-machines.ensures.machines)
     (all_played state did lines ready contracts answers old end olds firsts lasts dones count head c.in_ok-dones.ensures c.in_ok-last.ensures told)

@@ -1,9 +1,14 @@
-use Rattle.std.proofs.Common.{◌≡◌, All, arith, subst, sym}
+use Rattle.std.proofs.Common.{◌≡◌, ◌++◌, ◌∙◌, ◌∷◌, All, List, [], ap, append_assoc, arith, map, subst, sym}
 use Rattle.std.proofs.lemmas.List.Elements.{All-push}
 use Rattle.xh_calls.specs.declared.call.Entry.{Entry}
 use Rattle.xh_history.specs.Histories.{LookOf}
-use Rattle.xh_runner.proofs.Plays.{left_more}
 use Rattle.xh_runner.proofs.worker.leave_all.Goals as goal
+
+-- one more item was made, of the first of the rest
+left_more : {X Y : Type 0} (f : X → Y) (ys more : List Y) (x : X) (rest later : List X) (all : List Y) → more ≡ ys ++ f x ∷ [] → rest ≡ x ∷ later → ys ++ map f rest ≡ all
+    → more ++ map f later ≡ all
+left_more f ys more x rest later all e r h =
+    ap (λ l. l ++ map f later) e ∙ append_assoc ys (f x ∷ []) (map f later) ∙ ap (λ l. ys ++ map f l) (sym r) ∙ h
 
 pub loop-worker-preserved : goal.loop-worker-preserved
 loop-worker-preserved g c =

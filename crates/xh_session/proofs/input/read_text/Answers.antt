@@ -1,6 +1,7 @@
-use Rattle.std.proofs.Common.{rules}
-use Rattle.xh_session.proofs.Ends.{reads_most}
+use Rattle.std.proofs.Common.{length-append, rules}
+use Rattle.std.proofs.KnownBytes.{Consumes-trans}
 use Rattle.xh_session.proofs.input.read_text.Goals as goal
 
-pub returns-in_err-n-clause-limit : goal.returns-in_err-n-clause-limit
-returns-in_err-n-clause-limit g c = reads_most g.R.Read.remaining _ _ c.read_some.new.reader c.loop-room.text.items _ c.loop-room.invariant.reads c.in_err-n.ensures.limit (search rules)
+pub returns-in_err-extend_from_slice-in-Some-clause-limit : goal.returns-in_err-extend_from_slice-in-Some-clause-limit
+returns-in_err-extend_from_slice-in-Some-clause-limit g c =
+    (_, Consumes-trans _ _ _ c.loop-room.text.items _ c.loop-room.invariant.reads.taken c.in-Some.ensures.some.taken, simp length-append (search rules))

@@ -1,34 +1,46 @@
 use Rattle.std.proofs.lemmas.Option.{slice_get_within}
 use Rattle.std.proofs.lemmas.Result.{MatchResult-weaker}
-use Rattle.xh_arena.specs.Sharing.{IsVaultCarved}
-use Rattle.xh_calls.proofs.Common.{DoesTo, ap, get_or, ids_of, slice_get, subst, ℕ, ◌∙◌}
-use Rattle.xh_calls.proofs.Tallied.{by_tally, taken_or_not, tallied, tally_is}
+use Rattle.xh_calls.proofs.Common.{ap, rules, ◌∙◌}
+use Rattle.xh_calls.proofs.Tallied.{by_tally, named, taken_or_not, tallied}
+use Rattle.xh_calls.proofs.Vaulted.{carve_stays, keeps, leaves}
+use Rattle.xh_calls.specs.Vaults.{KeptOf}
 use Rattle.xh_calls.proofs.arenas.LentVaults.carve.Goals as goal
 
-pub bounds-tallies-from : goal.bounds-tallies-from
-bounds-tallies-from g c =
-    tallied c.as_mut_slice-tallies.result.now c.from.result (ap ids_of c.as_mut_slice-tallies.ensures.value ∙ c.args.self.now.own.0) c.from.ensures (slice_get_within _ _ _ c.requires.ids)
+pub index_mut-requires : goal.index_mut-requires
+index_mut-requires g c =
+    let inside = tallied _ c.from.result c.args.self.now.own.0 c.from.ensures (slice_get_within _ _ _ c.requires.ids) in search (rules, inside)
 
-pub carve-requires-clause-ids : goal.carve-requires-clause-ids
-carve-requires-clause-ids g c = (
-  ap (slice_get g.N.Names.parts.records.shape.names) (ap (λ k. k.pen.number) c.deref_mut.ensures.value ∙ c.kept-kept.ensures) ∙ c.requires.ids,
-  tally_is c.as_mut_slice-tallies.result.now c.from.result c.index-tallies-from.result (ap ids_of c.as_mut_slice-tallies.ensures.value ∙ c.args.self.now.own.0) c.from.ensures c.requires.ids,
-)
+pub carve-answer-requires-clause-ids : goal.carve-answer-requires-clause-ids
+carve-answer-requires-clause-ids g c =
+    let number = ap (λ (k : KeptOf). k.pen.number) (c.kept.view_is ∙ c.deref_mut-kept.ensures.value) ∙ c.kept-guard.ensures in
+    let at = c.kept.invariant.1.0 in let ids = c.requires.ids in let t = c.index_mut.result.now in
+    let tally = named _ c.from.result t t c.index_mut.ensures.value c.args.self.now.own.0 c.from.ensures c.requires.ids in (cc, cc)
+
+pub invariant_of-kept : goal.invariant_of-kept
+invariant_of-kept g c =
+    let was = c.kept.invariant in let e = c.enter.ensures in let answer = c.carve-answer.ensures in
+    keeps g.N.Names.parts c.kept.inside.vault c.kept.inside.pen c.enter.new.pen was e.same e.entered
+    (carve_stays g.N.Names.parts _ c.args.n _ _ _ _ _ _ c.carve-answer.result was.1 answer.done answer.refused)
 
 pub invariant_of-self : goal.invariant_of-self
 invariant_of-self g c =
-    let d = c.index-tallies-from.result in let e = c.carve.ensures in
-    record { own = ((taken_or_not _ _ _ _ d c.carve.new.tally c.as_mut_slice-tallies.ensures.value c.as_mut_slice-tallies.ensures.len c.args.self.now.own.0 c.from.ensures c.requires.ids _ c.carve.result c.args.n e.tally e.refused).0, e.front ∙ c.args.self.now.own.1) }
+    let own = c.args.self.now.own in let t = c.index_mut.result.now in let answer = c.carve-answer.ensures in
+    let tallies = taken_or_not _ c.from.result t c.carve-answer.new.tally c.index_mut.ensures.value own.0 c.from.ensures c.requires.ids
+    c.carve-answer.result c.args.n _ _ (λ at d. d.shares.taken) (λ e r. r.3) answer.done answer.refused in
+    record { own = (tallies.0, c.enter.ensures.same.2 ∙ own.1) }
 
 pub returns-clause-tallies : goal.returns-clause-tallies
 returns-clause-tallies g c =
-    let d = c.index-tallies-from.result in let e = c.carve.ensures in
-    (taken_or_not _ _ _ _ d c.carve.new.tally c.as_mut_slice-tallies.ensures.value c.as_mut_slice-tallies.ensures.len c.args.self.now.own.0 c.from.ensures c.requires.ids _ c.carve.result c.args.n e.tally e.refused).1
+    let t = c.index_mut.result.now in let answer = c.carve-answer.ensures in
+    (taken_or_not _ c.from.result t c.carve-answer.new.tally c.index_mut.ensures.value c.args.self.now.own.0 c.from.ensures c.requires.ids
+    c.carve-answer.result c.args.n _ _ (λ at d. d.shares.taken) (λ e r. r.3) answer.done answer.refused).1
 
 pub returns-clause-carved : goal.returns-clause-carved
 returns-clause-carved g c =
-    let ts = c.as_mut_slice-tallies.result.now in let i = c.from.result in let d = c.index-tallies-from.result in let t = c.carve.new.tally in let n : ℕ = c.args.n in let lot = c.args.lot.now in
-    MatchResult-weaker c.carve.result c.carve.ensures.done (λ at h.
-    let k = subst (λ (a : ℕ). DoesTo g.N.Names.parts a c.args.self.now.till.seen c.carve.new.front (λ v w. IsVaultCarved n at v w lot c.carve.new.lot (get_or ts i d) t))
-    (ap (λ k. k.pen.number) c.deref_mut.ensures.value ∙ c.kept-kept.ensures) h in
-    (k.0, k.1, k.2, by_tally _ ts _ i d t c.as_mut_slice-tallies.ensures.value c.as_mut_slice-tallies.ensures.len c.args.self.now.own.0 c.from.ensures c.requires.ids (IsVaultCarved n at k.0 k.1 lot c.carve.new.lot) k.3)) (λ e h. tt)
+    let e = c.enter.ensures in let number = ap (λ (k : KeptOf). k.pen.number) (c.kept.view_is ∙ c.deref_mut-kept.ensures.value) ∙ c.kept-guard.ensures in
+    MatchResult-weaker c.carve-answer.result c.carve-answer.ensures.done (λ at done. (
+      _,
+      _,
+      leaves g.N.Names.parts c.kept.inside.vault c.kept.inside.pen c.enter.new.pen c.kept.invariant e.same e.entered number,
+      by_tally _ c.from.result _ _ c.index_mut.ensures.value c.args.self.now.own.0 c.from.ensures c.requires.ids _ done,
+    )) (λ e h. tt)

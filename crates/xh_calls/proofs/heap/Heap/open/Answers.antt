@@ -1,5 +1,5 @@
 use Rattle.xh_calls.proofs.Common.{Err, FindsFull, Stays, [], ap, arith, length, rules, stays_itself, sym, ◌∙◌, ◌∷◌, ◌≡◌, ◌≤◌}
-use Rattle.xh_calls.proofs.Asking.{has_channel, lacks, none_had, passes}
+use Rattle.xh_calls.proofs.Asking.{lacks, none_had, passes}
 use Rattle.xh_calls.proofs.Moved.{entered}
 use Rattle.xh_calls.proofs.Started.{unclaimed}
 use Rattle.xh_calls.proofs.heap.Heap.open.Goals as goal
@@ -33,7 +33,7 @@ returns-in-Ok-clause-opened g c =
 
 pub returns-in-Ok-clause-asked : goal.returns-in-Ok-clause-asked
 returns-in-Ok-clause-asked g c =
-    entered g.N.Names.parts (c.args.arena ∷ c.args.arena ∷ []) c.lend-desk.result.vaults c.open-answer.new.desk.vaults (λ l. l.till) c.lend-desk.ensures.1 c.end.ensures.0 c.in-Ok.ensures.asked
+    entered g.N.Names.parts c.lend-desk.result.vaults c.open-answer.new.desk.vaults (λ l. l.till) c.lend-desk.ensures.1 c.end.ensures.0 (c.args.arena ∷ c.args.arena ∷ []) c.in-Ok.ensures.asked
 
 pub returns-in-Ok-clause-ends : goal.returns-in-Ok-clause-ends
 returns-in-Ok-clause-ends g c = let end = c.in_ok-low in (end.low, end.high, end.ensures.ok.0, c.in-Ok.ensures.opened.4)
@@ -48,8 +48,8 @@ returns-in-Err-clause-opened g c =
       opened = tt;
       blocks = tt;
       refused = c.in-Err.ensures.opened.2;
-      why = rw test.tested.0 (has_channel g.N.Names.parts (Stays place to.self) full c.args.arena c.in-Err.unopened.why
-          (lacks c.lend-desk.result.vaults to.desk.vaults (λ l. l.till.seen) g.N.Names.parts c.args.arena full _ (rw passed at c.in-Err.ensures.why)).0);
+      why = rw test.tested.0
+          (lacks c.lend-desk.result.vaults to.desk.vaults (λ l. l.till.seen) g.N.Names.parts c.args.arena (Stays place to.self) full _ (rw passed at c.in-Err.ensures.why)).0;
     }
 
 pub returns-in-Err-clause-refused : goal.returns-in-Err-clause-refused
@@ -57,4 +57,4 @@ returns-in-Err-clause-refused g c =
     let place = c.args.place.now in let to = c.open-answer.new in let full = FindsFull 1 place to.self c.args.arena in let test = c.in_ok-test_open.ensures in
     let passed = passes place.place.state c.args.arena place.place.shape test.running c.requires.0.1 test.there in
     rw (ap (λ t. t.seen) c.end.ensures.0) (rw (sym (ap (λ t. t.seen) c.lend-desk.ensures.1))
-    (lacks c.lend-desk.result.vaults to.desk.vaults (λ l. l.till.seen) g.N.Names.parts c.args.arena full _ (rw passed at c.in-Err.ensures.why)).1)
+    (lacks c.lend-desk.result.vaults to.desk.vaults (λ l. l.till.seen) g.N.Names.parts c.args.arena (Stays place to.self) full _ (rw passed at c.in-Err.ensures.why)).1)

@@ -1,4 +1,0 @@
-use Rattle.xh_calls.proofs.arenas.Arenas.line.Given as goal
-
-abbrev pub ghost-add : goal.ghost-add
-ghost-add g a = a._about.now
