@@ -3,7 +3,7 @@ use Rattle.xh_kernel.proofs.Common.{Entry, Glance, IsHistoryOf, Option, [], ap, 
 use Rattle.xh_kernel.proofs.Common.{sym, unwrap_or, ℕ, ◌++◌, ◌∙◌, ◌∷◌, ◌≡◌}
 use Rattle.xh_kernel.proofs.Recorded.{at_step, led, longer}
 use Rattle.xh_kernel.specs.Calls.{LeadsOn}
-use Rattle.xh_kernel.specs.Words.{shows, unpacked, vacant}
+use Rattle.xh_kernel.specs.Words.{unpacked, vacant}
 use Rattle.xh_kernel.proofs.scribe.Scribe.note.Goals.{else-same, then-same}
 use Rattle.xh_kernel.proofs.scribe.Scribe.note.Goals as goal
 
@@ -16,7 +16,7 @@ invariant_of-self g c =
       | else-same w ↦ ap (unpacked pen.number) w.word-is ∙ subst (λ k. unpacked k w.pack-word.result ≡ glance) number w.pack-word.ensures
     ] in
     let last = ap (λ (o : Option (ℕ × Entry)). unwrap_or (option_map (λ c. c.1.glance) o) (vacant pen.number))
-    (last_push shows pen.history (c.args.front.now.number, record { call = g.call; glance = glance })) in
+    (last_push pen.history (c.args.front.now.number, record { call = g.call; glance = glance })) in
     record { told = subst (λ p. last_glance p.number p.history ≡ unpacked p.number c.if-same.word) (sym c.add.ensures.pen) (last ∙ sym made) }
 
 pub returns-clause-history : goal.returns-clause-history
