@@ -11,8 +11,7 @@ ghost use Rattle.xh_model.specs.declared.limits.TheConstants.{GENERATIONS, MAX_R
 use crate::closed::Closed;
 use crate::handle::{Handle, Spares};
 use crate::host::Host;
-use crate::job::Team;
-use crate::threads::TaskCrew;
+use crate::threads::work_by;
 use std::alloc::Global;
 use std::marker::Brand;
 use std::sync::{Mutex, Wait};
@@ -54,7 +53,7 @@ fn hire<'a, 'k, N: Names, R: Wait>(
     Ok(all)
 }
 
-// The plan, and then the work.
+// A job by so many processes of this kernel: its plan, and what they answer.
 fn work_on<'s, 'k, N: Names + Send + Sync, R: Threads + Wait + Clock + Sync, J: Host + Sync>(
     rt: &'s R,
     alloc: Global,
@@ -66,11 +65,8 @@ fn work_on<'s, 'k, N: Names + Send + Sync, R: Threads + Wait + Clock + Sync, J: 
     ensures { IfOk result (λ worked. vec_len worked.1 ≡ count) }
 {
     let spares = Mutex::new(accounts.iter_mut().collect(alloc)?);
-    let mut all = hire(rt, alloc, kernel, &spares, count)?;
-    let plan = job.plan(&mut Team { all: &mut all })?;
-    let crew = TaskCrew::new(rt, job, plan);
-    let answers = crew.work_all(alloc, all)?;
-    Ok((crew.plan, answers))
+    let all = hire(rt, alloc, kernel, &spares, count)?;
+    work_by(rt, alloc, job, all)
 }
 
 // As `run`, over the kernel of these parts.

@@ -29,7 +29,7 @@ pub struct Starter<P, T> {
     changed: Condvar,
 }
 
-impl<P: Process, T: Drop> Starter<P, T> {
+impl<P: Drop, T: Drop> Starter<P, T> {
     pub(crate) fn new() -> Starter<P, T> {
         Starter {
             desk: Mutex::new(Inquiry::Free),
@@ -70,7 +70,9 @@ impl<P: Process, T: Drop> Starter<P, T> {
     pub(crate) fn answer<R: Wait>(&self, rt: &R, answer: Inquiry<P, T>) {
         self.exchange(rt, |_desk| true, answer);
     }
+}
 
+impl<P: Process, T: Drop> Starter<P, T> {
     /// Starts a thread on which the child does its task. It is joined before the run's books are closed, and the child ends with
     /// the task, where it didn't before: a kill ends the process, and its thread once a call is told Ended.
     ///

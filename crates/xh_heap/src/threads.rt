@@ -1,40 +1,37 @@
 //! The threads of a run: one for each worker, and those that they have started.
 ghost use Rattle.std.specs.Prelude.{◌≡◌, IfOk, vec_len};
 
-use crate::handle::Handle;
 use crate::host::Host;
+use crate::job::Team;
+use crate::process::Process;
 use crate::starter::{Inquiry, Starter};
 use std::alloc::{AllocError, Global};
 use std::array;
 use std::sync::{Mutex, Wait};
 use std::thread::{self, JoinHandle, Scope, Threads};
-use std::time::Clock;
-use xh_kernel::Names;
+use xh_core::Refused;
 use xh_model::limits::MAX_WORKERS;
 
 // The threads of tasks, each in its slot until it was joined. Each has a handle until it has told that it ends, so there is
 // always a slot left.
 type Slots = [Option<JoinHandle<()>>; MAX_WORKERS as usize];
 
-/// What the threads of a run share.
+// What the threads of a run share.
 #[derive(Drop)]
-pub(crate) struct TaskCrew<'s, 'k, N: Names, R: Wait, J: Host> {
+struct TaskCrew<'s, P, R, J: Host> {
     rt: &'s R,
     job: &'s J,
-    pub(crate) plan: J::Plan,
-    starter: Starter<Handle<'s, 'k, N, R>, J::Task>,
+    plan: J::Plan,
+    starter: Starter<P, J::Task>,
     // Whether each worker has a thread: none works before.
     started: Mutex<bool>,
 }
 
-impl<'s, 'k: 's, N: Names + Send + Sync, R: Threads + Wait + Clock + Sync, J: Host + Sync> TaskCrew<
-    's,
-    'k,
-    N,
-    R,
-    J,
-> {
-    pub(crate) fn new(rt: &'s R, job: &'s J, plan: J::Plan) -> Self {
+impl<'s, P: Process + Send, R: Threads + Wait + Sync, J: Host + Sync> TaskCrew<'s, P, R, J>
+where
+    P::Runtime: Send + Sync,
+{
+    fn new(rt: &'s R, job: &'s J, plan: J::Plan) -> Self {
         TaskCrew {
             rt,
             job,
@@ -45,7 +42,7 @@ impl<'s, 'k: 's, N: Names + Send + Sync, R: Threads + Wait + Clock + Sync, J: Ho
     }
 
     // The work of a process; None where another has no thread.
-    fn work(&self, index: usize, own: Handle<'s, 'k, N, R>) -> Option<J::Answer> {
+    fn work(&self, index: usize, own: P) -> Option<J::Answer> {
         let mut own = own;
         if !*self.started.lock(self.rt) {
             return None;
@@ -56,7 +53,7 @@ impl<'s, 'k: 's, N: Names + Send + Sync, R: Threads + Wait + Clock + Sync, J: Ho
     }
 
     // A task, by the process that was started for it, whose thread is in this slot.
-    fn serve(&self, slot: usize, child: Handle<'s, 'k, N, R>, task: J::Task) {
+    fn serve(&self, slot: usize, child: P, task: J::Task) {
         let mut own = child;
         self.job.serve(&self.plan, task, &mut own, &self.starter);
         self.starter.ask(self.rt, Inquiry::Ended(Some(slot)));
@@ -66,7 +63,7 @@ impl<'s, 'k: 's, N: Names + Send + Sync, R: Threads + Wait + Clock + Sync, J: Ho
     fn start_all<'w, W>(
         &'w self,
         scope: &Scope<'w, W>,
-        all: Vec<Handle<'s, 'k, N, R>>,
+        all: Vec<P>,
         threads: &mut Vec<JoinHandle<Option<J::Answer>>>,
     ) -> Result<(), AllocError> {
         let mut all_started = self.started.lock(self.rt);
@@ -83,7 +80,7 @@ impl<'s, 'k: 's, N: Names + Send + Sync, R: Threads + Wait + Clock + Sync, J: Ho
         &'w self,
         scope: &Scope<'w, W>,
         slots: &mut Slots,
-        child: Handle<'s, 'k, N, R>,
+        child: P,
         task: J::Task,
     ) -> bool {
         let Some(slot) = slots.iter().position(|thread| thread.is_none()) else {
@@ -126,9 +123,9 @@ impl<'s, 'k: 's, N: Names + Send + Sync, R: Threads + Wait + Clock + Sync, J: Ho
         &'w self,
         scope: &Scope<'w, W>,
         alloc: Global,
-        all: Vec<Handle<'s, 'k, N, R>>,
+        all: Vec<P>,
     ) -> Result<Vec<J::Answer>, AllocError>
-        ensures { IfOk result (λ v. vec_len v ≡ vec_len all.entry) }
+        ensures { IfOk result (λ v. vec_len v ≡ vec_len all) }
     {
         let count = all.len();
         let answers = Vec::with_capacity(alloc, count)?;
@@ -144,13 +141,9 @@ impl<'s, 'k: 's, N: Names + Send + Sync, R: Threads + Wait + Clock + Sync, J: Ho
         }
     }
 
-    /// What the workers answer, by index. All threads have ended then.
-    pub(crate) fn work_all(
-        &self,
-        alloc: Global,
-        all: Vec<Handle<'s, 'k, N, R>>,
-    ) -> Result<Vec<J::Answer>, AllocError>
-        ensures { IfOk result (λ v. vec_len v ≡ vec_len all.entry) }
+    // What the workers answer, by index. All threads have ended then.
+    fn work_all(&self, alloc: Global, all: Vec<P>) -> Result<Vec<J::Answer>, AllocError>
+        ensures { IfOk result (λ v. vec_len v ≡ vec_len all) }
     {
         thread::scope(
             thread::scope_env(),
@@ -172,4 +165,21 @@ fn join_all<R: Threads, A: Drop>(
         }
     }
     answers
+}
+
+/// A job by these processes: its plan, and what the workers answer, by index. All threads have ended then.
+pub(crate) fn work_by<P: Process + Send, R: Threads + Wait + Sync, J: Host + Sync>(
+    rt: &R,
+    alloc: Global,
+    job: &J,
+    mut all: Vec<P>,
+) -> Result<(J::Plan, Vec<J::Answer>), Refused>
+where
+    P::Runtime: Send + Sync,
+    ensures { IfOk result (λ worked. vec_len worked.1 ≡ vec_len all) }
+{
+    let plan = job.plan(&mut Team { all: &mut all })?;
+    let crew = TaskCrew::new(rt, job, plan);
+    let answers = crew.work_all(alloc, all)?;
+    Ok((crew.plan, answers))
 }
