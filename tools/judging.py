@@ -16,9 +16,9 @@ import subprocess
 import sys
 import tempfile
 import time
-import xml.dom.minidom
 from subprocess import PIPE
 from typing import Any, Callable, Iterator, NamedTuple, Sequence, Union
+from xml.etree import ElementTree
 
 TOP = pathlib.Path(__file__).resolve().parent.parent
 PROCESSORS = len(os.sched_getaffinity(0))
@@ -34,6 +34,8 @@ sleep 1000 &
 echo $$ $(jobs -p) >>"$STARTED"
 wait
 """
+# The words behind these verbs that name the blocks that they make.
+MADE = {"wire": (1, 3), "open": (0, 1), "alloc": (0,), "split": (2,)}
 Word = Union[str, bytes, pathlib.Path]
 # A status, an output and a text of errors.
 Ended = tuple[int, bytes, bytes]
@@ -261,9 +263,59 @@ def picture_of(script: pathlib.Path) -> pathlib.Path | None:
     return next((it for it in pictures if it.exists()), None)
 
 
+def signs_of(picture: bytes) -> set[tuple[int, str]]:
+    """What a picture, which is XML, has, each with where its row begins: texts, whole also where
+    they are cut; the names that rectangles tell, behind what they are; and arrows."""
+    signs, kinds = set[tuple[int, str]](), {"held": "block", "end": "block"}
+    for it in ElementTree.fromstring(picture).iter():
+        kind, told, y = it.get("class", ""), it.findtext("{*}title"), int(it.get("y", 0))
+        if it.tag.endswith("}text"):
+            signs.add((y - 13, told or it.text or ""))
+        elif it.tag.endswith("}rect"):
+            signs.add((y, f"{kinds.get(kind, kind)} {told}"))
+        elif kind == "arrow" and (at := re.match(r"M\d+,(\d+)H", it.get("d", ""))):
+            signs.add((int(at[1]) - 15, "arrow"))
+    return signs
+
+
+def signs_in_row(verb: str, words: list[str], reply: list[str]) -> Iterator[str]:
+    """What is wanted in the row of a command that was done: there each block begins that it makes
+    or takes, and in flight each that it gives; and a message has its number, its tag, and where it
+    is given an arrow."""
+    made = [words[at] for at in MADE.get(verb, ())]
+    if verb == "give":
+        yield from (f"\u2192{reply[0]}, tag {words[1]}", "arrow")
+        yield from (f"flight {name}" for name in words[2:])
+    if verb in ("take", "await"):
+        yield f"\u2190{reply[0]}, tag {reply[1]}"
+        made = [name for name, _ in zip(words[1:], reply[2:])]
+    yield from (f"block {name}" for name in made)
+
+
+def shows(picture: bytes, script: str) -> None:
+    """The picture is XML, and has each process, block and message of the script, by its words: each
+    process by whom a line is or that it starts, as a text; each command beside a reply to its line;
+    and in its row what `signs_in_row` says, where that reply is ok."""
+    signs = signs_of(picture)
+    replies = {at[1]: (row, at[2].split(" ")) for row, sign in signs
+               if (at := re.fullmatch(r"(\d+) ((?:ok|no).*)", sign))}
+    for number, line in enumerate(script.split("\n"), 1):
+        if line and not line.startswith("#"):
+            claim(str(number) in replies, f"no reply to line {number}")
+            row, (is_done, *reply) = replies[str(number)]
+            by, verb, *words = line.split(" ")
+            if by in ("process", "wire", "contract"):
+                by, verb, words = verb, by, [verb, *words]
+            wanted = [line, *signs_in_row(verb, words, reply)] if is_done == "ok" else [line]
+            lacks = [it for it in wanted if (row, it) not in signs]
+            claim(not lacks, f"nothing in the row of line {number} is {lacks}")
+            is_there = verb == "contract" or any(sign == by for _, sign in signs)
+            claim(is_there, f"no process {by}")
+
+
 def is_drawn(program: str | pathlib.Path, script: pathlib.Path, *words: str) -> None:
-    """The script is drawn, as XML, and as its picture. One with a fault is not, and the fault is
-    told as in its .status by this program's name."""
+    """The script is drawn so that the picture shows it, and as its picture. One with a fault is
+    not, and the fault is told as in its .status by this program's name."""
     answer, (status, _, err) = run([program, *words], script.read_bytes()), written(script)
     if status != 0:
         name = f"{pathlib.Path(program).name}:".encode()
@@ -271,7 +323,22 @@ def is_drawn(program: str | pathlib.Path, script: pathlib.Path, *words: str) -> 
         return
     picture = picture_of(script)
     claim_same(answer, (0, picture.read_bytes() if picture else answer.out, b""))
-    xml.dom.minidom.parseString(answer.out)
+    shows(answer.out, script.read_text())
+
+
+def ends_without_a_word(program: Word) -> None:
+    """It says that it reads a terminal, and each signal ends it there without a further word."""
+    for number in ENDS:
+        ours, its = os.openpty()
+        words = "env", "--default-signal", program
+        with subprocess.Popen(words, stdin=its, stdout=PIPE, stderr=subprocess.STDOUT) as ran:
+            assert ran.stdout
+            begun = ran.stdout.readline()
+            ran.send_signal(number)
+            rest = ran.stdout.read()
+        os.close(ours)
+        os.close(its)
+        claim(begun and (ran.returncode, rest) == (-number, b""), f"{ran.returncode}: {rest!r}")
 
 
 def ends(program: Word, source: Word, to: Word, status: str, printed: str, reported: str,

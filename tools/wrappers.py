@@ -1,4 +1,4 @@
-"""The checks of ./xheap, ./xheap_picture and ./prove, in two copies of the repository: in PROVED
+"""The checks of ./xheap and ./prove, in two copies of the repository: in PROVED
 ./prove has built the programs, in UNPROVED not. There rt is a small one: a proof it takes for done,
 a build is the program that stands here, and that gets what the kit's rt would give it to read."""
 from __future__ import annotations
@@ -121,9 +121,8 @@ def checks() -> Any:
     yield (real_build_answers,)
     yield (knows_what_it_runs,)
     yield ends_at_once, "rt", UNPROVED / "prove"
-    for name in ("xheap", "xheap_picture"):
-        yield ends_at_once, "rt", UNPROVED / name
-        yield ends_at_once, "head", UNPROVED / name
-        for how in (SLOW, TYPED, '"$@" <&-', '"$@" </dev/zero', '"$@" >/dev/full 2>&-'):
-            yield answers_both_ways, name, how, "--depth", "2"
-        yield answers_both_ways, name, '"$@"', "two  words\nchecked: it", ""
+    yield ends_at_once, "rt", UNPROVED / "xheap"
+    yield ends_at_once, "head", UNPROVED / "xheap"
+    for how in (SLOW, TYPED, '"$@" <&-', '"$@" </dev/zero', '"$@" >/dev/full 2>&-'):
+        yield answers_both_ways, "xheap", how, "--depth", "2"
+    yield answers_both_ways, "xheap", '"$@"', "two  words\nchecked: it", ""

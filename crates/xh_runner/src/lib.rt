@@ -13,5 +13,5 @@ pub use threads::{run_parallel, run_threads};
 pub use worker::{Worker, hire, leave_all};
 pub use xh_place::{Gate, OpenGate, Point};
 pub use xh_session::{
-    Input, Machine, Received, Report, RunOptions, Stage, read_input, run_serial, run_serial_as,
+    Input, Machine, Received, Report, RunOptions, read_input, run_serial, run_serial_as,
 };

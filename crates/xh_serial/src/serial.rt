@@ -11,7 +11,6 @@ mod ending;
 mod flight;
 mod messages;
 mod places;
-mod readers;
 mod sweep;
 
 use crate::blocks::Blocks;

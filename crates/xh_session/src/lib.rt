@@ -15,4 +15,3 @@ pub use machine::{Ends, Machine, Received, Told};
 pub use report::{Report, write_report};
 pub use serial::{RunOptions, run_serial, run_serial_as};
 pub use session::Session;
-pub use stage::Stage;

@@ -20,7 +20,7 @@ use xh_serial::Serial;
 /// A serial machine, what the names of a script stand for, and the script's contracts: what the
 /// commands were done on so far.
 #[derive(Drop)]
-pub struct Stage<'a> {
+pub(crate) struct Stage<'a> {
     session: Session<'a, Serial>,
 }
 
@@ -35,7 +35,7 @@ impl<'a> Model for Stage<'a> {
 
 impl<'a> Stage<'a> {
     /// A new machine, on which no command was done yet.
-    pub fn new(alloc: Global, config: Config, contracts: &'a [Contract]) -> Result<Stage<'a>, Fault>
+    pub(crate) fn new(alloc: Global, config: Config, contracts: &'a [Contract]) -> Result<Stage<'a>, Fault>
         ensures fresh { IfOk result (λ stage. stage ≡ new_world config contracts.entry.now) }
         ensures refused { IfErr result (λ e. ((e ≡ Fault.BadConfig) × ¬ IsConfig config) ⊎ (e ≡ Fault.Memory)) }
     {
@@ -56,7 +56,7 @@ impl<'a> Stage<'a> {
 
     /// Does the command of one more line.
     #[tactic(auto, using(crate::proofs::Plans::stepped))]
-    pub fn step(&mut self, alloc: Global, line: &Line) -> Result<NumberedReply, AllocError>
+    fn step(&mut self, alloc: Global, line: &Line) -> Result<NumberedReply, AllocError>
         ensures reply { IfOk result (λ answered. answered ≡ record { line = line.now.number; reply = (step self.old line.now.command).0 }) }
         ensures after { OnOk result (self.new ≡ (step self.old line.now.command).1) }
     {
@@ -101,19 +101,5 @@ impl<'a> Stage<'a> {
             flight: self.session.machine.flight(),
             names,
         })
-    }
-
-    /// The machine as the commands left it.
-    pub fn machine(&self) -> &Serial
-        ensures { result.now ≡ self.now.machine }
-    {
-        &self.session.machine
-    }
-
-    /// By place, the number of the name of its latest process.
-    pub fn latest(&self) -> &[u8]
-        ensures { result.now ≡ self.now.names.processes.latest }
-    {
-        &self.session.names.processes.latest
     }
 }
