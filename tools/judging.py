@@ -207,8 +207,7 @@ def has_types(*files: pathlib.Path) -> None:
     passes("mypy", "--strict", "--scripts-are-modules", "--cache-dir", ROOM / "mypy", *ours)
 
 
-def rt_ci(least: int) -> None:
-    """It passes, without a BAD EDIT, which it passes over, and so many edits are refused."""
+def rt_ci() -> None:
     words = ["timeout", "--signal=KILL", str(LONG), "rt", "ci"]
     said = [""]
     with subprocess.Popen(words, stdin=subprocess.DEVNULL, stdout=PIPE) as ran:
@@ -217,9 +216,14 @@ def rt_ci(least: int) -> None:
             print(said[-1], end="", flush=True)
     claim(ran.returncode == 0, f"rt ci ended with status {ran.returncode}")
     claim(re.fullmatch(r"[1-9]\d* passed, 0 failed\n", said[-1]), f"its last line: {said[-1]!r}")
-    claim(not (bad := [it for it in said if "BAD EDIT" in it]), "".join(bad))
-    edits = sum("must-fail " in it and ": refused, as it must be" in it for it in said)
-    claim(edits >= least, f"{edits} must-fail edits were refused, and not {least}")
+
+
+def refuses_edits(tool: Word, crate: str, count: int) -> None:
+    """Each of so many wrong bodies of the crate is refused."""
+    ran = run([tool, "--jobs", "1", crate], limit=LONG)
+    said = (ran.err + ran.out).decode(errors="replace")
+    is_so = re.search(rf"^edits: {count} refused, 0 not, \d+ kept\n\Z", said, re.M)
+    claim(ran.status == 0 and is_so, f"it ended with {ran.status}: {said}")
 
 
 def does_not_compile(crate: str, error: str, old: str, new: str) -> None:
