@@ -75,24 +75,24 @@ impl<E, S: Shows<E>> Histories<E, S> {
     {
         let (table, mut first) = Table::of_words(alloc, &[0; (PLACES as usize + 1) * STRIDE], &())?;
         let mut lookers = Vec::with_capacity(alloc, usize::from(looks))?;
+        let mut fronts = Vec::with_capacity(alloc, usize::from(workers))?;
+        let mut pens = Vec::with_capacity(alloc, usize::from(PLACES))?;
         for _ in 0..looks {
             let seat = table.shared.split_seat::<Onlooker>(&mut first);
-            lookers.push(Look { seat })?;
+            lookers.push_reserved(Look { seat });
         }
-        let mut fronts = Vec::with_capacity(alloc, usize::from(workers))?;
         for number in 0..workers {
             let seat = table.shared.split_seat::<FirstWorker>(&mut first);
-            fronts.push(Front {
+            fronts.push_reserved(Front {
                 badge: seat.into_badge(),
-            })?;
+            });
         }
-        let mut pens = Vec::with_capacity(alloc, usize::from(PLACES))?;
         for place in 0..PLACES {
             let seat = table.shared.split_seat::<FirstPlace>(&mut first);
-            pens.push(Pen {
+            pens.push_reserved(Pen {
                 seat,
                 number: place,
-            })?;
+            });
         }
         Ok((Histories { table }, pens, fronts, lookers))
     }

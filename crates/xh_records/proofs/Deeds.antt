@@ -16,19 +16,13 @@ module _ {B : Type 0} where
   deeds_append q [] more = refl
   deeds_append q (x ∷ xs) more = grind (arith, nat_tests, cond_append, deeds_append q xs more)
 
-  pub deeds_more : (q : ℕ) (log : List (Deed B)) (d : Deed B) → place_of (process_of d.0) ≡ q → deeds_by q (log ++ d ∷ []) ≡ deeds_by q log ++ d ∷ []
-  deeds_more q log d at = deeds_append q log (d ∷ []) ∙ ap (λ (b : Bool). deeds_by q log ++ cond b (d ∷ []) []) (eq-eqb (place_of (process_of d.0)) q at)
-
   pub deeds_same : (q : ℕ) (log : List (Deed B)) (d : Deed B) → place_of (process_of d.0) ≢ q → deeds_by q (log ++ d ∷ []) ≡ deeds_by q log
   deeds_same q log d n = deeds_append q log (d ∷ []) ∙ ap (λ (b : Bool). deeds_by q log ++ cond b (d ∷ []) []) (ne_eqb (place_of (process_of d.0)) q n) ∙ append-nil (deeds_by q log)
 
   pub own_deed : (q : ℕ) (d : Deed B) → place_of (process_of d.0) ≡ q → deeds_by q (d ∷ []) ≡ d ∷ []
   own_deed q d at = ap (λ (b : Bool). cond b (d ∷ []) []) (eq-eqb (place_of (process_of d.0)) q at)
 
-  -- nothing was added, or one after another
-  pub adds_none : (q : ℕ) (a b : List (Deed B)) → b ≡ a → Adds q [] a b
-  adds_none q a b e = ([], e ∙ sym (append-nil a), refl)
-
+  -- one after another
   pub adds_more : (q : ℕ) (own more a b c : List (Deed B)) → Adds q own a b → Adds q more b c → Adds q (own ++ more) a c
   adds_more q own more a b c x y =
       (x.0 ++ y.0, y.1 ∙ ap (λ (z : List (Deed B)). z ++ y.0) x.1 ∙ append_assoc a x.0 y.0, deeds_append q x.0 y.0 ∙ (λ i. x.2 i ++ y.2 i))

@@ -2,7 +2,7 @@
 use Rattle.xh_records.proofs.Common.{length-append, nat_tests, ◌≡◌, ℕ, zero, suc, ◌+◌, ◌-◌, ◌<◌, ◌≤◌, ◌≢◌, Bool, true, false, List, [], ◌∷◌, ◌++◌, length, set, get_or, eqb, append_assoc, append-nil}
 use Rattle.xh_records.proofs.Common.{get_or-set_same, get_or-set_other, sym, refl, ap, ◌∙◌, subst, ◌⊎◌, inl, inr, ⊎_elim, arith, ne_eqb, cond, Option, Some, None, remove, AllByRecursion, list_any}
 use Rattle.xh_records.proofs.Common.{some, dite, ℕ_discrete, get_elem?, rest, Among, Distinct, keys, put, without, distinct_split, here_first, keys_append, length-keys, not_here, put_split}
-use Rattle.xh_records.proofs.Common.{split_at_key, without_split, owned_by, AllBelow, IsTurned, turns, in_slot, slot_at, or_else}
+use Rattle.xh_records.proofs.Common.{split_at_key, without_split, owned_by, AllBelow, IsListed, IsTurned, turns, in_slot, slot_at, or_else}
 use Rattle.std.specs.List.{IsDistinct}
 use Rattle.std.proofs.lemmas.Map.Steps.{length-le_from_distinct_below}
 
@@ -101,7 +101,7 @@ none_or_some None = inl refl
 none_or_some (Some l) = inr (l, refl)
 
 -- a list turned until a key is first, and turned back
-pub turned_at : {L : Type 0} (l now : List (ℕ × Option L)) (k slot : ℕ) → Distinct (keys l) → get_elem? (keys l) k ≡ some slot → now ≡ turns k l → IsTurned slot l now (length (keys l) - k)
+turned_at : {L : Type 0} (l now : List (ℕ × Option L)) (k slot : ℕ) → Distinct (keys l) → get_elem? (keys l) k ≡ some slot → now ≡ turns k l → IsTurned slot l now (length (keys l) - k)
 turned_at {L} l now k slot distinct at is =
     let t = split_at_key l k slot at in
     let a = t.0 in let x = t.1 in let b = t.2 in
@@ -116,6 +116,11 @@ turned_at {L} l now k slot distinct at is =
       again = λ y. (λ i. turns (behind i) ((slot, y) ∷ rest (first i))) ∙ turns_over ((slot, y) ∷ b) a ∙ sym (ap (put slot y) t.3 ∙ put_split slot x y a b d.0);
       gone = (λ i. turns (less i) (rest (first i))) ∙ turns_over b a ∙ sym (ap (without slot) t.3 ∙ without_split slot x a b d.0 d.1);
     }
+
+pub turned_by : {L : Type 0} (order : List ℕ) (l now : List (ℕ × Option L)) (k slot : ℕ) → IsListed order l slot → get_elem? order k ≡ some slot → now ≡ turns k l → IsTurned slot l now (length order - k)
+turned_by order l now k slot listed at is =
+    let same = listed.0 in
+    subst (λ z. IsTurned slot l now (length z - k)) (sym same) (turned_at l now k slot (subst Distinct same listed.1) (subst (λ z. get_elem? z k ≡ some slot) same at) is)
 
 pub slot_other : {L : Type 0} (i j : ℕ) (y : Option L) (l : List (ℕ × Option L)) → i ≢ j → in_slot j (put i y l) ≡ in_slot j l
 slot_other i j y [] ne = refl

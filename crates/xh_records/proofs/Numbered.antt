@@ -3,8 +3,7 @@ use Rattle.xh_records.proofs.Common.{nat_tests, arith, ◌≡◌, ℕ, suc, leng
 use Rattle.xh_records.proofs.Common.{index_of, Deed, IsLast, append_assoc, number_of, place_of, number_inside, index_back, number_back, Among, keys, put, value_at, without, Shape, View, IsLotOf, IsLotAt, IsSmall}
 use Rattle.xh_records.proofs.Common.{Holder, Process, Direction, taking, giving, HasDone, HasGained, HasLost, HasSeenWord, Held, view_of, with_lots, IsRecord, adds, front_in}
 use Rattle.xh_records.proofs.Common.{IsOthers, SeesMore, TellsWord, in_slot, with_lot, numbered, AllLots, IsSeat, events}
-use Rattle.xh_records.specs.inner.Steps.{process_in}
-use Rattle.xh_records.proofs.Common.{deeds_by, get_or, inl, word_of, Knows, KnowsAt}
+use Rattle.xh_records.proofs.Common.{deeds_by, inl, word_of, Knows, KnowsAt}
 use Rattle.xh_records.proofs.Deeds.{deeds_append}
 use Rattle.xh_records.proofs.Lists.{among_owned, among_owned_back}
 use Rattle.xh_records.proofs.Elements.{among_map, in_range, slice_elem}
@@ -87,10 +86,6 @@ held t id process me = record {
   lots = numbered me.0.shape.records me.1;
   front = front_in me.0;
 }
-
--- the process of a view that stands for one
-pub alone_is : {B : Type 0} (p : ℕ) (v : View B) → v.processes ≡ p ∷ [] → process_in v ≡ p
-alone_is p v alone = ap (λ (l : List ℕ). get_or l 0 0) alone
 
 -- the number of the record in a slot
 pub number_is : (n m slot r : ℕ) → n ≡ m → slot ≡ index_of m r → r % 256 < m → number_of n slot ≡ r

@@ -151,19 +151,20 @@ impl<B: Fits + Drop> Records<B> {
         }
     }
 
-    // One store on the word of a record that the seat holds, whose lot goes home.
-    fn give(&self, seat: &mut Seat<B>, number: u16, to: OwnerWord)
+    // One store on the word of a record that the seat holds, whose lot goes home. It answers the lot's bytes.
+    fn give(&self, seat: &mut Seat<B>, number: u16, to: OwnerWord) -> u32
         requires own { IsSeatOf self.now seat.old }
         requires exists { IsRecord self.now.shape number }
         requires away { IsAway (holder_of to) × IsHolder (holder_of to) }
         requires held { (l : LotOf B) × (value_at number seat.old.lots ≡ Some l) × IsHomeLot B.is_fit (holder_of to) l }
-        ensures { (l : LotOf B) → value_at number seat.old.lots ≡ Some l
-            → HasLost (giving seat.old.process number (holder_of to)) l seat.old seat.new }
+        ensures given { (l : LotOf B) → value_at number seat.old.lots ≡ Some l → HasLost (giving seat.old.process number (holder_of to)) l seat.old seat.new }
+        ensures len { (l : LotOf B) → value_at number seat.old.lots ≡ Some l → result ≡ l.len }
     {
         let slot = self.slot_of(number);
         let board = &self.table.shared;
-        let k = give_slot(board, &mut seat.token, seat.order.as_slice(), slot, to);
+        let (k, len) = give_slot(board, &mut seat.token, seat.order.as_slice(), slot, to);
         seat.order.remove(k);
+        len
     }
 
     // Takes a record that it finds free, and whose word is at this slot. The error is the word that it found, which isn't that of a free record. A look at a record that is taken costs
@@ -210,7 +211,7 @@ impl<B: Fits + Drop> Records<B> {
     }
 
     /// Takes the first record of the arena that it finds free, from index 0 on. Its lot is empty: no
-    /// bytes, and a blank body. The error has a word for each record, which it found there at one moment, none of them free.
+    /// bytes, and a blank body. The error has a word for each record, as it was at some moment of the call, none of them free.
     // (The words' room is 2 KiB. Gathered in the first round it would be cleared at each claim, and not inlined moved where
     // nobody reads it.)
     #[inline(always)]
@@ -249,14 +250,15 @@ impl<B: Fits + Drop> Records<B> {
     }
 
     /// Puts a record that the seat holds, whose lot is well formed, in flight on the direction (0 to
-    /// 127).
-    pub fn pass(&self, seat: &mut Seat<B>, number: u16, direction: u8)
+    /// 127). It answers the lot's bytes.
+    pub fn pass(&self, seat: &mut Seat<B>, number: u16, direction: u8) -> u32
         requires own { IsSeatOf self.now seat.old }
         requires exists { IsRecord self.now.shape number × (direction < DIRECTIONS) }
         requires held { (l : LotOf B) × (value_at number seat.old.lots ≡ Some l) × IsFull B.is_fit l }
         ensures passed { (l : LotOf B) × (value_at number seat.old.lots ≡ Some l) × HasLost (Pass seat.old.process number direction) l seat.old seat.new }
+        ensures len { (l : LotOf B) → value_at number seat.old.lots ≡ Some l → result ≡ l.len }
     {
-        self.give(seat, number, OwnerWord::InFlight(direction));
+        self.give(seat, number, OwnerWord::InFlight(direction))
     }
 
     /// Makes a record that the seat holds free. Its lot is empty, so that no free record keeps memory:

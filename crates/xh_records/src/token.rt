@@ -88,14 +88,29 @@ fn position(order: &[u16], slot: u16) -> usize
     k
 }
 
+// Where the slot stands, by a search that ends with the order: the compiler leaves it out where the answer serves the proof alone.
+#[inline(always)]
+fn plain_position(order: &[u16], slot: u16) -> usize
+    requires { (k : ℕ) × (get_elem? order.now k ≡ some slot) }
+    ensures { get_elem? order.now result ≡ some slot }
+{
+    for k in 0..order.len() {
+        if order[k] == slot {
+            return k;
+        }
+    }
+    0
+}
+
 // Turns the token's list until this slot is first, and answers where it stood: as many turns as stood from there on bring the list back.
+#[inline(always)]
 pub(crate) fn turn_to<B>(token: &mut Token<B>, order: &[u16], slot: u16) -> usize
     requires { IsListed order.now token.old.me.1 slot }
     ensures same { (token.new.table_id ≡ token.old.table_id) × (token.new.id ≡ token.old.id) × (token.new.me.0 ≡ token.old.me.0) }
     ensures place { (result < length order.now) × (get_elem? order.now result ≡ some slot) }
     ensures turned { IsTurned slot token.old.me.1 token.new.me.1 (length order.now - result) }
 {
-    let k = position(order, slot);
+    let k = plain_position(order, slot);
     turn_by(token, k);
     k
 }
@@ -129,14 +144,14 @@ pub(crate) fn take_slot<B: Fits>(
     Ok(())
 }
 
-// Stores the word of a record whose lot goes home. It answers where the slot stood in the order.
+// Stores the word of a record whose lot goes home. It answers where the slot stood in the order, and the lot's bytes.
 pub(crate) fn give_slot<B: Fits>(
     board: &Board<B>,
     token: &mut Token<B>,
     order: &[u16],
     slot: u16,
     to: OwnerWord,
-) -> usize
+) -> (usize, u32)
     requires own { (token.old.table_id ≡ board.now.table_id) × (slot < board.now.table_id.words) }
     requires listed { IsListed order.now token.old.me.1 slot }
     requires away { IsAway (holder_of to) × IsHolder (holder_of to) }
@@ -145,13 +160,20 @@ pub(crate) fn give_slot<B: Fits>(
     ensures token { (token.new.table_id ≡ token.old.table_id) × (token.new.id ≡ token.old.id) }
     ensures given { (others : List (Deed B)) × IsOthers token.old.me.0 others × ((l : LotOf B) → in_slot slot token.old.me.1 ≡ Some l → token.new.me ≡
         (lost token.old.me.0 slot (process_in token.old.me.0) (holder_of to) l others, without slot token.old.me.1)) }
-    ensures place { get_elem? order.now result ≡ some slot }
+    ensures place { get_elem? order.now result.0 ≡ some slot }
+    ensures len { (l : LotOf B) → in_slot slot token.old.me.1 ≡ Some l → result.1 ≡ l.len }
 {
-    let k = turn_to(token, order, slot);
+    let k = position(order, slot);
+    turn_by(token, k);
+    let at = usize::from(slot);
+    let Some(lot) = token.slot_mut(board, at) else {
+        unreachable!()
+    };
+    let len = lot.len();
     let word = to.encode();
-    board.store::<Gives>(token, usize::from(slot), word);
+    board.store::<Gives>(token, at, word);
     turn_by(token, order.len() - k - 1);
-    k
+    (k, len)
 }
 
 // The other token, which has no slot, gives its view to this one, which stands for a place.

@@ -7,4 +7,4 @@ pub of_words-requires : goal.of_words-requires
 of_words-requires g c = begins g.S.Shows.shows (Unit {0})
 
 pub loop-place-preserved : goal.loop-place-preserved
-loop-place-preserved g c = (search rules, search rules, grind (arith, common_steps), λ k d below. grind (arith, common_steps, c.loop-place.invariant.3 k d))
+loop-place-preserved g c = (search rules, search rules, grind (arith, common_steps), λ k d below. grind (arith, common_steps, c.loop-place.invariant.3 k d), search rules)

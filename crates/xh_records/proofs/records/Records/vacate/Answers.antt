@@ -1,4 +1,4 @@
 use Rattle.xh_records.proofs.records.Records.vacate.Goals as goal
 
 pub returns : goal.returns
-returns g c = record { vacated = (c.requires.held.0, c.requires.held.1, c.give.ensures c.requires.held.0 c.requires.held.1) }
+returns g c = record { vacated = (c.requires.held.0, c.requires.held.1, c.give.ensures.given c.requires.held.0 c.requires.held.1) }
