@@ -5,6 +5,7 @@ from __future__ import annotations
 
 import os
 import pathlib
+import re
 import shutil
 import tempfile
 from typing import Any
@@ -22,6 +23,9 @@ case "$1" in
     run) cp "$program" out ;;
     try) mkdir -p "$it" && cp "$program" "$it/program" && sleep 0.2 && rm -r "$it" ;;
 esac
+"""
+LEAVES_NONE = r"""#!/usr/bin/env bash
+for it in "${@: -1}"/*; do echo "case=${it##*/} run=ended status=STATUS runners=1" >&2; done
 """
 # A script that comes slowly, and one that is typed.
 SLOW = '(echo process a; sleep 4; echo a alloc x 40 0) | "$@"'
@@ -120,6 +124,27 @@ def proves_once() -> None:
     claim(answer.status == 0 and b"waits for another ./prove" in answer.err, str(answer))
 
 
+def test_tells() -> None:
+    """./test passes a script, and not with another output written of it, and knows its words. By a
+    kit that leaves no program rt try judges the script, by its status here."""
+    copy, kit = copied(PROVED, ROOM / "tested"), ROOM / "kit_that_leaves_none"
+
+    def answers(status: int, text: bytes, word: str = "scarce", by: pathlib.Path = KIT) -> None:
+        answer = ran(copy / "test", word, kit=by)
+        is_so = answer.status == status and re.search(text, answer.out + answer.err)
+        claim(is_so, str(answer))
+
+    answers(0, rb"\ntest: 3 passed, 0 failed\n\Z")
+    answers(2, rb"nothing is called scarcely\n\Z", "scarcely")
+    write(kit / "KIT-ID", "another kit\n")
+    for status in (0, 1):
+        write(kit / "bin/rt", LEAVES_NONE.replace("STATUS", str(status)))
+        answers(status, rb"\ntest: %d passed, %d failed\n\Z" % (2 - status, status), by=kit)
+    with (copy / "examples/scarce.out").open("a") as out:
+        out.write("another\n")
+    answers(1, rb"(?s)\n-another\n.*\ntest: 1 passed, 2 failed\n\Z")
+
+
 def ends_at_once(stand_in: str, *command: Any) -> None:
     """By each signal, with all that it started by then, of which what it calls by this name
     sleeps."""
@@ -132,7 +157,7 @@ def ends_at_once(stand_in: str, *command: Any) -> None:
 
 def checks() -> Any:
     """Each a judge with its arguments, as those of the gate."""
-    for judge in (knows_what_it_runs, runs_without_room, proves_once):
+    for judge in (knows_what_it_runs, runs_without_room, proves_once, test_tells):
         yield (judge,)
     for tool in ("prove", "xheap", "test"):
         yield ends_at_once, "rt", UNPROVED / tool
