@@ -5,7 +5,7 @@ from __future__ import annotations
 import collections
 import itertools
 import pathlib
-from typing import Any, Callable, Iterator
+from typing import Any, Callable, Container, Iterator
 
 import judging
 import script_examples
@@ -29,10 +29,10 @@ def least() -> dict[str, int]:
     return {what: int(number) for number, _, what in rows}
 
 
-def claim_enough(counts: collections.Counter[str], is_tried: Callable[[str], bool]) -> None:
-    """Of nothing that is tried there is less than tools/counts.txt says."""
+def claim_enough(counts: collections.Counter[str], other: Container[str]) -> None:
+    """Of nothing but these others there is less than tools/counts.txt says."""
     less = [f"{counts[what]}, and not {number}, {what}" for what, number in least().items()
-            if counts[what] < number and is_tried(what)]
+            if counts[what] < number and what not in other]
     claim(not less, ", ".join(less))
 
 

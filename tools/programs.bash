@@ -3,12 +3,8 @@
 
 # stands_on NAME ..: these crates and those that they stand on, one a line, lowest first
 stands_on() {
-    awk -F '[ :]+' -v wanted=" $* " '
-        { name[NR] = $1; sub(/#.*/, ""); gsub(/[ :]+/, " "); line[NR] = $0 }
-        END {
-            for (at = NR; at > 0; at--) if (index(wanted, " " name[at] " ")) wanted = wanted line[at] " "
-            for (at = 1; at <= NR; at++) if (index(wanted, " " name[at] " ")) print name[at]
-        }' "$top/crates.txt"
+    sed '1!G; h; $!d' "$top/crates.txt" | awk -F '[ :]+' -v wanted=" $* " '
+        index(wanted, " " $1 " ") { print $1; sub(/#.*/, ""); gsub(/[ :]+/, " "); wanted = wanted $0 " " }' | sed '1!G; h; $!d'
 }
 
 # sources_of NAME: a checksum of crates.txt, and of src, specs and proofs of the crate NAME and of those it stands on
@@ -24,19 +20,15 @@ program_of() { { cat "$top/$2/$1" "$top/$2/$1_tests" 2>/dev/null || :; } | cksum
 # kit: the identity of the kit whose rt is on the PATH
 kit() { cat "$(dirname "$(readlink -f "$(type -P rt)")")/../KIT-ID"; }
 
-# is_made NAME SOURCES [FOLDER]: what stands there of the crate NAME, in its out by default, was made of sources with
-# this checksum, and by the kit on the PATH, if any
+# is_made NAME FOLDER SOURCES: what stands there of the crate NAME was made of sources with this checksum, and by the kit
+# on the PATH, if any
 is_made() {
-    local folder="${3:-crates/$1/out}"
-    local sum="$top/$folder/$1.sum"
-    { echo "$2"; program_of "$1" "$folder"; kit || sed -n 3p "$sum"; } 2>/dev/null | cmp -s - "$sum"
+    local sum="$top/$2/$1.sum"
+    { echo "$3"; program_of "$1" "$2"; kit || sed -n 3p "$sum"; } 2>/dev/null | cmp -s - "$sum"
 }
 
-# note NAME SOURCES [FOLDER]: from now on that is so
-note() {
-    local folder="${3:-crates/$1/out}"
-    { echo "$2"; program_of "$1" "$folder"; kit; } >"$top/$folder/$1.sum"
-}
+# note NAME FOLDER SOURCES: from now on that is so
+note() { { echo "$3"; program_of "$1" "$2"; kit; } >"$top/$2/$1.sum"; }
 
 # checked NAME SOURCES: program is that of the crate NAME, or of its tests, unproved, with a check at each index, sum and
 # access. It is kept in .checked, where that can be written. rt try makes it, and runs it in folders of its own: on
@@ -45,7 +37,7 @@ checked() {
     local crate="$top/crates/$1" it="" how=(--test) build
     program="$top/.checked/$1" room=""
     [ -f "$crate/src/main.rt" ] || program+=_tests
-    ! is_made "$1" "$2" .checked || return 0
+    ! is_made "$1" .checked "$2" || return 0
     echo "$1: building it unproved, 1 to 4 minutes" >&2
     begin || return
     [[ "$program" == *_tests ]] || { how=(--cases "$room/in") && mkdir "$room/in" && touch "$room/in/"{1..200}; } || return
@@ -67,7 +59,12 @@ checked() {
 }
 
 # keep NAME SOURCES: what stands in room is from now on the checked program
-keep() { mkdir -p "${program%/*}" && cp "$room/program" "$program.$$" && mv "$program.$$" "$program" && note "$1" "$2" .checked; }
+keep() {
+    mkdir -p "${program%/*}" && cp "$room/program" "$program.$$" && mv "$program.$$" "$program" &&
+        note "$1" .checked "$2" && return
+    rm -f "$program.$$"
+    return 1
+}
 
 # begin: makes a folder, room, for rt too; it goes with the script, as does all that it started
 begin() {

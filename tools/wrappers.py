@@ -1,6 +1,6 @@
 """The checks of ./xheap, ./prove and ./test in copies of the repository: in PROVED ./prove has
-built the program, in KEPT the kit's rt its checked build, in UNPROVED nothing can be kept. But for
-KEPT rt is a small one: a proof it takes for done, and a build is the program that stands here."""
+built the program, in KEPT ./xheap its checked build, in UNPROVED nothing can be kept. There rt is a
+small one: a proof it takes for done, and a build is the program that stands here."""
 from __future__ import annotations
 
 import os
@@ -54,15 +54,8 @@ def make_copies(top: pathlib.Path = TOP) -> None:
     copied(TOP, PROVED)
     answer = ran(PROVED / "prove")
     claim(answer.status == 0 and b": proved and built, " in answer.err, str(answer))
-
-
-def keep_checked() -> None:
-    """By the kit, in a minute or two, where none is kept below TOP."""
-    copied(TOP, KEPT)
-    if (TOP / ".checked").exists():
-        shutil.copytree(TOP / ".checked", KEPT / ".checked")
-    answer = run([KEPT / "xheap", "-V", "-V"])
-    claim(answer.err.endswith(CHECKED), str(answer))
+    answer = ran(copied(TOP, KEPT) / "xheap", "-V", "-V")
+    claim(answer.err == BUILDING + CHECKED, str(answer))
 
 
 def answers_each_way(how: str, *words: Any) -> None:
@@ -72,8 +65,7 @@ def answers_each_way(how: str, *words: Any) -> None:
     claim_same(ran(PROVED / "xheap", *words, how=how), (status, out, err))
     is_told = words in ((b"--help",), (b"-h",), (b"--version",), (b"-V",))
     said = b"" if is_told or "2>&-" in how else CHECKED + (how == TYPED) * READING
-    real = pathlib.Path(shutil.which("rt") or "").resolve().parent.parent
-    claim_same(ran(KEPT / "xheap", *words, how=how, kit=real), (status, out, said + err))
+    claim_same(ran(KEPT / "xheap", *words, how=how), (status, out, said + err))
     said = bool(said) * BUILDING + said
     claim_same(ran(UNPROVED / "xheap", *words, how=how), (status, out, said + err))
 
