@@ -35,15 +35,6 @@ not to scale</text></g>\n"""
 Keeper = Union[int, Tuple[int, int]]
 
 
-class Row(NamedTuple):
-    """A command: its text and its line's number, its verb, and its reply."""
-
-    text: str
-    number: int
-    verb: bytes
-    reply: str
-
-
 class Area(NamedTuple):
     x: int
     y: int
@@ -72,7 +63,8 @@ class History:
     """What the commands do: their rows, and the bars of blocks in the order in which they end."""
 
     def __init__(self, heap: Heap, lines: list[bytes], commands: list[Command]) -> None:
-        self.heap, self.rows, self.bars = heap, list[Row](), list[Bar]()
+        # Of a row its command's text, its line's number, its verb, and its reply.
+        self.heap, self.rows, self.bars = heap, list[Tuple[str, int, bytes, str]](), list[Bar]()
         # The messages without blocks, by row and direction; and the endpoint that each leads to.
         self.bare, self.ends = list[Tuple[int, int]](), dict[int, Bar]()
         # The numbers of the processes' names; and of each block its record, and its bar so far.
@@ -86,7 +78,7 @@ class History:
             if verb == b"give" and reply.startswith("ok") and len(values) == 2:
                 own, _ = heap.process(by).end(values[0])
                 self.bare.append((len(self.rows), self.direction(own) ^ 1))
-            self.rows.append(Row(lines[number - 1].decode(), number, verb, reply))
+            self.rows.append((lines[number - 1].decode(), number, verb, reply))
             self.note(verb, values)
         self.close(dict(self.now), len(self.rows) - 1)
 
@@ -226,13 +218,13 @@ class Sheet:
             yield rect(area, 'class="hole"', arena)
             yield f'<text x="{area.x}" y="{self.top - ROW}">arena {arena}</text>\n'
         yield from map(self.bar, self.made.bars)
-        yield from itertools.chain(*itertools.starmap(self.texts, enumerate(self.made.rows)))
-        flown = [(bar, bar.first, bar.keeper) for bar in self.made.bars
-                 if isinstance(bar.keeper, int)]
-        ends = self.made.ends
-        bare = [(ends[way ^ 1], row, way) for row, way in self.made.bare]
-        yield from (self.arrow(self.of(bar), row, self.of(ends[way]))
-                    for bar, row, way in flown + bare)
+        for at, row in enumerate(self.made.rows):
+            yield from self.texts(self.row(at), *row)
+        for bar in self.made.bars:
+            if isinstance(bar.keeper, int):
+                yield self.arrow(bar, bar.first, bar.keeper)
+        for at, way in self.made.bare:
+            yield self.arrow(self.made.ends[way ^ 1], at, way)
         yield from self.sums()
 
     def head(self) -> Iterator[str]:
@@ -274,26 +266,23 @@ class Sheet:
         at = f"translate({area.x + right},{area.y + down}) rotate({turn})"
         return f'{drawn}<g class="name" transform="{at}">{words(0, 0, bar.name, 16)}</g>\n'
 
-    def arrow(self, area: Area, row: int, goal: Area) -> str:
-        """From an area to the endpoint to which a message goes."""
+    def arrow(self, bar: Bar, row: int, way: int) -> str:
+        """From a bar to the endpoint to which a direction leads."""
+        area, goal = self.of(bar), self.of(self.made.ends[way])
         inside = min(area.width // 2, 7)
         x = area.x + area.width - inside if area.x < goal.x else area.x + inside
         to = f"M{x},{self.row(row) + ROW - 3}H{goal.x + goal.width // 2}"
         return f'<path class="arrow" d="{to}"/>\n'
 
-    def texts(self, at: int, row: Row) -> Iterator[str]:
-        y, (is_done, *told) = self.row(at), row.reply.split(" ")
+    def texts(self, y: int, text: str, number: int, verb: bytes, reply: str) -> Iterator[str]:
+        is_done, *told = reply.split(" ")
         if is_done == "no":
             yield f'<path class="no" d="M2,{y}H{MESSAGES}v{ROW}H2z"/>'
-        yield f'<path class="line" d="M0,{y}H990"/>\n'
-        yield words(LEFT, y + 13, row.text, 36)
-        yield words(REPLIES, y + 13, f"{row.number} {row.reply}", 28)
-        if is_done == "ok" and row.verb == b"give":
-            message = f"&#8594;{told[0]}, tag {row.text.split(' ')[3]}"
-            yield f'<text x="{MESSAGES}" y="{y + 13}">{message}</text>\n'
-        if is_done == "ok" and row.verb in (b"take", b"await"):
-            message = f"&#8592;{told[0]}, tag {told[1]}"
-            yield f'<text x="{MESSAGES}" y="{y + 13}">{message}</text>\n'
+        yield f'<path class="line" d="M0,{y}H990"/>\n{words(LEFT, y + 13, text, 36)}'
+        yield words(REPLIES, y + 13, f"{number} {reply}", 28)
+        if is_done == "ok" and verb in (b"give", b"take", b"await"):
+            arrow, tag = (8594, text.split(" ")[3]) if verb == b"give" else (8592, told[1])
+            yield f'<text x="{MESSAGES}" y="{y + 13}">&#{arrow};{told[0]}, tag {tag}</text>\n'
 
     def sums(self) -> Iterator[str]:
         heap, y = self.made.heap, self.row(len(self.made.rows)) + ROW
