@@ -230,7 +230,7 @@ def does_not_compile(crate: str, error: str, old: str, new: str) -> None:
     """With the one text in place of the other the crate's program is refused, for this error of
     the compiler, before any proof. It stands in a copy, which goes with the room."""
     copy = ROOM / "compiled"
-    shutil.copytree(TOP, copy, ignore=shutil.ignore_patterns("out", ".git"))
+    shutil.copytree(TOP, copy, ignore=shutil.ignore_patterns("out", ".checked", ".git"))
     main = copy / f"crates/{crate}/src/main.rt"
     text = main.read_text(encoding="utf-8")
     claim(text.count(old) == 1, f"{main} has no such text once: {old}")

@@ -1,30 +1,31 @@
-"""The checks of ./xheap and ./prove, in two copies of the repository: in PROVED
-./prove has built the programs, in UNPROVED not. There rt is a small one: a proof it takes for done,
-a build is the program that stands here, and that gets what the kit's rt would give it to read."""
+"""The checks of ./xheap, ./prove and ./test in copies of the repository: in PROVED ./prove has
+built the program, in KEPT ./xheap its checked build, in UNPROVED nothing can be kept. There rt is a
+small one: a proof it takes for done, and a build is the program that stands here."""
 from __future__ import annotations
 
 import os
 import pathlib
+import re
 import shutil
-import subprocess
 import tempfile
 from typing import Any
 
 import judging
 from judging import ROOM, TOP, claim, claim_same, run, write
 
-KIT, PROVED, UNPROVED = ROOM / "kit", ROOM / "proved", ROOM / "unproved"
-BUILDING = "%s: building it unproved, 1 to 4 minutes; ./prove builds it once for all\n"
-READING = "%s: reads a script from the terminal, to its end (Ctrl-D)\n"
+KIT, PROVED, KEPT, UNPROVED = (ROOM / it for it in ("kit", "proved", "kept", "unproved"))
+BUILDING = b"xheap: building it unproved, 1 to 4 minutes\n"
+CHECKED = b"xheap: unproved, but checked as it runs; ./prove proves it once for all\n"
+READING = b"xheap: reads a script from the terminal, to its end (Ctrl-D)\n"
 RT = r"""#!/usr/bin/env bash
-program="TOP/crates/${PWD##*/}/out/${PWD##*/}" given="$(mktemp)" status=0
-[ "$1" != run ] || cp "$program" out
-[ "$1" = try ] || exit 0
-read='import sys, rtlib; sys.stdout.buffer.write(rtlib.given_input())'
-PYTHONPATH="$(dirname "$(readlink -f "REAL")")" python3 -Bc "$read" >"$given"
-"$program" "${@:5}" <"$given" || status=$?
-printf 'checked: it\nrun=ended status=%s proved=no\n' "$status" >&2
-exit "$status"
+program="TOP/crates/${PWD##*/}/out/${PWD##*/}" it="$TMPDIR/rt-try/it"
+case "$1" in
+    run) cp "$program" out ;;
+    try) mkdir -p "$it" && cp "$program" "$it/program" && sleep 0.2 && rm -r "$it" ;;
+esac
+"""
+LEAVES_NONE = r"""#!/usr/bin/env bash
+for it in "${@: -1}"/*; do echo "case=${it##*/} run=ended status=STATUS runners=1" >&2; done
 """
 # A script that comes slowly, and one that is typed.
 SLOW = '(echo process a; sleep 4; echo a alloc x 40 0) | "$@"'
@@ -40,49 +41,100 @@ def ran(program: pathlib.Path, *words: Any, how: str = '"$@"', kit: pathlib.Path
     return run(["env", path, "bash", "-c", how, "-", program, *words])
 
 
-def make_copies() -> None:
+def copied(source: pathlib.Path, copy: pathlib.Path) -> pathlib.Path:
+    shutil.copytree(source, copy, ignore=shutil.ignore_patterns("out", ".checked", ".git"))
+    return copy
+
+
+def make_copies(top: pathlib.Path = TOP) -> None:
+    """The program is the one that stands below top."""
     write(KIT / "KIT-ID", "a kit\n")
-    write(KIT / "bin/rt", RT.replace("TOP", str(TOP)).replace("REAL", shutil.which("rt") or ""))
-    for copy in (PROVED, UNPROVED):
-        shutil.copytree(TOP, copy, ignore=shutil.ignore_patterns("out", ".git"))
+    write(KIT / "bin/rt", RT.replace("TOP", str(top)))
+    write(copied(TOP, UNPROVED) / ".checked", "no folder\n")
+    copied(TOP, PROVED)
     answer = ran(PROVED / "prove")
     claim(answer.status == 0 and b": proved and built, " in answer.err, str(answer))
+    answer = ran(copied(TOP, KEPT) / "xheap", "-V", "-V")
+    claim(answer.err == BUILDING + CHECKED, str(answer))
 
 
-def answers_both_ways(name: str, how: str, *words: Any) -> None:
-    """As the program does, but that it says that it reads a terminal, and that it builds."""
-    wanted = ran(TOP / f"crates/{name}/out/{name}", *words, how=how)[:3]
-    claim_same(ran(PROVED / name, *words, how=how), wanted)
-    said = (how == TYPED) * (READING % name).encode() + (BUILDING % name).encode()
-    status, out, err, _ = ran(UNPROVED / name, *words, how=how)
-    claim(err.startswith(said) or how != TYPED, str(err))
-    claim_same((status, out, err.removeprefix(said)), wanted)
+def answers_each_way(how: str, *words: Any) -> None:
+    """As the program does, but that unproved it says so, that it builds, and that it reads a
+    terminal; or nothing, for words of which it has the answer."""
+    status, out, err = ran(TOP / "crates/xheap/out/xheap", *words, how=how)[:3]
+    claim_same(ran(PROVED / "xheap", *words, how=how), (status, out, err))
+    is_told = words in ((b"--help",), (b"-h",), (b"--version",), (b"-V",))
+    said = b"" if is_told or "2>&-" in how else CHECKED + (how == TYPED) * READING
+    claim_same(ran(KEPT / "xheap", *words, how=how), (status, out, said + err))
+    said = bool(said) * BUILDING + said
+    claim_same(ran(UNPROVED / "xheap", *words, how=how), (status, out, said + err))
 
 
 def knows_what_it_runs() -> None:
-    """What was proved stays so in a copy, which is seen by 0.1 seconds of a processor; but not with
-    a part changed, be it older, or by another kit. Without its list nothing is proved, and where rt
-    says nothing there is no answer."""
-    copy, kit, build = ROOM / "copy", ROOM / "other_kit", (BUILDING % "xheap").encode()
+    """What was proved stays so in a copy, also where a source is a link, which is seen by 0.1
+    seconds of a processor; but not with a part changed, be it older, or by another kit: then it is
+    built anew, and kept. Without its list nothing is proved, and where rt says nothing there is no
+    answer."""
+    room = pathlib.Path(tempfile.mkdtemp(dir=ROOM))
+    copy, kit, linked = room / "copy", room / "kit", room / "linked.rt"
     run(["cp", "-r", PROVED, copy])
     run(["cp", "-r", KIT, kit])
+    source = copy / "crates/xh_core/src/lib.rt"
+    source.rename(linked)
+    source.symlink_to(linked)
     how = "TIMEFORMAT='%U %S'; time \"$@\""
     times = [sum(map(float, ran(copy / "xheap", "-V", how=how).err.split())) for _ in range(5)]
     claim(min(times) <= 0.1, f"seconds: {times}")
-    parts = [copy / "crates.txt", copy / "crates/xheap/out/xheap", kit / "KIT-ID"]
+    parts = [copy / "crates.txt", copy / "crates/xheap/out/xheap", kit / "KIT-ID", linked]
     parts += [next(copy.glob(f"crates/xh_core/{it}/**/*.*t")) for it in ("src", "specs", "proofs")]
     for part in parts:
         text = part.read_bytes()
-        for change in (b"#", b""):
+        for change, wanted in ((b"#", [BUILDING + CHECKED, CHECKED]), (b"", [b""])):
             part.write_bytes(text + change)
             os.utime(part, (0, 0))
-            answer = ran(copy / "xheap", kit=kit)
-            claim((build in answer.err) == (change != b""), f"{part} {change!r}: {answer}")
+            said = [ran(copy / "xheap", "-V", "-V", kit=kit).err for _ in wanted]
+            claim(said == wanted, f"{part} {change!r}: {said}")
     (copy / "crates.txt").unlink()
     answer = ran(copy / "prove")
     claim(answer[:2] == (1, b"") and b"crates.txt" in answer.err, str(answer))
     answer = ran(copy / "xheap", how='rt() { :; }; export -f rt; "$@"')
     claim(answer[:2] == (70, b"") and b"\nxheap: no answer: " in answer.err, str(answer))
+
+
+def runs_without_room() -> None:
+    """Where no temporary file can be made the program runs, and ./prove says so."""
+    how = 'TMPDIR=/nothing "$@"'
+    claim_same(ran(PROVED / "xheap", "-V", how=how), (0, b"xheap 1.0\n", b""))
+    answer = ran(PROVED / "prove", how=how)
+    claim(answer.status == 1 and b"no folder can be made in /nothing" in answer.err, str(answer))
+
+
+def proves_once() -> None:
+    """Of two ./prove at once one waits for the other, and finds all proved."""
+    copy = copied(PROVED, ROOM / "twice")
+    answer = ran(copy / "prove", how='"$@" & "$@" && wait "$!"')
+    claim(answer.status == 0 and b"waits for another ./prove" in answer.err, str(answer))
+
+
+def test_tells() -> None:
+    """./test passes a script, and not with another output written of it, and knows its words. By a
+    kit that leaves no program rt try judges the script, by its status here."""
+    copy, kit = copied(PROVED, ROOM / "tested"), ROOM / "kit_that_leaves_none"
+
+    def answers(status: int, text: bytes, word: str = "scarce", by: pathlib.Path = KIT) -> None:
+        answer = ran(copy / "test", word, kit=by)
+        is_so = answer.status == status and re.search(text, answer.out + answer.err)
+        claim(is_so, str(answer))
+
+    answers(0, rb"\ntest: 3 passed, 0 failed\n\Z")
+    answers(2, rb"nothing is called scarcely\n\Z", "scarcely")
+    write(kit / "KIT-ID", "another kit\n")
+    for status in (0, 1):
+        write(kit / "bin/rt", LEAVES_NONE.replace("STATUS", str(status)))
+        answers(status, rb"\ntest: %d passed, %d failed\n\Z" % (2 - status, status), by=kit)
+    with (copy / "examples/scarce.out").open("a") as out:
+        out.write("another\n")
+    answers(1, rb"(?s)\n-another\n.*\ntest: 1 passed, 2 failed\n\Z")
 
 
 def ends_at_once(stand_in: str, *command: Any) -> None:
@@ -95,34 +147,12 @@ def ends_at_once(stand_in: str, *command: Any) -> None:
         judging.ends_at_once(number, kit / "bin", *command)
 
 
-def real_build_answers() -> None:
-    """As the program, on the scripts of examples/, and on words; one build, of some minutes."""
-    cases, wanted, program = ROOM / "cases", [], TOP / "crates/xheap/out/xheap"
-    lines = "--fast --help", "x --version", "-- --version", "--bytes 17", "--help", "-V"
-    given = [(line, b"") for line in lines]
-    for script in TOP.glob("examples/*.script"):
-        given += [(script.with_suffix(".options").read_text().split("\n")[0], script.read_bytes())]
-    cases.mkdir()
-    for number, (line, text) in enumerate(given):
-        (cases / f"{number}").write_bytes(text)
-        (cases / f"{number}.args").write_text(line.replace(" ", "\n") + "\n")
-        status, out, err, _ = run([program, *line.split()], text)
-        ended = b"case=%d run=ended status=%d " % (number, status)
-        wanted.append(b"== %d\n%s%s%s" % (number, out, err, ended))
-    how: dict[str, Any] = {"stdin": subprocess.DEVNULL, "stdout": subprocess.PIPE, "timeout": 3600}
-    build = ["rt", "try", "--cases", str(cases)]
-    said = subprocess.run(build, cwd=TOP / "crates/xheap", stderr=subprocess.STDOUT, **how).stdout
-    for answer in wanted:
-        claim(answer in said, f"no {answer.decode()} in {said.decode()}")
-
-
 def checks() -> Any:
     """Each a judge with its arguments, as those of the gate."""
-    yield (real_build_answers,)
-    yield (knows_what_it_runs,)
-    yield ends_at_once, "rt", UNPROVED / "prove"
-    yield ends_at_once, "rt", UNPROVED / "xheap"
-    yield ends_at_once, "head", UNPROVED / "xheap"
+    for judge in (knows_what_it_runs, runs_without_room, proves_once, test_tells):
+        yield (judge,)
+    for tool in ("prove", "xheap", "test"):
+        yield ends_at_once, "rt", UNPROVED / tool
     for how in (SLOW, TYPED, '"$@" <&-', '"$@" </dev/zero', '"$@" >/dev/full 2>&-'):
-        yield answers_both_ways, "xheap", how, "--depth", "2"
-    yield answers_both_ways, "xheap", '"$@"', "two  words\nchecked: it", ""
+        yield answers_each_way, how, "--depth", "2"
+    yield answers_each_way, '"$@"', "two  words\nchecked: it", ""
