@@ -331,7 +331,7 @@ impl Channels {
     }
 
     /// From now on all that raises the turn of the spot's channel rings this place's bell as well, until
-    /// another place listens at the spot: nothing else ends that.
+    /// another place listens at the spot, or the channel's number comes back.
     pub fn listen<R: Wait>(&self, _rt: &R, spot: Spot, place: u8)
         requires { place < PLACES }
     {

@@ -2,6 +2,7 @@
 use Rattle.xh_core.proofs.Common.{ArenaState, Direction, GiveBack, Holder, IsLawful, List, None, Option, Process, Some, Store, ap, arena_of, arith, can, change, cond}
 use Rattle.xh_core.proofs.Common.{eq-eqb, false≢true, get_or-set_other, get_or-set_same, held_known, holds, is_held_by, is_known, known_there, len, length, length_of, nat_lt}
 use Rattle.xh_core.proofs.Common.{nat_tests, no_arena, owner, refl, slice_index_or, slice_set, sum_by-append, sum_by-cons, times, true, ℕ, ◌%◌, ◌++◌, ◌+◌, ◌/◌, ◌<◌, ◌==◌, ◌∙◌, ◌∷◌, ◌≡◌, ◌≢◌}
+use Rattle.std.proofs.Common.{false}
 use Rattle.std.proofs.lemmas.List.{get_or_past}
 use Rattle.xh_model.specs.declared.event.Event.{Event}
 use Rattle.xh_model.specs.Store.{after}
@@ -11,6 +12,10 @@ use Rattle.xh_core.proofs.Lengths.{len_but_one}
 pub done : (e : Event) (s : Store) → can e s ≡ true → after e s ≡ change e s
 unfolding after
 done e s h = rw h refl
+
+pub undone : (e : Event) (s : Store) → can e s ≡ false → after e s ≡ s
+unfolding after
+undone e s h = rw h refl
 
 pub same_process : (o : Option Holder) (p : ℕ) → is_held_by o (Process p) ≡ true → o ≡ Some (Process p)
 same_process None p h = absurd (false≢true h)

@@ -7,14 +7,16 @@ use arrayvec::ArrayVec;
 use std::alloc::{AllocError, AllocFailed};
 use std::error::Error;
 use std::fmt;
-use xh_model::limits::MAX_BLOCKS;
+use xh_model::limits::{
+    MAX_ARENAS, MAX_BLOCKS, MAX_BYTES, MAX_DEPTH, MAX_RECORDS, MAX_ROWS, PLACES, UNIT,
+};
 
 /// Why a command is refused.
 #[derive(Debug, Drop)]
 pub enum Refused {
     /// A growth of memory was refused.
     OutOfMemory,
-    /// A size is outside its limits.
+    /// A size, a configuration or a count is outside its limits.
     BadSize,
     /// There is no such arena.
     NoArena,
@@ -22,7 +24,7 @@ pub enum Refused {
     NoSpace,
     /// Each record of the arena is taken.
     NoRecord,
-    /// The process does not own such a block.
+    /// The process has no such block or end.
     NotOwned,
     /// The block is an endpoint.
     NotData,
@@ -48,13 +50,14 @@ pub enum Refused {
     TooMany,
     /// A block, or a name, stands twice.
     Twice,
-    /// The arena has handed out as many bytes as it ever may.
+    /// With these bytes the arena would pass what it may ever hand out.
     Worn,
     /// The budget was used up; so many blocks are left.
     Unfinished { left: u32 },
     /// Each place is taken.
     NoPlace,
-    /// The channel's contract does not allow the message; the blocks are handed back.
+    /// In this state the channel's contract allows no message with this tag from this side; the blocks
+    /// are handed back.
     Protocol { back: ArrayVec<u16, MAX_BLOCKS> },
 }
 
@@ -118,16 +121,30 @@ impl Refused {
             Refused::Protocol { .. } => "Protocol",
         }
     }
+}
 
-    /// What it says to a person.
-    fn reason(&self) -> &'static str {
-        match self {
+// What limits a size, a configuration and a count have.
+fn write_limits<W: fmt::Write>(f: &mut fmt::Formatter<W>) -> fmt::Result {
+    write!(
+        f,
+        "a block has 1 byte to as many as its arena; a configuration has 1 to {MAX_ARENAS} arenas, each of {UNIT} to {MAX_BYTES} bytes, \
+         a multiple of {UNIT}, and of 1 to {MAX_RECORDS} records, and a depth of 1 to {MAX_DEPTH}; a run has 1 to {PLACES} processes; \
+         a contract has 1 to {MAX_ROWS} rows"
+    )
+}
+
+impl fmt::Display for Refused {
+    fn fmt<W: fmt::Write>(&self, f: &mut fmt::Formatter<W>) -> fmt::Result {
+        let text = match self {
+            Refused::BadSize => return write_limits(f),
+            Refused::Unfinished { left } => {
+                return write!(f, "the budget was used up, and {left} blocks are left");
+            }
             Refused::OutOfMemory => "a growth of memory was refused",
-            Refused::BadSize => "a size is outside its limits",
             Refused::NoArena => "there is no such arena",
             Refused::NoSpace => "no hole of the arena holds that many bytes",
             Refused::NoRecord => "each record of the arena is taken",
-            Refused::NotOwned => "the process does not own such a block",
+            Refused::NotOwned => "the process has no such block or end",
             Refused::NotData => "the block is an endpoint",
             Refused::NotEndpoint => "the block is no endpoint",
             Refused::BadCut => "the cut is not a multiple of 16 inside the block",
@@ -140,23 +157,13 @@ impl Refused {
             Refused::Empty => "no message waits",
             Refused::TooMany => "a message carries at most 8 blocks",
             Refused::Twice => "a block or a name stands twice",
-            Refused::Worn => "the arena has handed out as many bytes as it ever may",
-            Refused::Unfinished { .. } => "the budget was used up, and blocks are left",
+            Refused::Worn => "with these bytes the arena would pass what it may ever hand out",
             Refused::NoPlace => "each place is taken",
-            Refused::Protocol { .. } => "the channel's contract does not allow the message",
-        }
-    }
-}
-
-impl fmt::Display for Refused {
-    fn fmt<W: fmt::Write>(&self, f: &mut fmt::Formatter<W>) -> fmt::Result {
-        match self {
-            Refused::Unfinished { left } => write!(
-                f,
-                "the budget was used up, and {left} blocks are left"
-            ),
-            _ => f.write_str(self.reason()),
-        }
+            Refused::Protocol { .. } => {
+                "in this state the contract allows no message with this tag from this side"
+            }
+        };
+        f.write_str(text)
     }
 }
 

@@ -117,7 +117,9 @@ turned_at {L} l now k slot distinct at is =
       gone = (λ i. turns (less i) (rest (first i))) ∙ turns_over b a ∙ sym (ap (without slot) t.3 ∙ without_split slot x a b d.0 d.1);
     }
 
-pub turned_by : {L : Type 0} (order : List ℕ) (l now : List (ℕ × Option L)) (k slot : ℕ) → IsListed order l slot → get_elem? order k ≡ some slot → now ≡ turns k l → IsTurned slot l now (length order - k)
+-- the same of a token's list, by the order of its slots
+pub turned_by : {L : Type 0} (order : List ℕ) (l now : List (ℕ × Option L)) (k slot : ℕ) → IsListed order l slot → get_elem? order k ≡ some slot
+    → now ≡ turns k l → IsTurned slot l now (length order - k)
 turned_by order l now k slot listed at is =
     let same = listed.0 in
     subst (λ z. IsTurned slot l now (length z - k)) (sym same) (turned_at l now k slot (subst Distinct same listed.1) (subst (λ z. get_elem? z k ≡ some slot) same at) is)

@@ -10,12 +10,14 @@ use Rattle.xh_records.proofs.token.give_slot.Goals as goal
 -- what is read there is what the token has in the slot
 read : (g : Over) (c : After-slot_mut g) → c.slot_mut.result.now ≡ in_slot c.args.slot c.args.token.now.me.1
 read g c =
-    first_is c.args.slot _ _ _ _ _ (c.slot_mut.ensures.value ∙ (λ i. (c.from-at.ensures i, c.slot_mut.result.now) ∷ rest c.turn_by.new.token.me.1)) (turned_by _ _ _ _ _ c.requires.listed c.position-k.ensures (ap (λ z. z.1) c.turn_by.ensures.2)).first
+    let turned = turned_by _ _ _ _ _ c.requires.listed c.position-k.ensures (ap (λ z. z.1) c.turn_by.ensures.2) in
+    first_is c.args.slot _ _ _ _ _ (c.slot_mut.ensures.value ∙ (λ i. (c.from-at.ensures i, c.slot_mut.result.now) ∷ rest c.turn_by.new.token.me.1)) turned.first
 
 pub slot_mut-requires : goal.slot_mut-requires
 slot_mut-requires g c =
     let x = in_slot c.args.slot c.args.token.now.me.1 in
-    (c.turn_by.ensures.0 ∙ c.requires.own.0, (x, (turned_by _ _ _ _ _ c.requires.listed c.position-k.ensures (ap (λ z. z.1) c.turn_by.ensures.2)).first ∙ (λ i. (sym c.from-at.ensures i, x) ∷ rest c.turn_by.new.token.me.1)))
+    let turned = turned_by _ _ _ _ _ c.requires.listed c.position-k.ensures (ap (λ z. z.1) c.turn_by.ensures.2) in
+    (c.turn_by.ensures.0 ∙ c.requires.own.0, (x, turned.first ∙ (λ i. (sym c.from-at.ensures i, x) ∷ rest c.turn_by.new.token.me.1)))
 
 pub unreachable-requires : goal.unreachable-requires
 unreachable-requires g c = let r = read g (goal.at.unreachable-requires g c).After-slot_mut in let has = c.requires.lot.1 in let none = c.in_default.is in absurd (cc)

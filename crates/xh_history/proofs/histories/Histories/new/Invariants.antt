@@ -7,8 +7,8 @@ use Rattle.xh_history.proofs.histories.Histories.new.Given as goal
 
 abbrev pub invariant-loop : goal.invariant-loop
 invariant-loop g l =
-    (vec_len l.lookers ≡ l.counter) × (l.first.table_id ≡ l.table.shared.table_id) × (l.first.me.0 ≡ view_from 0 0) × All (λ k. k ≡ fresh_look l.table.shared.table_id) l.lookers.items × (l.looks ≤ vec_capacity l.lookers)
-    × (l.workers ≤ vec_capacity l.fronts) × (PLACES ≤ vec_capacity l.pens) × (l.fronts.items ≡ []) × (l.pens.items ≡ [])
+    (vec_len l.lookers ≡ l.counter) × (l.first.table_id ≡ l.table.shared.table_id) × (l.first.me.0 ≡ view_from 0 0) × All (λ k. k ≡ fresh_look l.table.shared.table_id) l.lookers.items
+    × (l.looks ≤ vec_capacity l.lookers) × (l.workers ≤ vec_capacity l.fronts) × (PLACES ≤ vec_capacity l.pens) × (l.fronts.items ≡ []) × (l.pens.items ≡ [])
 
 abbrev pub invariant-loop-number : goal.invariant-loop-number
 invariant-loop-number g l =
