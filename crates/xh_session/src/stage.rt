@@ -35,7 +35,11 @@ impl<'a> Model for Stage<'a> {
 
 impl<'a> Stage<'a> {
     /// A new machine, on which no command was done yet.
-    pub(crate) fn new(alloc: Global, config: Config, contracts: &'a [Contract]) -> Result<Stage<'a>, Fault>
+    pub(crate) fn new(
+        alloc: Global,
+        config: Config,
+        contracts: &'a [Contract],
+    ) -> Result<Stage<'a>, Fault>
         ensures fresh { IfOk result (λ stage. stage ≡ new_world config contracts.entry.now) }
         ensures refused { IfErr result (λ e. ((e ≡ Fault.BadConfig) × ¬ IsConfig config) ⊎ (e ≡ Fault.Memory)) }
     {
