@@ -1,7 +1,6 @@
 //! A process of a kernel.
-ghost use Rattle.std.specs.Prelude.{◌≡◌, MatchResult, Ok};
-ghost use Rattle.xh_kernel.specs.Accounts.{AccountOf};
-ghost use Rattle.xh_kernel.specs.Waits.{SpawnsAt};
+ghost use Rattle.std.specs.Prelude.{◌≡◌, MatchResult};
+ghost use Rattle.xh_heap.specs.Plans.{IsStarted};
 
 use crate::process::Process;
 use crate::values::{
@@ -54,7 +53,7 @@ impl<'a, 'k, N: Names, R: Wait> Handle<'a, 'k, N, R> {
         kernel: &'a Kernel<N>,
         spares: &'a Spares<'k, N>,
     ) -> Result<Handle<'a, 'k, N, R>, Refused>
-        ensures { MatchResult result (λ p. (before : AccountOf) × SpawnsAt N.parts N.leads before p.account.now (Ok p.number)) (λ why. why ≡ Refused.NoPlace) }
+        ensures { MatchResult result (λ p. IsStarted N.parts N.leads p.number p.account.now) (λ why. why ≡ Refused.NoPlace) }
     {
         let Some(account) = spares.lock(rt).pop() else {
             return Err(Refused::NoPlace);

@@ -6,14 +6,14 @@ ghost use Rattle.xh_calls.specs.Parts.{PartsOf};
 ghost use Rattle.xh_core.specs.declared.Refused.TheVariants.{Empty, NoPlace, NoRecord, NoSpace};
 ghost use Rattle.xh_heap.specs.Handles.{Acts, ActsBy, Awaits, HandleOf};
 ghost use Rattle.xh_heap.specs.declared.values.Item.TheVariants as item;
+ghost use Rattle.xh_heap.specs.Plans.{IsStarted};
 ghost use Rattle.xh_heap.specs.Teams.{OpensOwn, WiresTo};
 ghost use Rattle.xh_heap.specs.Values.{Answers, Cuts, answered_of, block_back, block_of, end_at, end_back, ends_at, gift, items_back, message_of, plain, rec_at};
-ghost use Rattle.xh_kernel.specs.Accounts.{AccountOf};
 ghost use Rattle.xh_kernel.specs.Did.{DidAlloc, DidClose, DidFree, DidGive, DidIntoBytes, DidPut, DidRead, DidSplit, DidTake, DidTakeAny, DidWrite};
 ghost use Rattle.xh_kernel.specs.Endings.{Exits, Kills};
 ghost use Rattle.xh_kernel.specs.Lends.{LendsAll, LendsAllMut};
 ghost use Rattle.xh_kernel.specs.Looks.{SeesAll};
-ghost use Rattle.xh_kernel.specs.Waits.{AtLast, AtLastOf, IsNoMemory, SpawnsAt, no_room};
+ghost use Rattle.xh_kernel.specs.Waits.{AtLast, AtLastOf, IsNoMemory, no_room};
 ghost use Rattle.xh_model.specs.declared.limits.TheConstants.{MAX_BUDGET};
 
 use crate::values::{Answered, AsEnd, Block, End, Items, Message, Returned};
@@ -51,7 +51,7 @@ pub trait Process: Drop {
     /// A new process, by a handle of its own. NoPlace where 33 handles are there, or each of the 32 places has a process that runs
     /// or is ending, or had its 2,047; nothing else refuses.
     fn spawn(&self) -> Result<Self, Refused>
-        ensures { MatchResult result (λ p. (before : AccountOf) × SpawnsAt parts leads before (handle p).account (Ok (handle p).number)) (λ why. why ≡ NoPlace) };
+        ensures { MatchResult result (λ p. IsStarted parts leads (handle p).number (handle p).account) (λ why. why ≡ NoPlace) };
 
     /// A block of `n` bytes of arena 0, as `alloc_in`.
     fn alloc(&mut self, n: u32) -> Result<Block, Refused>
