@@ -100,8 +100,8 @@ fn run_named<N: Names + Send + Sync, R: Threads + Wait + Clock + Sync, J: Host +
 
 /// Runs a job by so many processes, 1 to 32, on a heap of its own, and closes the books, once all threads have ended.
 ///
-/// BadSize where the configuration or the count is outside its limits, then what the plan was refused; OutOfMemory where a
-/// growth was refused, or a thread could not be made: no worker begins then.
+/// BadSize where the configuration or the count is outside its limits, then what the plan was refused. OutOfMemory where a growth
+/// was refused before the work, or a thread could not be made: no worker begins then; or at closing, after all work.
 pub fn run<R: Threads + Wait + Clock + Sync, J: Host + Sync>(
     rt: &R,
     alloc: Global,
