@@ -1,4 +1,6 @@
 pub mod Handles
+pub mod Lending
+pub mod Plans
 pub mod Runs
 pub mod Teams
 pub mod Values

@@ -110,6 +110,9 @@ items_back p why = filter (λ i. is_back why (item_at p i))
 abbrev pub block_back : ℕ → Refused → Block → Option Block
 block_back p why b = if is_back why (rec_at b p) then Some b else None
 
+abbrev pub end_came : ℕ → Refused → End → Option End
+end_came p why e = if is_back why (end_at e p) then Some e else None
+
 -- an end is gone though blocks that came with it are left
 abbrev pub end_back : Refused → End → Option End
 end_back (refused.Unfinished left) e = None

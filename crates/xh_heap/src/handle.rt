@@ -1,12 +1,10 @@
 //! A process of a kernel.
-ghost use Rattle.std.specs.Prelude.{◌≡◌, MatchResult, Ok};
-ghost use Rattle.xh_kernel.specs.Accounts.{AccountOf};
-ghost use Rattle.xh_kernel.specs.Waits.{SpawnsAt};
+ghost use Rattle.std.specs.Prelude.{◌≡◌, MatchResult};
+ghost use Rattle.xh_heap.specs.Plans.{IsStarted};
 
 use crate::process::Process;
 use crate::values::{
-    Answered, AsEnd, Block, End, Items, Message, Returned, end_back, ends_at, given, is_back,
-    recs_at,
+    Answered, AsEnd, Block, End, Load, Message, Returned, end_back, ends_at, given,
 };
 use std::alloc::Global;
 use std::sync::{Mutex, Wait};
@@ -54,7 +52,7 @@ impl<'a, 'k, N: Names, R: Wait> Handle<'a, 'k, N, R> {
         kernel: &'a Kernel<N>,
         spares: &'a Spares<'k, N>,
     ) -> Result<Handle<'a, 'k, N, R>, Refused>
-        ensures { MatchResult result (λ p. (before : AccountOf) × SpawnsAt N.parts N.leads before p.account.now (Ok p.number)) (λ why. why ≡ Refused.NoPlace) }
+        ensures { MatchResult result (λ p. IsStarted N.parts N.leads p.number p.account.now) (λ why. why ≡ Refused.NoPlace) }
     {
         let Some(account) = spares.lock(rt).pop() else {
             return Err(Refused::NoPlace);
@@ -231,9 +229,9 @@ impl<'a, 'k, N: Names, R: Wait + Clock> Process for Handle<'a, 'k, N, R> {
             .map(|(one, other)| (End::of(p, one), End::of(q, other)))
     }
 
-    fn give(&mut self, end: &End, tag: u16, load: Items) -> Result<u64, Returned<Items>> {
+    fn give<L: Load>(&mut self, end: &End, tag: u16, load: L) -> Result<u64, Returned<L::Back>> {
         let (rt, p) = (self.rt, self.number);
-        let recs = recs_at(p, &load);
+        let recs = load.recs(p);
         let blocks = recs.as_slice();
         let told = self
             .kernel
@@ -241,33 +239,14 @@ impl<'a, 'k, N: Names, R: Wait + Clock> Process for Handle<'a, 'k, N, R> {
         given(p, load, told)
     }
 
-    fn give_block(
+    fn give_wait<L: Load>(
         &mut self,
         end: &End,
         tag: u16,
-        block: Block,
-    ) -> Result<u64, Returned<Option<Block>>> {
+        load: L,
+    ) -> Result<u64, Returned<L::Back>> {
         let (rt, p) = (self.rt, self.number);
-        let rec = block.at(p);
-        match self
-            .kernel
-            .give(rt, p, end.at(p), tag, &[rec], self.account, &OpenGate)
-        {
-            Ok(number) => Ok(number),
-            Err(why) => {
-                let value = if is_back(&why, rec) {
-                    Some(block)
-                } else {
-                    None
-                };
-                Err(Returned { why, value })
-            }
-        }
-    }
-
-    fn give_wait(&mut self, end: &End, tag: u16, load: Items) -> Result<u64, Returned<Items>> {
-        let (rt, p) = (self.rt, self.number);
-        let recs = recs_at(p, &load);
+        let recs = load.recs(p);
         let blocks = recs.as_slice();
         let told = self.kernel.give_until(
             rt,
@@ -282,18 +261,18 @@ impl<'a, 'k, N: Names, R: Wait + Clock> Process for Handle<'a, 'k, N, R> {
         given(p, load, told)
     }
 
-    fn give_for(
+    fn give_for<L: Load>(
         &mut self,
         end: &End,
         tag: u16,
-        load: Items,
+        load: L,
         time: Duration,
-    ) -> Result<u64, Returned<Items>> {
+    ) -> Result<u64, Returned<L::Back>> {
         let (rt, p) = (self.rt, self.number);
         let Some(deadline) = deadline(rt, time) else {
             return self.give(end, tag, load);
         };
-        let recs = recs_at(p, &load);
+        let recs = load.recs(p);
         let (e, blocks) = (end.at(p), recs.as_slice());
         let told = self
             .kernel

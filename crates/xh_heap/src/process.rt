@@ -1,22 +1,21 @@
 //! A process of the heap, by its handle.
-ghost use Rattle.std.specs.Prelude.{◌≡◌, ◌≢◌, ◌<◌, [], ◌∷◌, IfErr, IfOk, MatchResult, None, Ok, OnErr, Some, length};
+ghost use Rattle.std.specs.Prelude.{◌≡◌, ◌≢◌, ◌<◌, [], IfErr, IfOk, MatchResult, None, Ok, OnErr, Some, length};
 ghost use Rattle.std.specs.Result.{result_map_both};
 ghost use Rattle.xh_calls.specs.Leading.{Leading};
 ghost use Rattle.xh_calls.specs.Parts.{PartsOf};
 ghost use Rattle.xh_core.specs.declared.Refused.TheVariants.{Empty, NoPlace, NoRecord, NoSpace};
 ghost use Rattle.xh_heap.specs.Handles.{Acts, ActsBy, Awaits, HandleOf};
-ghost use Rattle.xh_heap.specs.declared.values.Item.TheVariants as item;
+ghost use Rattle.xh_heap.specs.Plans.{IsStarted};
 ghost use Rattle.xh_heap.specs.Teams.{OpensOwn, WiresTo};
-ghost use Rattle.xh_heap.specs.Values.{Answers, Cuts, answered_of, block_back, block_of, end_at, end_back, ends_at, gift, items_back, message_of, plain, rec_at};
-ghost use Rattle.xh_kernel.specs.Accounts.{AccountOf};
+ghost use Rattle.xh_heap.specs.Values.{Answers, Cuts, answered_of, block_of, end_at, end_back, ends_at, gift, message_of, plain, rec_at};
 ghost use Rattle.xh_kernel.specs.Did.{DidAlloc, DidClose, DidFree, DidGive, DidIntoBytes, DidPut, DidRead, DidSplit, DidTake, DidTakeAny, DidWrite};
 ghost use Rattle.xh_kernel.specs.Endings.{Exits, Kills};
 ghost use Rattle.xh_kernel.specs.Lends.{LendsAll, LendsAllMut};
 ghost use Rattle.xh_kernel.specs.Looks.{SeesAll};
-ghost use Rattle.xh_kernel.specs.Waits.{AtLast, AtLastOf, IsNoMemory, SpawnsAt, no_room};
+ghost use Rattle.xh_kernel.specs.Waits.{AtLast, AtLastOf, IsNoMemory, no_room};
 ghost use Rattle.xh_model.specs.declared.limits.TheConstants.{MAX_BUDGET};
 
-use crate::values::{Answered, AsEnd, Block, End, Items, Message, Returned};
+use crate::values::{Answered, AsEnd, Block, End, Load, Message, Returned};
 use std::sync::Wait;
 use std::time::{Clock, Duration};
 use xh_core::{Contract, Refused};
@@ -26,9 +25,9 @@ use xh_kernel::Overview;
 /// dropped the process ends, where it didn't before; whoever waits for a message of it is told PeerClosed then.
 ///
 /// Blocks and ends are values, which the process that has them alone can name; at the handle of another they are NotOwned, also
-/// once their process has ended. Each call but `spawn` is refused Ended once the process is ending or has ended (`exit` once it
-/// has ended), and the first refusal that applies, in the order told at the call. A refusal leaves everything as it was, but
-/// where the call says otherwise; a call that takes a value hands it back.
+/// once their process has ended. Each call but `spawn` and `overview` is refused Ended once the process is ending or has ended
+/// (`exit` once it has ended), and the first refusal that applies, in the order told at the call. A refusal leaves everything as it
+/// was, and hands back a block or an end that the call took, but where the call says otherwise.
 pub trait Process: Drop {
     /// The kernel's parts, and to which places its histories lead.
     ghost parts: { PartsOf };
@@ -51,7 +50,7 @@ pub trait Process: Drop {
     /// A new process, by a handle of its own. NoPlace where 33 handles are there, or each of the 32 places has a process that runs
     /// or is ending, or had its 2,047; nothing else refuses.
     fn spawn(&self) -> Result<Self, Refused>
-        ensures { MatchResult result (λ p. (before : AccountOf) × SpawnsAt parts leads before (handle p).account (Ok (handle p).number)) (λ why. why ≡ NoPlace) };
+        ensures { MatchResult result (λ p. IsStarted parts leads (handle p).number (handle p).account) (λ why. why ≡ NoPlace) };
 
     /// A block of `n` bytes of arena 0, as `alloc_in`.
     fn alloc(&mut self, n: u32) -> Result<Block, Refused>
@@ -63,7 +62,8 @@ pub trait Process: Drop {
     /// A new block of `n` bytes of an arena, counted from 0, rounded up to a multiple of 16, all of them zero.
     ///
     /// NoArena; BadSize where `n` is 0 or more than an arena has; NoRecord where each record of the arena is taken; OutOfMemory
-    /// where a growth was refused; NoSpace where no hole holds so many; Worn where the arena handed out what it ever may.
+    /// where a growth was refused; NoSpace where no hole holds so many; Worn where these bytes would pass what the arena may ever
+    /// hand out.
     fn alloc_in(&mut self, arena: u32, n: u32) -> Result<Block, Refused>
         ensures { Acts (λ p. Answers (DidAlloc parts leads p n arena) (block_of p) result) (handle self.old) (handle self.new) };
 
@@ -163,43 +163,33 @@ pub trait Process: Drop {
     fn wire_with(&mut self, other: &Self, contract: Contract) -> Result<(End, End), Refused>
         ensures { WiresTo parts leads (Some contract) (handle other.now) (handle self.old) (handle self.new) result };
 
-    /// Gives the items by an end, in a message with a tag: they are the receiver's to take. It answers the message's number in
-    /// its direction, counted from 1.
+    /// Gives a block, an end or items by an end, in a message with a tag: they are the receiver's to take. It answers the message's
+    /// number in its direction, counted from 1.
     ///
     /// NotOwned and NotEndpoint of the end; NotOwned of an item, as of a missing one; Twice where an item is the end; Protocol
-    /// where the contract doesn't allow the message, PeerClosed, and Full where as many wait as may: these three hand back the
-    /// items that came back, and name their records.
-    fn give(&mut self, end: &End, tag: u16, load: Items) -> Result<u64, Returned<Items>>
-        ensures call { ActsBy (gift end.now load.items) (λ p g. DidGive leads p g.0 tag g.1 (plain result)) (handle self.old) (handle self.new) }
-        ensures returned { let p = (handle self.old).number in IfErr result (λ e. e.value.items ≡ items_back p e.why load.items) };
-
-    /// As `give`, of one block.
-    fn give_block(
-        &mut self,
-        end: &End,
-        tag: u16,
-        block: Block,
-    ) -> Result<u64, Returned<Option<Block>>>
-        ensures call { ActsBy (gift end.now (item.Block block ∷ [])) (λ p g. DidGive leads p g.0 tag g.1 (plain result)) (handle self.old) (handle self.new) }
-        ensures returned { let p = (handle self.old).number in IfErr result (λ e. e.value ≡ block_back p e.why block) };
+    /// where the contract doesn't allow the message, PeerClosed, and Full where as many wait as may: these three hand back what
+    /// came back, and name its records.
+    fn give<L: Load>(&mut self, end: &End, tag: u16, load: L) -> Result<u64, Returned<L::Back>>
+        ensures call { ActsBy (gift end.now (L.items load)) (λ p g. DidGive leads p g.0 tag g.1 (plain result)) (handle self.old) (handle self.new) }
+        ensures returned { let p = (handle self.old).number in IfErr result (λ e. e.value ≡ L.back p e.why load) };
 
     /// As `give`; where as many messages wait as may, it waits until the peer takes, without a lock, and gives again. It is refused
-    /// Full only with fewer items than were given. In a direction that has carried its last message, 2^62 - 1, it waits on.
-    fn give_wait(&mut self, end: &End, tag: u16, load: Items) -> Result<u64, Returned<Items>>
-        ensures call { ActsBy (gift end.now load.items) (λ p g. AtLast (DidGive leads p g.0 tag g.1) (no_room g.1) (plain result)) (handle self.old) (handle self.new) }
-        ensures waits { let g = gift end.now load.items (handle self.old).number in plain result ≢ no_room g.1 }
-        ensures returned { let p = (handle self.old).number in IfErr result (λ e. e.value.items ≡ items_back p e.why load.items) };
+    /// Full only with less than was given. In a direction that has carried its last message, 2^62 - 1, it waits on.
+    fn give_wait<L: Load>(&mut self, end: &End, tag: u16, load: L) -> Result<u64, Returned<L::Back>>
+        ensures call { ActsBy (gift end.now (L.items load)) (λ p g. AtLast (DidGive leads p g.0 tag g.1) (no_room g.1) (plain result)) (handle self.old) (handle self.new) }
+        ensures waits { let g = gift end.now (L.items load) (handle self.old).number in plain result ≢ no_room g.1 }
+        ensures returned { let p = (handle self.old).number in IfErr result (λ e. e.value ≡ L.back p e.why load) };
 
     /// As `give_wait`; after so long it is refused Full. Where the clock can't be read it waits no longer.
-    fn give_for(
+    fn give_for<L: Load>(
         &mut self,
         end: &End,
         tag: u16,
-        load: Items,
+        load: L,
         time: Duration,
-    ) -> Result<u64, Returned<Items>>
-        ensures call { ActsBy (gift end.now load.items) (λ p g. AtLast (DidGive leads p g.0 tag g.1) (no_room g.1) (plain result)) (handle self.old) (handle self.new) }
-        ensures returned { let p = (handle self.old).number in IfErr result (λ e. e.value.items ≡ items_back p e.why load.items) };
+    ) -> Result<u64, Returned<L::Back>>
+        ensures call { ActsBy (gift end.now (L.items load)) (λ p g. AtLast (DidGive leads p g.0 tag g.1) (no_room g.1) (plain result)) (handle self.old) (handle self.new) }
+        ensures returned { let p = (handle self.old).number in IfErr result (λ e. e.value ≡ L.back p e.why load) };
 
     /// Takes the message that waits longest at an end. Its items are this process's.
     ///
@@ -254,8 +244,9 @@ pub trait Process: Drop {
     fn kill(&mut self, victim: u16) -> Result<u64, Refused>
         ensures { Acts (λ p old new. Kills leads p victim MAX_BUDGET old new result) (handle self.old) (handle self.new) };
 
-    /// All places and all arenas, each as it was at a moment of the call, and what each process waits for. It is never refused,
-    /// also where the process has ended, and takes the lock of no process.
+    /// All arenas, each as it was at a moment of the call; all places, each as a call had left it by then, of which another may be
+    /// under way; and what each process waits for. It is never refused, also where the process has ended, and takes the lock of no
+    /// process.
     fn overview(&mut self) -> Overview
         ensures { Acts (λ _ old new. SeesAll parts old new result) (handle self.old) (handle self.new) };
 }

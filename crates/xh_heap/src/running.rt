@@ -1,12 +1,12 @@
 //! A job's run: a kernel is made, the job works on it, and its books are closed.
-ghost use Rattle.std.specs.Prelude.{◌≡◌, ◌<◌, ◌≤◌, Err, IfOk, vec_len};
+ghost use Rattle.std.specs.Prelude.{◌≡◌, ◌<◌, ◌≤◌, All, Err, IfOk, vec_len};
 ghost use Rattle.xh_kernel.specs.Histories.{IsLaw};
 ghost use Rattle.xh_books.specs.Ledgers.{IsBalanced};
-ghost use Rattle.xh_calls.specs.Parts.{AreMadeBy, PartsOf};
 ghost use Rattle.xh_core.specs.Flight.{AreFlightLines};
-ghost use Rattle.xh_heap.specs.Runs.{AreBooksOf};
+ghost use Rattle.xh_heap.specs.Plans.{IsPlannedAnew, IsStarted};
+ghost use Rattle.xh_heap.specs.Runs.{AreOfKernel, AreOfOneKernel};
 ghost use Rattle.xh_model.specs.Config.{IsConfig};
-ghost use Rattle.xh_model.specs.declared.limits.TheConstants.{GENERATIONS, MAX_RECORDS, MAX_WEAR, MAX_WORKERS, PLACES};
+ghost use Rattle.xh_model.specs.declared.limits.TheConstants.{MAX_RECORDS, MAX_WEAR, PLACES};
 
 use crate::closed::Closed;
 use crate::handle::{Handle, Spares};
@@ -44,7 +44,8 @@ fn hire<'a, 'k, N: Names, R: Wait>(
     spares: &'a Spares<'k, N>,
     count: u8,
 ) -> Result<Vec<Handle<'a, 'k, N, R>>, Refused>
-    ensures { IfOk result (λ all. vec_len all ≡ count) }
+    ensures count { IfOk result (λ all. vec_len all ≡ count) }
+    ensures new { IfOk result (λ all. All (λ p. IsStarted N.parts N.leads p.number p.account.now) all.items) }
 {
     let mut all = Vec::with_capacity(alloc, usize::from(count))?;
     for _ in 0..count {
@@ -62,7 +63,9 @@ fn work_on<'s, 'k, N: Names + Send + Sync, R: Threads + Wait + Clock + Sync, J: 
     count: u8,
     job: &'s J,
 ) -> Result<(J::Plan, Vec<J::Answer>), Refused>
-    ensures { IfOk result (λ worked. vec_len worked.1 ≡ count) }
+    ensures len { IfOk result (λ worked. vec_len worked.1 ≡ count) }
+    ensures answers { IfOk result (λ worked. All (λ a. J.answered a N.parts) worked.1.items) }
+    ensures planned { IfOk result (λ worked. IsPlannedAnew J.planned worked.0 N.parts N.leads count) }
 {
     let spares = Mutex::new(accounts.iter_mut().collect(alloc)?);
     let all = hire(rt, alloc, kernel, &spares, count)?;
@@ -82,7 +85,7 @@ fn run_named<N: Names + Send + Sync, R: Threads + Wait + Clock + Sync, J: Host +
     ensures answers { IfOk result (λ c. vec_len c.answers ≡ count) }
     ensures balanced { IfOk result (λ c. IsBalanced c.books.ledger) }
     ensures lines { IfOk result (λ c. AreFlightLines c.books.ledger.flight c.books.flight.items) }
-    ensures closed { IfOk result (λ c. AreBooksOf N.parts c.books) }
+    ensures closed { IfOk result (λ c. AreOfKernel J.planned J.answered N.parts N.leads count c) }
 {
     let (kernel, mut accounts, looks) = Kernel::<N>::new(alloc, parts)?;
     let worked = work_on(rt, alloc, &kernel, &mut accounts, count, job);
@@ -97,8 +100,8 @@ fn run_named<N: Names + Send + Sync, R: Threads + Wait + Clock + Sync, J: Host +
 
 /// Runs a job by so many processes, 1 to 32, on a heap of its own, and closes the books, once all threads have ended.
 ///
-/// BadSize where the configuration or the count is outside its limits, then what the plan was refused; OutOfMemory where a
-/// growth was refused, or a thread could not be made: no worker begins then.
+/// BadSize where the configuration or the count is outside its limits, then what the plan was refused. OutOfMemory where a growth
+/// was refused before the work, or a thread could not be made: no worker begins then; or at closing, after all work.
 pub fn run<R: Threads + Wait + Clock + Sync, J: Host + Sync>(
     rt: &R,
     alloc: Global,
@@ -110,7 +113,7 @@ pub fn run<R: Threads + Wait + Clock + Sync, J: Host + Sync>(
     ensures answers { IfOk result (λ c. vec_len c.answers ≡ count) }
     ensures balanced { IfOk result (λ c. IsBalanced c.books.ledger) }
     ensures lines { IfOk result (λ c. AreFlightLines c.books.ledger.flight c.books.flight.items) }
-    ensures closed { IfOk result (λ c. (parts : PartsOf) × AreMadeBy config MAX_WORKERS GENERATIONS parts × AreBooksOf parts c.books) }
+    ensures closed { IfOk result (λ c. AreOfOneKernel J.planned J.answered config count c) }
 {
     if count == 0 || count > PLACES {
         return Err(Refused::BadSize);

@@ -1,5 +1,7 @@
 //! The threads of a run: one for each worker, and those that they have started.
-ghost use Rattle.std.specs.Prelude.{◌≡◌, IfOk, vec_len};
+ghost use Rattle.std.specs.Prelude.{◌≡◌, [], All, IfOk, IfSome, List, map, vec_len};
+ghost use Rattle.xh_heap.specs.Handles.{HandleOf};
+ghost use Rattle.xh_heap.specs.Plans.{IsPlanned};
 
 use crate::host::Host;
 use crate::job::Team;
@@ -7,8 +9,9 @@ use crate::process::Process;
 use crate::starter::{Inquiry, Starter};
 use std::alloc::{AllocError, Global};
 use std::array;
+use std::marker::PhantomData;
 use std::sync::{Mutex, Wait};
-use std::thread::{self, JoinHandle, Scope, Threads};
+use std::thread::{self, JoinHandle, Promise, PromisedHandle, Scope, Threads};
 use xh_core::Refused;
 use xh_model::limits::MAX_WORKERS;
 
@@ -16,12 +19,27 @@ use xh_model::limits::MAX_WORKERS;
 // always a slot left.
 type Slots = [Option<JoinHandle<()>>; MAX_WORKERS as usize];
 
+// What a worker's thread promises: its answer came of a work by a process of such a kernel.
+#[derive(Drop)]
+struct Answering<P, J> {
+    process: PhantomData<P>,
+    job: PhantomData<J>,
+}
+
+impl<P: Process, J: Host> Promise<Option<J::Answer>> for Answering<P, J> {
+    ghost kept_by = { λ _ answer. IfSome answer (λ a. J.answered a P.parts) };
+}
+
+// A worker's thread.
+type Worker<P, J> = PromisedHandle<Option<<J as Host>::Answer>, Answering<P, J>>;
+
 // What the threads of a run share.
 #[derive(Drop)]
-struct TaskCrew<'s, P, R, J: Host> {
+struct TaskCrew<'s, P: Process, R, J: Host> {
     rt: &'s R,
     job: &'s J,
     plan: J::Plan,
+    ghost planned: { IsPlanned J.planned plan P.parts },
     starter: Starter<P, J::Task>,
     // Whether each worker has a thread: none works before.
     started: Mutex<bool>,
@@ -31,7 +49,10 @@ impl<'s, P: Process + Send, R: Threads + Wait + Sync, J: Host + Sync> TaskCrew<'
 where
     P::Runtime: Send + Sync,
 {
-    fn new(rt: &'s R, job: &'s J, plan: J::Plan) -> Self {
+    fn new(rt: &'s R, job: &'s J, plan: J::Plan) -> Self
+        requires { IsPlanned J.planned plan P.parts }
+        ensures { result.plan ≡ plan }
+    {
         TaskCrew {
             rt,
             job,
@@ -42,7 +63,9 @@ where
     }
 
     // The work of a process; None where another has no thread.
-    fn work(&self, index: usize, own: P) -> Option<J::Answer> {
+    fn work(&self, index: usize, own: P) -> Option<J::Answer>
+        ensures { IfSome result (λ a. J.answered a P.parts) }
+    {
         let mut own = own;
         if !*self.started.lock(self.rt) {
             return None;
@@ -64,12 +87,16 @@ where
         &'w self,
         scope: &Scope<'w, W>,
         all: Vec<P>,
-        threads: &mut Vec<JoinHandle<Option<J::Answer>>>,
+        threads: &mut Vec<Worker<P, J>>,
     ) -> Result<(), AllocError> {
         let mut all_started = self.started.lock(self.rt);
         for own in all {
             let index = threads.len();
-            threads.push(scope.spawn(move || self.work(index, own))?)?;
+            let promise = Answering {
+                process: PhantomData,
+                job: PhantomData,
+            };
+            threads.push(scope.spawn_with(promise, move || self.work(index, own))?)?;
         }
         *all_started = true;
         Ok(())
@@ -125,7 +152,8 @@ where
         alloc: Global,
         all: Vec<P>,
     ) -> Result<Vec<J::Answer>, AllocError>
-        ensures { IfOk result (λ v. vec_len v ≡ vec_len all) }
+        ensures len { IfOk result (λ v. vec_len v ≡ vec_len all) }
+        ensures answers { IfOk result (λ v. All (λ a. J.answered a P.parts) v.items) }
     {
         let count = all.len();
         let answers = Vec::with_capacity(alloc, count)?;
@@ -143,7 +171,8 @@ where
 
     // What the workers answer, by index. All threads have ended then.
     fn work_all(&self, alloc: Global, all: Vec<P>) -> Result<Vec<J::Answer>, AllocError>
-        ensures { IfOk result (λ v. vec_len v ≡ vec_len all) }
+        ensures len { IfOk result (λ v. vec_len v ≡ vec_len all) }
+        ensures answers { IfOk result (λ v. All (λ a. J.answered a P.parts) v.items) }
     {
         thread::scope(
             thread::scope_env(),
@@ -154,11 +183,14 @@ where
 }
 
 // What those of the workers answered that worked. There is room for it.
-fn join_all<R: Threads, A: Drop>(
+fn join_all<P: Process, R: Threads, J: Host>(
     rt: &R,
-    mut answers: Vec<A>,
-    threads: Vec<JoinHandle<Option<A>>>,
-) -> Vec<A> {
+    mut answers: Vec<J::Answer>,
+    threads: Vec<Worker<P, J>>,
+) -> Vec<J::Answer>
+    requires { answers.items ≡ [] }
+    ensures { All (λ a. J.answered a P.parts) result.items }
+{
     for thread in threads {
         if let Some(answer) = thread.join(rt) {
             let _ = answers.push(answer);
@@ -172,13 +204,21 @@ pub(crate) fn work_by<P: Process + Send, R: Threads + Wait + Sync, J: Host + Syn
     rt: &R,
     alloc: Global,
     job: &J,
-    mut all: Vec<P>,
+    all: Vec<P>,
 ) -> Result<(J::Plan, Vec<J::Answer>), Refused>
 where
     P::Runtime: Send + Sync,
-    ensures { IfOk result (λ worked. vec_len worked.1 ≡ vec_len all) }
+    ensures len { IfOk result (λ worked. vec_len worked.1 ≡ vec_len all) }
+    ensures answers { IfOk result (λ worked. All (λ a. J.answered a P.parts) worked.1.items) }
+    ensures planned { IfOk result (λ worked. (new : List HandleOf) × J.planned worked.0 P.parts (map P.handle all.items) new) }
 {
-    let plan = job.plan(&mut Team { all: &mut all })?;
+    let count = all.len();
+    let mut team = Team { all };
+    let plan = job.plan(&mut team)?;
+    let Team { all } = team;
+    if all.len() != count {
+        return Err(Refused::NoProcess);
+    }
     let crew = TaskCrew::new(rt, job, plan);
     let answers = crew.work_all(alloc, all)?;
     Ok((crew.plan, answers))

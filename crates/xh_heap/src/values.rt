@@ -1,8 +1,9 @@
 //! Blocks and endpoints as values, what messages carry, and what is handed back.
-ghost use Rattle.std.specs.Prelude.{◌≡◌, IfErr, map};
+ghost use Rattle.std.specs.Prelude.{◌≡◌, [], ◌∷◌, IfErr, map};
 ghost use Rattle.std.specs.Result.{result_map_both};
 ghost use Rattle.xh_heap.specs.Values as values;
-ghost use Rattle.xh_heap.specs.Values.{answered_of, block_in, block_of, end_at, end_in, end_of, item_at, item_of, items_back, len_of, message_of, plain, rec_at};
+ghost use Rattle.xh_heap.specs.Values.{answered_of, block_back, block_in, block_of, end_at, end_came, end_in, end_of, item_at, item_of, items_back, len_of, message_of, plain, rec_at};
+ghost use Rattle.xh_heap.specs.declared.values.Item.TheVariants as item;
 
 use arrayvec::ArrayVec;
 use xh_core::{Block as Named, Kind, Refused};
@@ -144,15 +145,93 @@ impl Item {
     }
 }
 
-// The items' records, to a process.
-pub(crate) fn recs_at(p: u16, items: &Items) -> ArrayVec<u16, MAX_BLOCKS>
-    ensures { result.items ≡ map (item_at p) items.now.items }
-{
-    let mut recs = ArrayVec::new();
-    for item in items.as_slice() {
-        recs.push(item.at(p));
+/// What can be given: a block, an end, or items of both kinds.
+pub trait Load: Drop {
+    ghost use Rattle.std.specs.Prelude.{List, ℕ};
+    ghost use Rattle.xh_core.specs.declared.refused.Refused.{Refused};
+    ghost use Rattle.xh_heap.specs.declared.values.Item.{Item};
+
+    /// What a refused give hands back of it.
+    type Back: Drop;
+
+    ghost items: { Self → List Item };
+
+    /// By the process that gave it, and why it was refused.
+    ghost back: { ℕ → Refused → Self → Self.Back };
+
+    /// Its records, to a process.
+    fn recs(&self, p: u16) -> ArrayVec<u16, MAX_BLOCKS>
+        ensures { result.items ≡ map (item_at p) (items self.now) };
+
+    /// What came back.
+    fn returned(self, p: u16, why: &Refused) -> Self::Back
+        ensures { result ≡ back p why.now self };
+}
+
+impl Load for Block {
+    type Back = Option<Block>;
+
+    ghost items = { λ block. item.Block block ∷ [] };
+
+    ghost back = { block_back };
+
+    fn recs(&self, p: u16) -> ArrayVec<u16, MAX_BLOCKS> {
+        let mut recs = ArrayVec::new();
+        recs.push(self.at(p));
+        recs
     }
-    recs
+
+    fn returned(self, p: u16, why: &Refused) -> Option<Block> {
+        if is_back(why, self.at(p)) {
+            Some(self)
+        } else {
+            None
+        }
+    }
+}
+
+impl Load for End {
+    type Back = Option<End>;
+
+    ghost items = { λ end. item.End end ∷ [] };
+
+    ghost back = { end_came };
+
+    fn recs(&self, p: u16) -> ArrayVec<u16, MAX_BLOCKS> {
+        let mut recs = ArrayVec::new();
+        recs.push(self.at(p));
+        recs
+    }
+
+    fn returned(self, p: u16, why: &Refused) -> Option<End> {
+        if is_back(why, self.at(p)) {
+            Some(self)
+        } else {
+            None
+        }
+    }
+}
+
+impl Load for Items {
+    type Back = Items;
+
+    ghost items = { λ load. load.items };
+
+    ghost back = { λ p why load. record { items = items_back p why load.items } };
+
+    fn recs(&self, p: u16) -> ArrayVec<u16, MAX_BLOCKS> {
+        let mut recs = ArrayVec::new();
+        for item in self.as_slice() {
+            recs.push(item.at(p));
+        }
+        recs
+    }
+
+    fn returned(self, p: u16, why: &Refused) -> Items {
+        let mut items = self;
+        items.retain(|item| is_back(why, item.at(p)));
+        items
+    }
 }
 
 /// A message that was taken: its number in its direction, from 1, its tag, and its items, now this process's.
@@ -256,21 +335,20 @@ pub(crate) fn end_back(why: &Refused, end: End) -> Option<End>
     }
 }
 
-// What a give of the items was answered, with those that came back.
-pub(crate) fn given(
+// What a give was answered, with what came back.
+pub(crate) fn given<L: Load>(
     p: u16,
-    items: Items,
+    load: L,
     told: Result<u64, Refused>,
-) -> Result<u64, Returned<Items>>
+) -> Result<u64, Returned<L::Back>>
     ensures call { plain result ≡ told }
-    ensures returned { IfErr result (λ e. e.value.items ≡ items_back p e.why items.items) }
+    ensures returned { IfErr result (λ e. e.value ≡ L.back p e.why load) }
 {
     match told {
         Ok(number) => Ok(number),
         Err(why) => {
-            let mut items = items;
-            items.retain(|item| is_back(&why, item.at(p)));
-            Err(Returned { why, value: items })
+            let value = load.returned(p, &why);
+            Err(Returned { why, value })
         }
     }
 }

@@ -61,7 +61,7 @@ pub fn one(item: Item) -> Items {
 fn messages<P: Process>(one: &mut P, other: &mut P) -> Result<[u64; 8], Refused> {
     let (out, into) = one.wire(other)?;
     let block = one.alloc(16)?;
-    let first = one.give_block(&out, 7, block)?;
+    let first = one.give(&out, 7, block)?;
     let second = one.give(&out, 8, Items::new())?;
     let message = other.take(&into)?;
     let tag = message.tag;
@@ -163,7 +163,7 @@ fn values<P: Process>(own: &mut P, other: &mut P) -> Result<[u64; 8], Refused> {
     let (closed, into) = back(own.close(into))?;
     other.close(into.ok_or(Refused::NotOwned)?)?;
     let mine = own.alloc(32)?;
-    let (lost, mine) = back(own.give_block(&out, 2, mine))?;
+    let (lost, mine) = back(own.give(&out, 2, mine))?;
     Ok([
         read,
         freed,

@@ -93,7 +93,7 @@ fn pass_frame<P: Process>(own: &mut P, other: &mut P, arena: u32) -> Result<bool
     let (out, into) = own.wire(other)?;
     let frame = own.alloc_in(arena, FRAME)?;
     own.write(&frame, FRAME - 1, &[7])?;
-    own.give_block(&out, 1, frame)?;
+    own.give(&out, 1, frame)?;
     let mut head = other.take(&into)?.block()?;
     let tail = other.split(&mut head, 16)?;
     let mut last = [0];

@@ -28,7 +28,7 @@ impl Job for WaitsTwice {
         }
         if index == 1 {
             let block = own.alloc(48)?;
-            own.give_block(out, 1, block)?;
+            own.give(out, 1, block)?;
             own.give(out, 2, Items::new())?;
         }
         Ok([0; 3])

@@ -18,7 +18,7 @@ impl Job for Count {
         if index == 0 {
             let block = own.alloc(64)?;
             own.write(&block, 0, b"to be or not to be")?;
-            own.give_block(&ends.0, 0, block)?;
+            own.give(&ends.0, 0, block)?;
             return Ok(0);
         }
         let block = own.take_wait(&ends.1)?.block()?;

@@ -10,7 +10,7 @@ fn give_round<P: Process>(own: &mut P, out: &End, round: u8) -> Result<(), Refus
         let number = round.wrapping_mul(EACH).wrapping_add(index);
         let frame = own.alloc_wait(0, FRAME)?;
         own.write(&frame, 0, &[number])?;
-        let Err(refused) = own.give_block(out, DATA, frame) else {
+        let Err(refused) = own.give(out, DATA, frame) else {
             continue;
         };
         let Refused::PeerClosed { back: _ } = refused.why else {

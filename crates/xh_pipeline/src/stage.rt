@@ -20,7 +20,7 @@ fn pass<P: Process>(own: &mut P, out: &End, frame: Block) -> Result<(), Refused>
         *first = first.wrapping_add(MARK);
     }
     let frame = own.put_in(1, &mut bytes)?;
-    own.give_block(out, DATA, frame)?;
+    own.give(out, DATA, frame)?;
     Ok(())
 }
 

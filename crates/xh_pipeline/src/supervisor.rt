@@ -3,15 +3,7 @@
 use crate::pipeline::Plan;
 use crate::protocol::{ENDS, LIMIT};
 use crate::stage::Post;
-use xh_heap::{End, Item, Items, Process, Refused, Starter};
-
-// Gives an end to whoever is at the other end of `to`.
-fn give_end<P: Process>(own: &mut P, to: &End, end: End) -> Result<(), Refused> {
-    let mut items = Items::new();
-    items.push(Item::End(end));
-    own.give(to, ENDS, items)?;
-    Ok(())
-}
+use xh_heap::{Process, Refused, Starter};
 
 /// A first stage stands between the producer and the second stage, which are each given their end of a channel to it. It
 /// tells when it hangs; the one after it doesn't.
@@ -33,11 +25,12 @@ pub(crate) fn supervise<P: Process>(
             limit,
         };
         threads.start(stage, post)?;
-        give_end(own, &plan.producer.0, to_stage)?;
-        give_end(own, &plan.second.0, from_stage)?;
+        own.give(&plan.producer.0, ENDS, to_stage)?;
+        own.give(&plan.second.0, ENDS, from_stage)?;
         if own.take_wait(&watched).is_ok() {
             own.kill(number)?;
         }
+        own.close(watched)?;
     }
     Ok(())
 }

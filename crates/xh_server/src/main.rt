@@ -24,7 +24,7 @@ fn ask<P: Process>(own: &mut P, server: &End) -> Result<(), Refused> {
     for byte in 1..4 {
         let block = own.alloc(256)?;
         own.write(&block, 0, &[byte])?;
-        own.give_block(server, 0, block)?;
+        own.give(server, 0, block)?;
         if own.take_wait(server)?.tag != u16::from(byte) {
             break;
         }

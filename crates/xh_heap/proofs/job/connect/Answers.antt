@@ -1,4 +1,4 @@
-use Rattle.std.proofs.Common.{ap, arith, refl, sym, ◌∙◌, ◌<◌, ◌++◌, ◌≢◌, get_or, length}
+use Rattle.std.proofs.Common.{ap, arith, refl, sym, ◌∙◌, ◌<◌, ◌++◌, get_or, length}
 use Rattle.std.proofs.lemmas.List.{set-append_left, set-append_right}
 use Rattle.std.specs.Prelude.{slice_set}
 use Rattle.xh_heap.proofs.Wired.{opened, wired}
