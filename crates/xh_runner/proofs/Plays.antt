@@ -1,11 +1,11 @@
 -- Lemmas on how lines are played, and on which reply is whose.
 use Rattle.xh_runner.proofs.Common.{LAST, NumberedReply, Bool, Line, List, Plays, Processes, Reply, World, [], add-one, ap, append-nil, append_assoc, arith, drop, drop-cons, false}
-use Rattle.xh_runner.proofs.Common.{filter, get_or, if◌then◌else◌, length, map, nat_tests, nil_from_length, part, part_of, refl, set, subst, suc, sym, true, zero, ℕ, ◌++◌, ◌+◌, ◌<◌, ◌==◌}
+use Rattle.xh_runner.proofs.Common.{get_or, if◌then◌else◌, length, nat_tests, nil_from_length, part, part_of, refl, set, subst, suc, sym, true, ℕ, ◌++◌, ◌+◌, ◌<◌, ◌==◌}
 use Rattle.xh_runner.proofs.Common.{◌∙◌, ◌∷◌, ◌≡◌, ◌≤◌}
 use Rattle.std.proofs.Common.{take, ◌≢◌}
 use Rattle.std.specs.List.{AllZip}
 use Rattle.std.proofs.lemmas.List.{Elements.filter_more, get_or-set_other, get_or-set_same}
-use Rattle.xh_runner.specs.Plays.{AllZipFrom, replies_in}
+use Rattle.xh_runner.specs.Plays.{AllZipFrom}
 use Rattle.xh_runner.specs.inner.Tasks.{AreEnough, AreTold}
 
 -- ---- a loop that plays those of the lines that pass a test

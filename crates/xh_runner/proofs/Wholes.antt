@@ -1,15 +1,12 @@
 -- Lemmas on whole runs: what all have played is what the answers tell.
-use Rattle.xh_runner.proofs.Common.{NumberedReply, ArePlayed, Bool, DoesLine, DoesAmong, IsHand, Joins, LAST, Left, Line, List, None, PLACES, PlaceIsDone, Plays, Processes, Reply}
-use Rattle.xh_runner.proofs.Common.{ap, arith, began, began_at, false, get_or, if◌then◌else◌, length, map, nat_tests, number_at, part, process_at, refl, subst, suc, sym, true, world_of, zero, ℕ, ◌+◌, ◌++◌}
+use Rattle.xh_runner.proofs.Common.{NumberedReply, ArePlayed, Bool, DoesLine, DoesAmong, LAST, Line, List, None, PLACES, PlaceIsDone, Plays, Processes, Reply}
+use Rattle.xh_runner.proofs.Common.{ap, arith, began, began_at, false, get_or, if◌then◌else◌, length, map, nat_tests, number_at, part, process_at, refl, subst, suc, sym, true, zero, ℕ, ◌+◌, ◌++◌}
 use Rattle.xh_runner.proofs.Common.{World, [], ◌<◌, ◌==◌, ◌∙◌, ◌∷◌, ◌≡◌, ◌≤◌}
 use Rattle.std.proofs.Math.Dec.{eqb-suc-zero}
 use Rattle.xh_model.specs.declared.row.Row.{Row}
 use Rattle.xh_runner.proofs.Plays.{plays_length, zips_count}
 use Rattle.xh_runner.specs.inner.Tasks.{AreEnough, AreTold}
-use Rattle.xh_runner.specs.declared.crew.Hand.{Hand}
-use Rattle.xh_runner.specs.declared.crew.Hand.TheVariants.{Idle, Works}
 use Rattle.xh_runner.specs.declared.task.Done.{Done}
-use Rattle.xh_runner.specs.declared.task.Crew.{Crew}
 use Rattle.xh_runner.specs.Plays.{AllZipFrom, PlayAll, PlaysPlace, is_placed, line_process, replies_in}
 use Rattle.xh_script.specs.Forms.{is_head}
 use Rattle.xh_session.specs.Questions.{AnswerTo, Question}

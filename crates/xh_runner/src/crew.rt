@@ -14,7 +14,7 @@ use std::sync::{Mutex, Wait};
 use std::thread;
 use std::thread::{Promise, PromisedHandle, Scope, Threads};
 use xh_place::Gate;
-use xh_script::{Fault, Line};
+use xh_script::{Fault, Line, Reply};
 use xh_session::{Machine, Session};
 
 /// That a worker's task is done, or it was stopped.
@@ -37,6 +37,15 @@ enum Hand<'s, 'a, M: Machine, G: Gate> {
     Idle(Done<M>),
 }
 
+// Room for the replies of a place.
+fn room_of<G>(alloc: Global, place: u8, crew: &Crew<'_, G>) -> Result<Vec<Reply>, AllocError>
+    requires { place < PLACES }
+    ensures { IfOk result (λ room. room.items ≡ []) }
+{
+    let own = |line: &&Line| part_of(&crew.ready.processes, line) == place + 1;
+    Vec::with_capacity(alloc, crew.lines.iter().filter(own).count())
+}
+
 // The task of a place, with what the names of its process stand for after the head, and room for its replies.
 fn task<'a, M: Machine, G>(
     alloc: Global,
@@ -48,9 +57,7 @@ fn task<'a, M: Machine, G>(
     requires { (place < PLACES) × (process_at crew.now.ready.now.processes place ≡ Some process) }
     ensures { IfOk result (IsTask M.state crew.now place machine) }
 {
-    let number = place + 1;
-    let own = |line: &&Line| part_of(&crew.ready.processes, line) == number;
-    let room = Vec::with_capacity(alloc, crew.lines.iter().filter(own).count())?;
+    let room = room_of(alloc, place, crew)?;
     let names = crew.ready.of_process(alloc, process)?;
     Ok(Task {
         session: Session {

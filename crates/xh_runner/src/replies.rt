@@ -1,5 +1,5 @@
 //! The replies to the lines of a script, out of those of its parts, and what they tell.
-ghost use Rattle.std.specs.Prelude.{◌≡◌, [], ◌∷◌, ◌++◌, IfOk, map, replicate, suc, vec_len};
+ghost use Rattle.std.specs.Prelude.{◌≡◌, ◌≤◌, [], ◌∷◌, ◌++◌, IfOk, map, replicate, suc, vec_len};
 ghost use Rattle.std.specs.Vec.Iter.{into_iter_items};
 ghost use Rattle.xh_runner.specs.inner.Tasks.{AreEnough, Tells};
 ghost use Rattle.xh_runner.specs.Plays.{AreAnswersTo, LAST, numbers_after, processes_after, told};
@@ -22,18 +22,19 @@ pub(crate) fn parts_of<M: Drop>(
     dones: Vec<Done<M>>,
     last: Vec<Reply>,
 ) -> Result<(Vec<M>, Vec<IntoIter<Reply>>), AllocError>
+    requires { vec_len dones ≤ PLACES }
     ensures machines { IfOk result (λ r. r.0.items ≡ map (λ done. done.machine) dones.items) }
     ensures parts { IfOk result (λ r. map into_iter_items r.1.items ≡ first.items ∷ (map (λ done. done.replies.items) dones.items ++ last.items ∷ [])) }
 {
     let mut machines = Vec::with_capacity(alloc, usize::from(MAX_WORKERS))?;
     let mut parts = Vec::with_capacity(alloc, usize::from(PLACES) + 2)?;
-    parts.push(first.into_iter())?;
+    parts.push_reserved(first.into_iter());
     for done in dones {
         let Done { machine, replies } = done;
-        machines.push(machine)?;
-        parts.push(replies.into_iter())?;
+        machines.push_reserved(machine);
+        parts.push_reserved(replies.into_iter());
     }
-    parts.push(last.into_iter())?;
+    parts.push_reserved(last.into_iter());
     Ok((machines, parts))
 }
 

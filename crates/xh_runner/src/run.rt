@@ -17,13 +17,8 @@ use xh_place::Gate;
 use xh_script::{Fault, Line, Name, NumberedReply, Reply, Script};
 use xh_session::{Bindings, Machine, Processes, Session};
 
-/// What a run leaves: the machines, the replies, and the name of the latest process of each place.
-#[derive(Drop)]
-pub(crate) struct Remains<M> {
-    pub(crate) machines: Vec<M>,
-    pub(crate) answers: Vec<NumberedReply>,
-    pub(crate) names: Vec<Name>,
-}
+/// The replies, and the name of the latest process of each place.
+pub(crate) type Played = (Vec<NumberedReply>, Vec<Name>);
 
 // Does the lines of a part in order.
 #[tactic(auto, using(crate::proofs::Plays::plays_own, crate::proofs::Plays::plays_other))]
@@ -36,12 +31,12 @@ fn run_part<'a, M: Machine>(
 ) -> Result<Vec<Reply>, AllocError>
     ensures { IfOk result (λ r. Plays (DoesLine M.did) (world_of M.state head.old) (part processes.now number lines.now) r.items (world_of M.state head.new)) }
 {
-    let mut replies = Vec::new(alloc);
+    let mut replies = Vec::with_capacity(alloc, lines.len())?;
     for line in lines {
         if part_of(processes, line) != number {
             continue;
         }
-        replies.push(head.step(alloc, &line.command))?;
+        replies.push_reserved(head.step(alloc, &line.command));
     }
     Ok(replies)
 }
@@ -71,7 +66,7 @@ fn play_all<M: Machine + Send, R: Threads + Wait + Sync, G: Gate + Sync>(
 }
 
 /// Runs a script with the first machine for the head and, at the end, for the processes without a place, and the others
-/// for the processes that have one, each in a thread of its own.
+/// for the processes that have one, each in a thread of its own: the machines, and what was played.
 ///
 /// Memory where a growth outside the commands was refused, or a thread; Gate where the gate stopped a worker. Where
 /// workers wait for messages that nobody gives, it doesn't end.
@@ -81,11 +76,11 @@ pub(crate) fn run_on<M: Machine + Send, R: Threads + Wait + Sync, G: Gate + Sync
     mut machines: Vec<M>,
     script: &Script,
     gate: &G,
-) -> Result<Remains<M>, Fault>
+) -> Result<(Vec<M>, Played), Fault>
     requires { vec_len machines ≡ MAX_WORKERS }
-    ensures played { IfOk result (λ o. PlayScript M.state M.did script.now o.answers.items machines.items o.machines.items) }
-    ensures answers { IfOk result (λ o. AreAnswersTo script.now.lines.items o.answers.items) }
-    ensures names { IfOk result (λ o. HasNames script.now.processes.items script.now.lines.items o.answers.items o.names.items × (length o.names.items ≡ PLACES)) }
+    ensures played { IfOk result (λ o. PlayScript M.state M.did script.now o.1.0.items machines.items o.0.items) }
+    ensures answers { IfOk result (λ o. AreAnswersTo script.now.lines.items o.1.0.items) }
+    ensures names { IfOk result (λ o. HasNames script.now.processes.items script.now.lines.items o.1.0.items o.1.1.items × (length o.1.1.items ≡ PLACES)) }
     ensures stopped { IfErr result (MayStop G.always) }
 {
     let mut head = Session {
@@ -100,9 +95,5 @@ pub(crate) fn run_on<M: Machine + Send, R: Threads + Wait + Sync, G: Gate + Sync
     machines.insert(0, machine)?;
     let processes = latest(lines, answers.as_slice());
     let names = processes.by_place(alloc, &script.processes)?;
-    Ok(Remains {
-        machines,
-        answers,
-        names,
-    })
+    Ok((machines, (answers, names)))
 }

@@ -13,7 +13,7 @@ ghost use Rattle.xh_script.specs.declared.limits.TheConstants.{MAX_SCRIPT};
 ghost use Rattle.xh_session.specs.Ends.{Done, Stopped};
 ghost use Rattle.xh_session.specs.Reading.{ReadsAtMost};
 
-use crate::run::{Remains, run_on};
+use crate::run::{Played, run_on};
 use crate::worker::{hire, leave_all};
 use std::alloc::Global;
 use std::io::{Read, Write};
@@ -26,11 +26,8 @@ use xh_kernel::{Account, Kernel, Look, Names, Parts};
 use xh_model::limits::MAX_WORKERS;
 use xh_place::{Gate, OpenGate};
 use xh_script::limits::is_in_script_limits;
-use xh_script::{Fault, Name, NumberedReply, Script, Watched};
+use xh_script::{Fault, Script, Watched};
 use xh_session::{Report, RunOptions, read_input, write_report};
-
-// The replies, and the name of the latest process of each place.
-type Played = (Vec<NumberedReply>, Vec<Name>);
 
 // Runs a script with a worker for each account: what was played, and what the workers had of their own.
 fn run_script<N: Names + Send + Sync, R: Threads + Wait + Sync, G: Gate + Sync>(
@@ -51,13 +48,9 @@ fn run_script<N: Names + Send + Sync, R: Threads + Wait + Sync, G: Gate + Sync>(
     ensures stopped { IfErr result (MayStop G.always) }
 {
     let workers = hire(rt, alloc, kernel, gate, accounts, looks)?;
-    let Remains {
-        machines,
-        answers,
-        names,
-    } = run_on(rt, alloc, workers, script, gate)?;
+    let (machines, played) = run_on(rt, alloc, workers, script, gate)?;
     let (accounts, looks) = leave_all(alloc, machines)?;
-    Ok(((answers, names), accounts, looks))
+    Ok((played, accounts, looks))
 }
 
 // Runs a script over a kernel that is made of the parts, settles it and closes its books.

@@ -1,6 +1,5 @@
 -- What the workers of a run on threads do, and where their replies go.
-use Rattle.std.specs.Prelude.{◌≡◌, ◌<◌, ◌≤◌, suc, if◌then◌else◌, Bool, ℕ, List, [], get_or, length, map, MatchResult, None, Result}
-use Rattle.xh_model.specs.declared.limits.TheConstants.{PLACES}
+use Rattle.std.specs.Prelude.{◌≡◌, ◌≤◌, suc, if◌then◌else◌, Bool, ℕ, List, [], get_or, length, map, MatchResult, Result}
 use Rattle.xh_model.specs.declared.row.Row.{Row}
 use Rattle.xh_runner.specs.declared.crew.Hand.{Hand}
 use Rattle.xh_runner.specs.declared.crew.Hand.TheVariants.{Works, Idle}
@@ -14,7 +13,7 @@ use Rattle.xh_script.specs.declared.replies.NumberedReply.{NumberedReply}
 use Rattle.xh_script.specs.declared.replies.Reply.{Reply}
 use Rattle.xh_script.specs.declared.script.Script.{Script}
 use Rattle.xh_session.specs.declared.bindings.Bindings.{Bindings}
-use Rattle.xh_session.specs.Bindings.{process_at, renumbered}
+use Rattle.xh_session.specs.Bindings.{renumbered}
 use Rattle.xh_session.specs.declared.bindings.Processes.{Processes}
 use Rattle.xh_session.specs.declared.session.Session.{Session}
 use Rattle.xh_session.specs.Plans.{World, world_of}

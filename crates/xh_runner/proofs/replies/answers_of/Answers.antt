@@ -1,4 +1,4 @@
-use Rattle.xh_runner.proofs.Common.{List, NumberedReply, Reply, [], ap, append-nil, append_assoc, arith, drop, get_or, into_iter_items, length, length-map, map, refl, set, sym, ◌++◌, ◌+◌, ◌<◌, ◌∙◌, ◌∷◌, ◌≡◌, ℕ}
+use Rattle.xh_runner.proofs.Common.{List, NumberedReply, Reply, [], ap, append-nil, append_assoc, arith, drop, get_or, into_iter_items, length, length-map, map, refl, set, sym, ◌+◌, ◌<◌, ◌∙◌, ◌∷◌, ◌≡◌, ℕ}
 use Rattle.std.proofs.Common.{rules}
 use Rattle.std.proofs.lemmas.List.{drop_all, drop_more, get_or-map, map-set, nil_from_length}
 use Rattle.xh_runner.specs.Plays.{part_of}

@@ -5,6 +5,18 @@ use Rattle.xh_runner.specs.Plays.{PlayAll, began}
 use Rattle.xh_runner.specs.inner.Tasks.{AreEnough, AreTold}
 use Rattle.xh_runner.proofs.run.play_all.Goals as goal
 
+pub parts_of-requires : goal.parts_of-requires
+parts_of-requires g c =
+    let ready = world_of g.M.Machine.state c.run_part.new.head in
+    let dones = c.in_ok-dones.dones in
+    omega (
+      arith,
+      zips_count (PlaceIsDone g.M.Machine.state g.M.Machine.did ready.names ready.contracts c.args.lines.now) 0 c.args.machines.items dones.items c.in_ok-dones.ensures,
+      c.args.machines.ok,
+      dones.ok,
+      c.requires.count,
+    )
+
 pub answers_of-requires : goal.answers_of-requires
 answers_of-requires g c =
     let state = g.M.Machine.state in

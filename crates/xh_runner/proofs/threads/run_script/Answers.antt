@@ -1,4 +1,4 @@
-use Rattle.std.proofs.Common.{◌≡◌, ◌∙◌, All, ap, arith, map, subst, sym, vec_len}
+use Rattle.std.proofs.Common.{◌≡◌, ◌∙◌, All, arith, map, subst, sym}
 use Rattle.std.proofs.lemmas.List.{length-map}
 use Rattle.xh_history.specs.Histories.{fresh_look}
 use Rattle.xh_kernel.specs.Accounts.{AreFresh}
@@ -10,7 +10,7 @@ use Rattle.xh_runner.proofs.threads.run_script.Goals as goal
 pub returns-clause-played : goal.returns-clause-played
 returns-clause-played g c =
     let parts = g.N.Names.parts in
-    let machines = c.in_ok-machines.field-0.machines.items in
+    let machines = c.in_ok-machines.machines.items in
     let workers = c.in_ok-workers.workers.items in
     let accounts = map_twice (λ w. w.account) (λ w. record { account = w.account; look = w.look }) workers ∙ c.in_ok-workers.ensures.accounts in
     let looks = map_twice (λ w. w.look) (λ w. record { account = w.account; look = w.look }) workers ∙ c.in_ok-workers.ensures.looks in record {
@@ -37,17 +37,16 @@ returns-clause-answers g c = record {
 pub returns-clause-count : goal.returns-clause-count
 returns-clause-count g c =
     let count = played_count (did g.N.Names.parts g.N.Names.leads) c.args.script.now.contracts.items c.args.script.now.lines.items
-    c.in_ok-machines.field-0.answers.items _ _ c.in_ok-machines.ensures.played in
+    c.in_ok-machines.played.0.items _ _ c.in_ok-machines.ensures.played in
     let olds = length-map {B = WorkerState} c.in_ok-workers.workers.items (λ w. record { account = w.account; look = w.look }) in
-    let news = length-map {B = WorkerState} c.in_ok-machines.field-0.machines.items (λ w. record { account = w.account; look = w.look }) in
+    let news = length-map {B = WorkerState} c.in_ok-machines.machines.items (λ w. record { account = w.account; look = w.look }) in
     omega (
       arith,
       count,
       olds,
       news,
       c.in_ok-workers.workers.ok,
-      c.in_ok-machines.field-0.machines.ok,
-      ap (λ v. vec_len v) c.in_ok-machines.machines-is,
+      c.in_ok-machines.machines.ok,
       c.in_ok-workers.ensures.count,
       c.in_ok-accounts.ensures.count.0,
       c.requires.accounts.0,
