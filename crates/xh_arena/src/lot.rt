@@ -85,7 +85,7 @@ pub(crate) fn lots<B: Default + Drop>(
             body: B::default(),
             share: shares.split(),
         };
-        all.push_reserved(lot);
+        all.push(lot)?;
     }
     Ok(all)
 }

@@ -64,7 +64,7 @@ pub(crate) fn tallies(
             back: 0,
             share: shares.split(),
         };
-        all.push_reserved(tally);
+        all.push(tally)?;
     }
     Ok(all)
 }
