@@ -1,73 +1,69 @@
-//! What the workers of a round share besides the kernel: words of several kinds, by where those of a kind begin.
+//! What the threads of a round share beside the heap: words of several kinds, by where those of a kind begin.
 use std::alloc::{AllocError, Global};
 use std::sync::atomic::AtomicU64;
 use std::sync::atomic::Ordering::SeqCst;
-use xh_model::limits::{PLACES, USUAL_GENERATIONS};
 
-/// So many places of blocks and of ends are known to all workers.
-pub(crate) const HINTS: u16 = 64;
+/// Which processes somebody meant to end, by number.
+pub(crate) const AIMED_AT: u32 = 0;
 
-/// Where the words of each kind begin: the process that each worker started last, of which process it waits
-/// without end, and whether the first worker is there.
-pub(crate) const OWN: u16 = 0;
+/// Where each block is, by the number that it is stamped with: 1 more than its process's number, or as `sent` says; 0 once it
+/// has gone.
+pub(crate) const WHERE: u32 = 65_536;
 
-pub(crate) const WAITS: u16 = 16;
+/// How many messages were given to each end and taken there, by its name.
+pub(crate) const GIVEN: u32 = 131_072;
 
-pub(crate) const IS_THERE: u16 = 32;
+pub(crate) const TAKEN: u32 = 196_608;
 
-/// Where blocks and ends were seen, some of which are there no more.
-pub(crate) const BLOCKS: u16 = 64;
+/// How many blocks were stamped and channels opened; and how many words there are in all.
+pub(crate) const BLOCKS: u32 = 262_144;
 
-pub(crate) const ENDS: u16 = 128;
+pub(crate) const CHANNELS: u32 = 262_145;
 
-/// At the end how many blocks each place holds, and which records have an owner.
-pub(crate) const HELD: u16 = 192;
+pub(crate) const WORDS: u32 = 262_210;
 
-pub(crate) const OWNED: u16 = 256;
+/// How often each call was answered Ok.
+pub(crate) const OK: u32 = 262_146;
 
-/// More processes than a round starts.
-pub(crate) const PROCESSES: u16 = PLACES as u16 * USUAL_GENERATIONS;
+/// No process is at a block, where its word is no less.
+pub(crate) const SENT: u64 = 1 << 62;
 
-/// Which processes have started, and which of them somebody meant to end.
-pub(crate) const STARTED: u16 = 4096;
+/// A block is in flight, as that one of so many of the next message to an end of this name, to which so many were given.
+pub(crate) fn sent(to: u16, given: u64, at: usize, count: usize) -> u64 {
+    let message = u64::from(to).wrapping_mul(1 << 32).wrapping_add(given);
+    let block = (at as u64).wrapping_mul(16).wrapping_add(count as u64);
+    SENT.wrapping_add(message.wrapping_mul(256).wrapping_add(block))
+}
 
-pub(crate) const AIMED_AT: u16 = 8192;
-
-/// The blocks of each message, by its tag.
-pub(crate) const MESSAGES: u16 = 16_384;
-
-/// Words that all workers read and write, 0 at first.
+/// Words that all threads read and write, 0 at first.
 #[derive(Drop)]
 pub(crate) struct Slate(Vec<AtomicU64>);
 
 impl Slate {
-    pub(crate) fn new(alloc: Global) -> Result<Slate, AllocError> {
-        let mut words = Vec::with_capacity(alloc, 32_768)?;
-        for _ in 0..32_768 {
+    pub(crate) fn new(alloc: Global, count: u32) -> Result<Slate, AllocError> {
+        let mut words = Vec::with_capacity(alloc, count as usize)?;
+        for _ in 0..count {
             words.push(AtomicU64::new(0))?;
         }
         Ok(Slate(words))
     }
 
-    pub(crate) fn get(&self, kind: u16, at: u16) -> u64 {
-        let word = self.0.get(usize::from(kind.wrapping_add(at)));
-        word.map_or(0, |word| word.load(SeqCst))
+    fn word(&self, kind: u32, at: u16) -> Option<&AtomicU64> {
+        self.0.get(kind.wrapping_add(u32::from(at)) as usize)
     }
 
-    /// It answers what stood there before.
-    pub(crate) fn set(&self, kind: u16, at: u16, value: u64) -> u64 {
-        let word = self.0.get(usize::from(kind.wrapping_add(at)));
-        word.map_or(0, |word| word.swap(value, SeqCst))
+    pub(crate) fn get(&self, kind: u32, at: u16) -> u64 {
+        self.word(kind, at).map_or(0, |word| word.load(SeqCst))
     }
 
-    /// A process and a record that was seen, if one stands there.
-    pub(crate) fn seen(&self, kind: u16, at: u16) -> Option<(u16, u16)> {
-        let seen = self.get(kind, at);
-        let p = (seen / 65_536).checked_sub(1)?;
-        Some(((p % 65_536) as u16, (seen % 65_536) as u16))
+    /// It answers what stood there before, as `add` does, which adds so much.
+    pub(crate) fn set(&self, kind: u32, at: u16, value: u64) -> u64 {
+        self.word(kind, at)
+            .map_or(0, |word| word.swap(value, SeqCst))
     }
 
-    pub(crate) fn see(&self, kind: u16, at: u16, p: u16, r: u16) {
-        self.set(kind, at, (u64::from(p) + 1) * 65_536 + u64::from(r));
+    pub(crate) fn add(&self, kind: u32, at: u16, more: u64) -> u64 {
+        self.word(kind, at)
+            .map_or(0, |word| word.fetch_add(more, SeqCst))
     }
 }

@@ -1,22 +1,25 @@
-//! Rounds of random calls of the heap on threads, each by its seed: what no script says.
+//! Rounds of a user's program on the heap, which does at random, by a seed, all that such a program can do.
 //!
-//! `xh_soak SEED ROUNDS` plays so many rounds, the first by this seed and each by the next one. In a round 2 to 16 workers on
-//! threads do calls of any of the processes, several of one at once: they name processes and records that are another's or
-//! nobody's, write in place, take and take at several endpoints until a time, and give and alloc until a time or without end. Each refusal
-//! has to be one that may be; a message comes once, with its blocks; the bytes of a block are of its own group of processes; and
-//! at the end each block is one process's, and the ledger what was counted. The first round that goes wrong is the last, and the
-//! status is 1. With a third word, `scarce`, a growth of memory may be refused, as tools/refuse_growth.c does it.
+//! `xh_soak SEED ROUNDS` plays so many rounds, the first by this seed and each by the next one. In a round 1 to 8 workers, and
+//! processes that they start on threads, make, cut, put, give, take, free and close: each block has a stamp at both ends, and is
+//! where a table says; messages come in order, without a gap, with what they were given; whoever waits without an end waits for
+//! what comes, so a round that doesn't end is wrong too; each refusal is one that may be, and none comes before its time; and once
+//! all have ended nothing is owned or in flight. The first round that goes wrong is the last, and the status is 1. With a third
+//! word, `scarce`, a growth of memory may be refused, as tools/refuse_growth.c does it. At last it tells how often each call was
+//! answered Ok; where 20 rounds or more have left one out, that is wrong.
 #![tactic(auto)]
 
-mod audit;
+mod actor;
+mod blocks;
 mod board;
-mod caller;
+mod messages;
 mod plan;
 mod round;
-mod worker;
+mod tasks;
 
+use crate::board::Slate;
 use crate::plan::RoundPlan;
-use crate::round::play_round;
+use crate::round::{CALLS, play};
 use std::env;
 use std::process::ExitCode;
 
@@ -29,21 +32,26 @@ fn main(rt: HostRuntime) -> ExitCode {
         let _ = eprintln!(rt; "usage: xh_soak SEED ROUNDS [scarce]");
         return ExitCode::from(2);
     };
-    let (is_scarce, mut taken) = (words.next().is_some(), 0u64);
+    let is_scarce = words.next().is_some();
+    let Ok(counts) = Slate::new(rt.alloc(), 64) else {
+        return ExitCode::from(3);
+    };
     for round in 0..rounds {
         let seed = first.wrapping_add(round);
-        let what = match play_round(&rt, rt.alloc(), RoundPlan::new(seed, is_scarce)) {
-            Ok(Ok(more)) => {
-                taken = taken.saturating_add(more);
-                continue;
-            }
+        let wrong = match play(&rt, rt.alloc(), RoundPlan::new(seed, is_scarce), &counts) {
+            Ok("") => continue,
             Err(_refused) if is_scarce => continue,
-            Ok(Err(what)) => what,
+            Ok(wrong) => wrong,
             Err(refused) => refused.name(),
         };
-        let _ = eprintln!(rt; "xh_soak: seed {seed}: {what}");
+        let _ = eprintln!(rt; "xh_soak: seed {seed}: {wrong}");
         return ExitCode::FAILURE;
     }
-    let _ = eprintln!(rt; "xh_soak: {taken} messages were taken");
-    ExitCode::from(u8::from(rounds >= 20 && taken == 0))
+    let mut is_short = false;
+    for (at, call) in CALLS.split(' ').enumerate() {
+        let count = counts.get(0, (at % 65_536) as u16);
+        is_short |= count == 0;
+        let _ = eprintln!(rt; "{call} {count}");
+    }
+    ExitCode::from(u8::from(rounds >= 20 && is_short && !is_scarce))
 }
