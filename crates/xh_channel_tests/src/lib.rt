@@ -1,9 +1,7 @@
-//! Channels and lines, talks by a contract and the plain machine, by their public calls.
+//! Channels and lines, and the plain machine, by their public calls.
 #![tactic(auto)]
 
 #[cfg(test)]
 mod channels;
 #[cfg(test)]
 mod plain;
-#[cfg(test)]
-mod talks;

@@ -75,50 +75,6 @@ fn plain_events(rt: HostRuntime) {
     assert_on(&rt, rt.alloc(), config, ROWS);
 }
 
-/// A list of events ends where its steps end, refused ones among them.
-#[test]
-fn a_list_of_events(rt: HostRuntime) {
-    const EVENTS: &[Event] = &[
-        Event::Claim(7, 2),
-        Event::Claim(8, 2),
-        Event::Carve(8, 2, 16),
-        Event::Carve(7, 2, 16),
-        Event::Pass(7, 2, 5),
-    ];
-    let mut plain = Plain::new(rt.alloc(), TWO_ARENAS).expect(&rt, "room");
-    plain.run(EVENTS);
-    assert!(rt; is_held(&plain, 2, Holder::Direction(5)));
-}
-
-/// One process has all of eight arenas, each of the most bytes, in one block; another takes them over, and gives them back.
-#[test]
-fn the_largest_heap(rt: HostRuntime) {
-    const MOST: u32 = 134_217_728;
-    let config = Config {
-        arenas: 8,
-        bytes: MOST,
-        records: 2,
-        depth: 16,
-        wear: u64::from(MOST),
-    };
-    let mut plain = Plain::new(rt.alloc(), config).expect(&rt, "room");
-    for arena in 0..8u16 {
-        let r = arena.wrapping_mul(256);
-        let next = r.wrapping_add(1);
-        let rows = [
-            Row::Done(Event::Claim(0, r)),
-            Row::Done(Event::Carve(0, r, MOST)),
-            Row::Done(Event::Claim(0, next)),
-            Row::Refused(Event::Carve(0, next, 16)),
-            Row::Done(Event::Pass(0, r, 127)),
-            Row::Done(Event::Accept(31, r, 127)),
-            Row::Done(Event::GiveBack(31, r)),
-            Row::Refused(Event::Carve(0, next, 16)),
-        ];
-        assert_rows(&rt, &mut plain, &rows);
-    }
-}
-
 /// A new machine of a Config, and where a growth was refused, the one of the same call made again.
 fn grown(rt: &impl Abort, alloc: Global, config: Config) -> Plain {
     match Plain::new(alloc, config) {

@@ -3,13 +3,12 @@ ghost use Rattle.std.specs.Prelude.{◌≡◌, ◌<◌, All, IfOk, length, vec_l
 ghost use Rattle.xh_kernel.specs.Histories.{IsLaw};
 ghost use Rattle.xh_model.specs.declared.limits.TheConstants.{PLACES};
 
-use crate::points::Points;
 use std::alloc::{AllocError, Global};
 use std::marker::Brand;
 use std::sync::Wait;
 use xh_books::close_kernel;
 use xh_core::Config;
-use xh_kernel::{Account, Kernel, Look, Names, Parts};
+use xh_kernel::{Account, Kernel, Look, Names, OpenGate, Parts};
 use xh_runner::{Machine, Report, hire, leave_all};
 use xh_script::{Fault, Name, NumberedReply, Script};
 use xh_session::{Bindings, Session};
@@ -17,26 +16,16 @@ use xh_session::{Bindings, Session};
 // The replies, and the name of the latest process of each place.
 type RepliesAndNames = (Vec<NumberedReply>, Vec<Name>);
 
-/// The machine, the replies, and the name of the latest process of each place.
-#[derive(Drop)]
-struct PlayedCalls<M> {
-    machine: M,
-    answers: Vec<NumberedReply>,
-    names: Vec<Name>,
-}
-
-// Does the commands of all lines: the replies, and the name of the latest process of each place.
+// Does the commands of all lines.
 fn answer_all<M: Machine>(
     alloc: Global,
     session: &mut Session<'_, M>,
     script: &Script,
-    points: &Points,
 ) -> Result<RepliesAndNames, AllocError>
     ensures { IfOk result (λ r. length r.1.items ≡ PLACES) }
 {
     let mut answers = Vec::with_capacity(alloc, script.lines.len())?;
     for line in &script.lines {
-        points.begin(line.number);
         let reply = session.step(alloc, &line.command);
         answers.push(NumberedReply {
             line: line.number,
@@ -47,32 +36,22 @@ fn answer_all<M: Machine>(
     Ok((answers, names))
 }
 
-// Plays the script on a machine.
+// Plays the script on a machine, which it leaves.
 fn play_on<M: Machine>(
     alloc: Global,
     machine: M,
     script: &Script,
-    points: &Points,
-) -> Result<PlayedCalls<M>, AllocError>
-    ensures { IfOk result (λ played. length played.names.items ≡ PLACES) }
+) -> Result<(RepliesAndNames, M), AllocError>
+    ensures { IfOk result (λ played. length played.0.1.items ≡ PLACES) }
 {
     let mut session = Session {
         machine,
         names: Bindings::new(alloc)?,
         contracts: &script.contracts,
     };
-    let answered = answer_all(alloc, &mut session, script, points);
-    let Session {
-        machine,
-        names: _,
-        contracts: _,
-    } = session;
-    let (answers, names) = answered?;
-    Ok(PlayedCalls {
-        machine,
-        answers,
-        names,
-    })
+    let answered = answer_all(alloc, &mut session, script);
+    let Session { machine, .. } = session;
+    Ok((answered?, machine))
 }
 
 // Plays the script by the one worker of a kernel.
@@ -83,22 +62,17 @@ fn play_by_worker<N: Names, R: Wait>(
     accounts: Vec<Account<N>>,
     looks: Vec<Look>,
     script: &Script,
-    points: &Points,
 ) -> Result<(RepliesAndNames, Vec<Account<N>>, Vec<Look>), AllocError>
     requires count { (vec_len accounts ≡ 1) × (vec_len looks ≡ 1) }
     requires own { All (λ l. l.table ≡ N.parts.histories) looks.items }
     ensures count { IfOk result (λ r. (vec_len r.1 ≡ 1) × (length r.0.1.items ≡ PLACES)) }
     ensures own { IfOk result (λ r. All (λ l. l.table ≡ N.parts.histories) r.2.items) }
 {
-    let mut workers = hire(rt, alloc, kernel, points, accounts, looks)?;
-    let PlayedCalls {
-        machine,
-        answers,
-        names,
-    } = play_on(alloc, workers.remove(0), script, points)?;
-    workers.push(machine)?;
+    let mut workers = hire(rt, alloc, kernel, &OpenGate, accounts, looks)?;
+    let (played, worker) = play_on(alloc, workers.remove(0), script)?;
+    workers.push(worker)?;
     let (accounts, looks) = leave_all(alloc, workers)?;
-    Ok(((answers, names), accounts, looks))
+    Ok((played, accounts, looks))
 }
 
 // Plays the script on a kernel of these parts.
@@ -107,7 +81,6 @@ fn play_parts<N: Names, R: Wait>(
     alloc: Global,
     parts: Parts,
     script: &Script,
-    points: &Points,
 ) -> Result<Report, Fault>
     requires names { parts ≡ N.parts }
     requires law { IsLaw N.parts N.leads }
@@ -118,7 +91,7 @@ fn play_parts<N: Names, R: Wait>(
         Ok(made) => made,
         Err(_refused) => return Err(Fault::Memory),
     };
-    let played = play_by_worker(rt, alloc, &kernel, accounts, looks, script, points);
+    let played = play_by_worker(rt, alloc, &kernel, accounts, looks, script);
     let ((answers, names), books) = close_kernel(alloc, kernel, played)?;
     Ok(Report {
         answers,
@@ -135,12 +108,11 @@ pub(crate) fn play_calls<R: Wait>(
     alloc: Global,
     script: &Script,
     config: Config,
-    points: &Points,
 ) -> Result<Report, Fault>
     ensures { IfOk result (λ r. All (λ line. line.place < length r.names.items) r.ledger.places.items) }
 {
     match Parts::new(alloc, config, 1) {
-        Ok(parts) => play_parts::<Brand, R>(rt, alloc, parts, script, points),
+        Ok(parts) => play_parts::<Brand, R>(rt, alloc, parts, script),
         Err(_refused) => Err(Fault::Memory),
     }
 }

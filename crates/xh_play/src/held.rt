@@ -129,8 +129,8 @@ fn of_command(place: u8, command: u32, answers: u32) -> StepAt {
     }
 }
 
-/// The code of a point.
-pub(crate) fn code_of(point: Point) -> u32 {
+// The code of a point.
+fn code_of(point: Point) -> u32 {
     match point {
         Point::Claimed => 0,
         Point::Passed => 1,
@@ -139,11 +139,6 @@ pub(crate) fn code_of(point: Point) -> u32 {
         Point::Shut => 4,
         Point::Returned => 5,
     }
-}
-
-/// The word of a point's code.
-pub(crate) fn word_of(code: u32) -> &'static str {
-    STEPS.get(code as usize).copied().unwrap_or("")
 }
 
 /// A command has come once it goes on, a point when it is reached: so one may wait for the other.

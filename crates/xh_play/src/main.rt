@@ -1,9 +1,7 @@
-//! Plays a script in the ways that `xheap` hasn't: all lines by the calls of one worker of a kernel, in their order; the
-//! same, and then a line for each point at which a call stopped for its gate: the line, the place, the point; or on threads,
-//! some of which wait in the middle of their calls for others.
+//! Plays a script in the ways that `xheap` hasn't: all lines by the calls of one worker of a kernel, in their order; or on
+//! threads, some of which wait in the middle of their calls for others.
 //!
 //!     xh_play calls [OPTION]..
-//!     xh_play points [OPTION]..
 //!     xh_play held [STEP STEP].. [OPTION]..
 //!
 //! The options, what is written, and the statuses are those of `xheap`. In each pair the first step waits for the second:
@@ -12,7 +10,6 @@
 
 mod calls;
 mod held;
-mod points;
 mod run;
 
 use crate::run::{NAME, run_main};

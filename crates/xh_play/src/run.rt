@@ -3,7 +3,6 @@ ghost use Rattle.std.specs.Prelude.{◌<◌, All, IfOk, length};
 
 use crate::calls::play_calls;
 use crate::held::Holds;
-use crate::points::Points;
 use std::alloc::Global;
 use std::io::{Read, Write};
 use std::sync::Wait;
@@ -20,7 +19,7 @@ pub(crate) const NAME: &str = "xheap";
 const PROGRAM: Program<'static> = Program {
     name: NAME,
     about: "Plays a script in the ways that xheap hasn't.",
-    detail: "calls: by one worker of a kernel. points: its points too. held STEP STEP..: on threads, each first step held until the second.",
+    detail: "calls: by one worker of a kernel. held STEP STEP..: on threads, each first step held until the second.",
     serial: "Changes nothing",
     flight: "Writes what is in flight",
     closing: "",
@@ -56,18 +55,13 @@ fn play<T: Threads + Wait + Sync, R: Read, W: Write>(
 ) -> Result<(), Fault> {
     let script = read_input(alloc, options.config, reader)?.script;
     let config = options.config;
-    let points = Points::new();
     let (first, steps) = way.split_first().ok_or(Fault::Gate)?;
     let report = match first.as_str() {
-        "calls" | "points" => play_calls(rt, alloc, &script, config, &points)?,
+        "calls" => play_calls(rt, alloc, &script, config)?,
         "held" => play_held(rt, alloc, &script, config, steps)?,
         _ => return Err(Fault::Gate),
     };
-    write_report(out, &report, options.flight)?;
-    if first.as_str() == "points" {
-        points.write(alloc, out)?;
-    }
-    Ok(())
+    write_report(out, &report, options.flight)
 }
 
 /// The program: its words (the first is its own name), its input and its outputs; the answer is its status.

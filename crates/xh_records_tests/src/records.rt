@@ -12,11 +12,11 @@ use std::collections::LinkedList;
 use std::fmt::Debug;
 use std::process::Abort;
 use xh_arena::{Fits, Lot, Tally, Vault};
-use xh_records::{OwnerWord, Records, Refused, Seat};
+use xh_records::{Records, Refused, Seat};
 
 /// It fits each length.
 #[derive(Default, Drop)]
-struct Any;
+pub(crate) struct Any;
 
 impl Fits for Any {
     ghost use Rattle.std.specs.Prelude.{true};
@@ -132,24 +132,5 @@ fn assert_left(
             Ok(())
         }
         Err(refused) => Err(refused),
-    }
-}
-
-#[test]
-fn words_say_what_they_are(rt: HostRuntime) {
-    for (word, owner) in [
-        (0, OwnerWord::Free),
-        (1, OwnerWord::Owned(0)),
-        (5, OwnerWord::Owned(1)),
-        (129, OwnerWord::Owned(32)),
-        (262_013, OwnerWord::Owned(65_503)),
-        (22, OwnerWord::InFlight(5)),
-        (510, OwnerWord::InFlight(127)),
-    ] {
-        assert_same(&rt, owner.encode(), word);
-        assert_same(&rt, OwnerWord::decode(word), Some(owner));
-    }
-    for word in [3, 4, 7, 262_017, 514] {
-        assert_same(&rt, OwnerWord::decode(word), None);
     }
 }

@@ -3,26 +3,12 @@ mod hand;
 
 use crate::answers::TableAnswer;
 use crate::answers::TableAnswer::{At, Bytes, Has, No, Nothing, Number, Run};
-use hand::Call::{Audit, Books, Carve, Cut, GiveBack, Hole, Mark, Moved, Records, Sees, Size};
-use hand::{Call, assert_answers, assert_on, collect, dealt, made};
+use crate::records::Any;
+use hand::Call::{Audit, Books, Carve, GiveBack, Hole, Moved, Records, Size};
+use hand::{Call, assert_answers, collect, made};
 use std::alloc::Global;
 use std::process::Abort;
-use xh_arena::{Fits, Refused, Vault};
-
-#[derive(Default, Drop)]
-pub struct Any {
-    seen: u32,
-}
-
-impl Fits for Any {
-    ghost use Rattle.std.specs.Prelude.{nat_le};
-
-    ghost is_fit = { λ any len. nat_le any.seen len };
-
-    fn fits(&self, len: u32) -> bool {
-        self.seen <= len
-    }
-}
+use xh_arena::{Refused, Vault};
 
 #[test]
 fn worn_vault(rt: HostRuntime) {
@@ -39,42 +25,9 @@ fn worn_vault(rt: HostRuntime) {
         (0, Hole(0), Run(0, 64)),
         (0, Hole(1), Nothing),
     ];
-    let mut hand = dealt(&rt, rt.alloc());
+    let mut hand = made(rt.alloc()).expect(&rt, "no vault");
     assert_answers(&rt, &mut hand, CALLS);
     collect(hand);
-}
-
-/// To the last byte of its limit a vault carves; then it is worn where there is a hole, and has no space where there
-/// is none, and a refusal changes neither the lot nor the tally.
-#[test]
-fn carved_to_its_limit(rt: HostRuntime) {
-    const CALLS: &[(u8, Call, TableAnswer)] = &[
-        (0, Carve(64), At(0)),
-        (1, Carve(16), No(Refused::NoSpace)),
-        (1, Audit, Has(1, None, 0)),
-        (1, Moved, Bytes(0, 0)),
-        (0, GiveBack, Nothing),
-        (1, Carve(16), At(0)),
-        (0, Carve(16), No(Refused::Worn)),
-        (0, Audit, Has(0, None, 0)),
-        (0, Moved, Bytes(64, 64)),
-        (0, Books, Bytes(80, 16)),
-        (0, Records, Number(4)),
-    ];
-    assert_on(&rt, rt.alloc(), CALLS);
-}
-
-#[test]
-fn a_lot_is_cut(rt: HostRuntime) {
-    const CALLS: &[(u8, Call, TableAnswer)] = &[
-        (0, Carve(48), At(0)),
-        (0, Cut(16), Nothing),
-        (0, Audit, Has(0, Some((0, 16)), 16)),
-        (1, Audit, Has(1, Some((16, 32)), 32)),
-        (0, Mark(3), Nothing),
-        (0, Sees(16), Number(3)),
-    ];
-    assert_on(&rt, rt.alloc(), CALLS);
 }
 
 /// Why no vault for so many workers is made.

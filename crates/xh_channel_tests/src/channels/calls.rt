@@ -7,8 +7,8 @@ use std::{hint, thread};
 use xh_channel::{Channels, Endpoint, Message, Refused, Spot, Unsent};
 use xh_model::limits::MAX_BLOCKS;
 
-/// What an end does: a put with a tag and at most one block, a take, a shut, a look at its turn, a wait there, a rouse, a ring
-/// at the peer's place, a rest of so many microseconds, looks until the turn has risen so often, at most so many puts of the tag 1, so many takes.
+/// What an end does: a put with a tag and at most one block, a take, a shut, a look at its turn, a wait there, a rouse,
+/// a rest of so many microseconds, looks until the turn has risen so often, at most so many puts of the tag 1, so many takes.
 #[derive(Clone, Copy)]
 pub(super) enum EndCall {
     Put(u16, Option<u16>),
@@ -17,7 +17,6 @@ pub(super) enum EndCall {
     Turn,
     Wait(u64),
     Rouse,
-    Ring,
     Rest(u64),
     Follow(u64),
     Puts(u64, Manner),
@@ -190,7 +189,6 @@ pub(super) fn by_end<R: Clock + Wait>(
         EndCall::Shut => channels.shut(rt, end),
         EndCall::Wait(seen) => channels.wait(rt, spot, seen),
         EndCall::Rouse => channels.rouse(rt, spot),
-        EndCall::Ring => channels.ring(rt, 1 - spot.side),
         EndCall::Rest(micros) => thread::sleep(rt, Duration::from_micros(micros)),
         EndCall::Follow(last) => follow(rt, channels, spot, last, false),
     }

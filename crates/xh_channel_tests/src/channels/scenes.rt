@@ -1,6 +1,6 @@
 //! What is done on new channels. One function makes and drops them, and one the ends that are used.
-use super::bells::{BellFor, assert_deadlines, assert_rings, assert_unheard};
-use super::calls::{EndCall, Ends, Row as TalkStep, assert_rows};
+use super::bells::{assert_deadlines, assert_unheard};
+use super::calls::{Ends, Row as EndRow, assert_rows};
 use super::opening::{
     Opening, assert_all_open, assert_goes_back, assert_openings, assert_own_room, opened,
 };
@@ -14,14 +14,13 @@ use xh_channel::{Channels, Refused};
 use xh_model::Row;
 
 /// What is done at both ends of a channel that nobody else uses: rows, one after the other; rows, the ends on two threads, while
-/// a third sleeps at the turn until it has risen so often; a put that races a shut; rounds of two that wait so and wake each other so; waits
+/// a third sleeps at the turn until it has risen so often; a put that races a shut; waits
 /// until a time; what nobody hears who heard the channel before.
 #[derive(Clone, Copy)]
 pub(super) enum Act {
-    Rows(&'static [TalkStep]),
-    SideBySide(u64, &'static [TalkStep]),
+    Rows(&'static [EndRow]),
+    SideBySide(u64, &'static [EndRow]),
     PutAndShut,
-    Rings(BellFor, EndCall),
     Deadlines,
     Unheard,
 }
@@ -49,7 +48,6 @@ fn act_at<R: Clock + Threads + Wait + Abort + Sync>(
         Act::Rows(rows) => assert_rows(rt, channels, ends, rows),
         Act::SideBySide(risen, rows) => assert_side_by_side(rt, channels, ends, risen, rows),
         Act::PutAndShut => assert_put_and_shut(rt, channels, ends),
-        Act::Rings(awaited, call) => assert_rings(rt, channels, ends, awaited, call),
         Act::Deadlines => assert_deadlines(rt, channels, ends),
         Act::Unheard => assert_unheard(rt, channels, ends),
     }

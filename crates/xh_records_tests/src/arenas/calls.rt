@@ -1,6 +1,5 @@
 //! Calls on an arena, and what they answer.
 use crate::answers::{TableAnswer, assert_answer, of_run, of_start};
-use std::alloc::Global;
 use std::process::Abort;
 use xh_arena::Arena;
 
@@ -9,22 +8,11 @@ use xh_arena::Arena;
 #[derive(Clone, Copy)]
 pub enum Call {
     Carve(u16, u32),
-    Cut(u16, u16, u32),
     GiveBack(u16),
-    Extent(u16),
     Hole(usize),
     Size,
     Records,
     Books,
-}
-
-/// Where the bytes of the record are.
-fn extent(arena: &Arena, r: u16) -> TableAnswer {
-    if r < arena.records() {
-        of_run(arena.extent(r))
-    } else {
-        TableAnswer::Unfit
-    }
 }
 
 fn carved(arena: &mut Arena, r: u16, n: u32) -> TableAnswer {
@@ -32,16 +20,6 @@ fn carved(arena: &mut Arena, r: u16, n: u32) -> TableAnswer {
         return TableAnswer::Unfit;
     }
     of_start(arena.carve(r, n))
-}
-
-fn cut(arena: &mut Arena, r: u16, t: u16, k: u32) -> TableAnswer {
-    if r >= arena.records() || t >= arena.records() || t == r || arena.extent(t).is_some() {
-        return TableAnswer::Unfit;
-    }
-    match arena.cut(r, t, k) {
-        Ok(()) => TableAnswer::Nothing,
-        Err(refused) => TableAnswer::No(refused),
-    }
 }
 
 fn given_back(arena: &mut Arena, r: u16) -> TableAnswer {
@@ -60,9 +38,7 @@ fn given_back(arena: &mut Arena, r: u16) -> TableAnswer {
 fn answer_of(arena: &mut Arena, call: Call) -> TableAnswer {
     match call {
         Call::Carve(r, n) => carved(arena, r, n),
-        Call::Cut(r, t, k) => cut(arena, r, t, k),
         Call::GiveBack(r) => given_back(arena, r),
-        Call::Extent(r) => extent(arena, r),
         Call::Hole(at) => of_run(arena.holes().get(at).copied()),
         Call::Size => TableAnswer::Number(u64::from(arena.size())),
         Call::Records => TableAnswer::Number(u64::from(arena.records())),
@@ -76,17 +52,4 @@ pub fn assert_answers(rt: &impl Abort, arena: &mut Arena, calls: &[(Call, TableA
         let answered = answer_of(arena, *call);
         assert_answer(rt, at, answered, *expected);
     }
-}
-
-/// Makes each call on a new arena of so many bytes and records, and compares what it answers.
-pub fn assert_on(
-    rt: &impl Abort,
-    alloc: Global,
-    size: u32,
-    records: u16,
-    wear: u64,
-    calls: &[(Call, TableAnswer)],
-) {
-    let mut arena = Arena::new(alloc, size, records, wear).expect(rt, "room");
-    assert_answers(rt, &mut arena, calls);
 }

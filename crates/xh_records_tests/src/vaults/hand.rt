@@ -1,12 +1,11 @@
 //! Calls on a vault with its first lots and tallies, and what they answer.
 ghost use Rattle.std.specs.Prelude.{◌≡◌};
 
-use super::Any;
 use crate::answers::{TableAnswer, assert_answer, of_run, of_start};
-use crate::records::first_two;
+use crate::records::{Any, first_two};
 use std::alloc::Global;
 use std::process::Abort;
-use xh_arena::{Fits, Lot, Refused, Tally, Vault};
+use xh_arena::{Lot, Refused, Tally, Vault};
 
 /// A vault with its first two lots, one for each of two workers, and their tallies.
 #[derive(Drop)]
@@ -20,13 +19,11 @@ pub struct VaultHand {
     ghost tallies: { (one.id ≡ vault.id) × (two.id ≡ vault.id) },
 }
 
-/// A call by a worker with its lot: a cut's tail is the lot of the other. `Hole` asks for the hole that stands so far
-/// along, `Books` for the bytes that were ever handed out and those that are. `Mark` has the lot's body see so many
-/// bytes, and `Sees` asks how many it saw, if they fit so many.
+/// A call by a worker with its lot. `Hole` asks for the hole that stands so far along, `Books` for the bytes that were ever
+/// handed out and those that are.
 #[derive(Clone, Copy)]
 pub enum Call {
     Carve(u32),
-    Cut(u32),
     GiveBack,
     Audit,
     Moved,
@@ -34,8 +31,6 @@ pub enum Call {
     Size,
     Records,
     Books,
-    Mark(u32),
-    Sees(u32),
 }
 
 /// A vault of 64 bytes that may hand out 80, for 4 records and 2 workers.
@@ -52,11 +47,6 @@ pub fn made(alloc: Global) -> Result<VaultHand, Refused> {
     })
 }
 
-/// The same, where there is memory.
-pub fn dealt(rt: &impl Abort, alloc: Global) -> VaultHand {
-    made(alloc).expect(rt, "no vault")
-}
-
 fn carved(vault: &mut Vault, lot: &mut Lot<Any>, tally: &mut Tally, n: u32) -> TableAnswer
     requires ids { (lot.old.id ≡ vault.old.id) × (tally.old.id ≡ vault.old.id) }
     ensures ids { (vault.new.id ≡ vault.old.id) × (lot.new.id ≡ lot.old.id) × (tally.new.id ≡ tally.old.id) }
@@ -65,17 +55,6 @@ fn carved(vault: &mut Vault, lot: &mut Lot<Any>, tally: &mut Tally, n: u32) -> T
         return TableAnswer::Unfit;
     }
     of_start(vault.carve(lot, tally, n))
-}
-
-fn cut(vault: &mut Vault, head: &mut Lot<Any>, tail: &mut Lot<Any>, k: u32) -> TableAnswer
-    requires ids { (head.old.id ≡ vault.old.id) × (tail.old.id ≡ vault.old.id) }
-    ensures ids { (vault.new.id ≡ vault.old.id) × (head.new.id ≡ head.old.id) × (tail.new.id ≡ tail.old.id) }
-{
-    if tail.len() != 0 || k == 0 || k % 16 != 0 || k >= head.len() {
-        return TableAnswer::Unfit;
-    }
-    vault.cut(head, tail, k);
-    TableAnswer::Nothing
 }
 
 fn given_back(vault: &mut Vault, lot: &mut Lot<Any>, tally: &mut Tally) -> TableAnswer
@@ -97,42 +76,18 @@ fn audited(vault: &mut Vault, lot: &mut Lot<Any>) -> TableAnswer
     TableAnswer::Has(lot.record(), vault.extent(lot.record()), lot.len())
 }
 
-fn marked(lot: &mut Lot<Any>, seen: u32) -> TableAnswer
-    ensures { lot.new.id ≡ lot.old.id }
-{
-    lot.body_mut().seen = seen;
-    TableAnswer::Nothing
-}
-
-fn seen(lot: &Lot<Any>, len: u32) -> TableAnswer {
-    if lot.body().fits(len) {
-        TableAnswer::Number(u64::from(lot.body().seen))
-    } else {
-        TableAnswer::Unfit
-    }
-}
-
-fn answer_of(
-    vault: &mut Vault,
-    lot: &mut Lot<Any>,
-    other: &mut Lot<Any>,
-    tally: &mut Tally,
-    call: Call,
-) -> TableAnswer
-    requires ids { (lot.old.id ≡ vault.old.id) × (other.old.id ≡ vault.old.id) × (tally.old.id ≡ vault.old.id) }
-    ensures ids { (vault.new.id ≡ vault.old.id) × (lot.new.id ≡ lot.old.id) × (other.new.id ≡ other.old.id) × (tally.new.id ≡ tally.old.id) }
+fn answer_of(vault: &mut Vault, lot: &mut Lot<Any>, tally: &mut Tally, call: Call) -> TableAnswer
+    requires ids { (lot.old.id ≡ vault.old.id) × (tally.old.id ≡ vault.old.id) }
+    ensures ids { (vault.new.id ≡ vault.old.id) × (lot.new.id ≡ lot.old.id) × (tally.new.id ≡ tally.old.id) }
 {
     match call {
         Call::Carve(n) => carved(vault, lot, tally, n),
-        Call::Cut(k) => cut(vault, lot, other, k),
         Call::GiveBack => given_back(vault, lot, tally),
         Call::Audit => audited(vault, lot),
         Call::Moved => TableAnswer::Bytes(tally.taken(), tally.back()),
         Call::Hole(at) => of_run(vault.holes().get(at).copied()),
         Call::Size => TableAnswer::Number(u64::from(vault.size())),
         Call::Records => TableAnswer::Number(u64::from(vault.records())),
-        Call::Mark(seen) => marked(lot, seen),
-        Call::Sees(len) => seen(lot, len),
         Call::Books => TableAnswer::Bytes(vault.wear(), u64::from(vault.handed_out())),
     }
 }
@@ -147,9 +102,9 @@ fn by_worker(hand: &mut VaultHand, worker: u8, call: Call) -> TableAnswer {
         two,
     } = hand;
     if worker == 0 {
-        answer_of(vault, first, second, one, call)
+        answer_of(vault, first, one, call)
     } else {
-        answer_of(vault, second, first, two, call)
+        answer_of(vault, second, two, call)
     }
 }
 
@@ -159,12 +114,6 @@ pub fn assert_answers(rt: &impl Abort, hand: &mut VaultHand, calls: &[(u8, Call,
         let answered = by_worker(hand, *worker, *call);
         assert_answer(rt, at, answered, *expected);
     }
-}
-
-/// Makes each call on a new vault, and compares what it answers.
-pub fn assert_on(rt: &impl Abort, alloc: Global, calls: &[(u8, Call, TableAnswer)]) {
-    let mut hand = dealt(rt, alloc);
-    assert_answers(rt, &mut hand, calls);
 }
 
 /// Takes both tallies in.

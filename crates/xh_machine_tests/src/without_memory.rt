@@ -5,7 +5,7 @@ use crate::answers::Call::{
     Write,
 };
 use crate::answers::{LACKING, answer_of, answer_or_same, assert_row};
-use crate::machines::{Booked, Case, Trial, on_kernel, on_serial};
+use crate::machines::{Booked, Trial, on_new_kernel, on_serial};
 use std::alloc::Global;
 use std::process::Abort;
 use xh_core::{Config, Ledger, Refused, Status};
@@ -156,10 +156,9 @@ fn calls_without_memory(rt: HostRuntime) {
     };
     let trial = Trial::WithoutMemory;
     let serial = name_of(on_serial(&rt, alloc, four_arenas(), trial));
-    let case = Case::Alone(trial);
-    let kernel = name_of(on_kernel(&rt, alloc, four_arenas(), 1, case));
+    let kernel = name_of(on_new_kernel(&rt, alloc, four_arenas(), &trial));
     assert_eq!(rt; name_of(on_serial(&rt, alloc, bad, trial)), "BadSize");
-    assert_eq!(rt; name_of(on_kernel(&rt, alloc, bad, 1, case)), "BadSize");
+    assert_eq!(rt; name_of(on_new_kernel(&rt, alloc, bad, &trial)), "BadSize");
     if serial != "" {
         assert_eq!(rt; serial, "OutOfMemory");
         let again = name_of(on_serial(&rt, alloc, four_arenas(), trial));
@@ -167,7 +166,7 @@ fn calls_without_memory(rt: HostRuntime) {
     }
     if kernel != "" {
         assert_eq!(rt; kernel, "OutOfMemory");
-        let again = name_of(on_kernel(&rt, alloc, four_arenas(), 1, case));
+        let again = name_of(on_new_kernel(&rt, alloc, four_arenas(), &trial));
         assert_eq!(rt; again, "OutOfMemory");
     }
 }

@@ -1,5 +1,5 @@
 use Rattle.xh_kernel.specs.Histories.{LeadsToPlace}
-use Rattle.xh_tests.proofs.machines.on_long_kernel.Given as goal
+use Rattle.xh_machine_tests.proofs.machines.on_long_kernel.Given as goal
 
 abbrev pub ghosts-on_parts : goal.ghosts-on_parts
 ghosts-on_parts g a = record { parts = a.parts; leads = LeadsToPlace a.parts }

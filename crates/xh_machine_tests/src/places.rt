@@ -4,8 +4,9 @@ use crate::answers::Call::{
     self, Alloc, Exit, Fills, Free, Glance, Kill, Lives, Moved as Count, Read, Spawn, Spawns,
     Split, Write,
 };
-use crate::machines::{Case, Trial, arenas_of, assert_on, on_kernel, on_long_kernel};
+use crate::machines::{Trial, arenas_of, assert_on, on_gated, on_long_kernel, on_new_kernel};
 use xh_core::{Config, Refused, Status};
+use xh_runner::OpenGate;
 
 /// A look sees each change of a place once the call that made it has answered.
 #[test]
@@ -79,8 +80,8 @@ fn every_number_of_a_long_run(rt: HostRuntime) {
         (Spawn, No("NoPlace")),
         (Glance(31), Place(65_503, Status::Ended, 0, 0)),
     ];
-    let case = Case::Alone(Trial::Answers(CALLS));
-    let ledger = on_long_kernel(&rt, rt.alloc(), arenas_of(1, 16, 1), case);
+    let trial = Trial::Answers(CALLS);
+    let ledger = on_long_kernel(&rt, rt.alloc(), arenas_of(1, 16, 1), &trial);
     assert!(rt; ledger.is_ok());
 }
 
@@ -124,10 +125,12 @@ fn all_blocks(rt: HostRuntime) {
 /// A kernel in which nothing ran has a ledger without places, whose sums are 0.
 #[test]
 fn empty_kernel(rt: HostRuntime) {
-    let case = Case::Alone(Trial::Answers(&[]));
-    let ledger = on_kernel(&rt, rt.alloc(), arenas_of(1, 256, 256), 2, case).expect(&rt, "room");
+    let none = Trial::Answers(&[]);
+    let gate = &OpenGate;
+    let ledger = on_gated(&rt, rt.alloc(), arenas_of(1, 256, 256), 2, gate, &none);
+    let ledger = ledger.expect(&rt, "room");
     assert!(&rt; ledger.places.is_empty());
     assert_eq!(&rt; (ledger.owned, ledger.flight, ledger.out), (0, 0, 0));
-    let bad = on_kernel(&rt, rt.alloc(), arenas_of(1, 40, 256), 2, case);
+    let bad = on_new_kernel(&rt, rt.alloc(), arenas_of(1, 40, 256), &none);
     assert!(&rt; matches!(bad, Err(Refused::BadSize)));
 }

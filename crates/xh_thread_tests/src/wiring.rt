@@ -1,13 +1,11 @@
 //! A wire whose other process ends in between, on threads.
-use crate::machines::{Case, SharedMachine, arenas_of, on_gated};
+use crate::machines::{Case, Runtime, SharedMachine, arena_of, on_gated};
 use std::hint::spin_loop;
-use std::process::Abort;
 use std::sync::atomic::AtomicBool;
 use std::sync::atomic::Ordering::SeqCst;
 use std::thread;
-use std::thread::Threads;
 use xh_core::Refused;
-use xh_runner::{Gate, Point};
+use xh_runner::{Gate, Machine, Point};
 
 /// It holds whoever has claimed a record until it is told to go on, or a long time has passed.
 #[derive(Drop)]
@@ -42,22 +40,17 @@ impl Gate for ClaimHold {
 }
 
 // Process 1 ends once the other has claimed a record, and the other is told to go on.
-fn end_between<W: SharedMachine>(worker: &mut W, hold: &ClaimHold) -> bool {
+fn end_between<M: Machine>(machine: &mut M, hold: &ClaimHold) -> bool {
     wait_for(&hold.claimed);
-    let ended = worker.exit(1, 4096).is_ok();
+    let ended = machine.exit(1, 4096).is_ok();
     hold.told.store(true, SeqCst);
     ended
 }
 
 /// A wire is refused whose other process ends once the first has claimed a record, and what it took is given back.
-pub fn assert_refused<W: SharedMachine + Send, R: Threads + Abort>(
-    rt: &R,
-    mine: &mut W,
-    others: &mut [W],
-    hold: &ClaimHold,
-) {
-    let Some(other) = others.first_mut() else {
-        panic!(rt; "no other worker");
+pub fn assert_refused<W: SharedMachine, R: Runtime>(rt: &R, workers: &mut [W], hold: &ClaimHold) {
+    let [mine, other] = workers else {
+        panic!(rt; "not two workers");
     };
     let started = (mine.spawn(), mine.spawn());
     assert!(rt; matches!(started, (Ok(0), Ok(1))));
@@ -67,7 +60,6 @@ pub fn assert_refused<W: SharedMachine + Send, R: Threads + Abort>(
         || end_between(other, hold),
     );
     assert!(rt; done == (true, true));
-    assert!(rt; mine.moved(0) == Some((64, 64)));
 }
 
 /// Where the other process ends before its end reaches it, both ends are reclaimed.
@@ -78,6 +70,7 @@ fn wires_to_one_that_ends(rt: HostRuntime) {
         told: AtomicBool::new(false),
     };
     let case = Case::Wires(&hold);
-    let ledger = on_gated(&rt, rt.alloc(), arenas_of(1, 256, 16), 2, &hold, case);
-    assert!(&rt; ledger.is_ok());
+    let ledger = on_gated(&rt, rt.alloc(), arena_of(256, 16), 2, &hold, case).expect(&rt, "room");
+    let taken = ledger.arenas.first().map_or(0, |line| line.taken);
+    assert!(&rt; (taken, ledger.out) == (64, 0));
 }

@@ -1,18 +1,15 @@
 //! Two threads that wait for memory of an arena, for one process or for two, while a third ends their wait.
-use crate::answers::Call::{self, Alloc, Close, Exit, Free, Glance, Kill, Open, Spawns, Wire};
-use crate::answers::answer_of;
-use crate::machines::{Case, SharedMachine, arenas_of, on_gated};
-use crate::waiting::{after, end_late, later, pause};
+use crate::ends::Ender::{self, Alloc, Close, Exit, Free, Kill, Nothing, Open};
+use crate::ends::{after, end_late, pause, seed_of};
+use crate::machines::{Case, Runtime, SharedMachine, arena_of, on_gated};
 use std::alloc::Global;
-use std::process::Abort;
 use std::sync::Wait;
 use std::sync::atomic::AtomicU64;
 use std::sync::atomic::Ordering::SeqCst;
-use std::thread::Threads;
 use std::time::{Clock, Duration, Instant};
 use std::{io, thread};
-use xh_core::Config;
-use xh_runner::{Gate, Point};
+use xh_core::{Config, Refused};
+use xh_runner::{Gate, Machine, Point};
 
 /// What is seen of a round: whether process 2 claimed a record, and how often those who wait read the clock; and how many of them
 /// ever slept. As a gate it may hold such a record, before it has bytes, until both sleep.
@@ -80,13 +77,18 @@ impl<'a, R: Clock> Clock for Counted<'a, R> {
 /// A call that ends the waits, what both threads are told, and what is seen.
 #[derive(Clone, Copy)]
 pub struct Memory<'a> {
-    ender: Call<'a>,
+    ender: Ender,
     want: &'static str,
     watch: &'a Watch,
 }
 
-/// Process 2 has a block of 192 bytes, 0, and an end, 2, of which process 0 has the other, 1: three records and 256 bytes.
-const BEFORE: &[Call] = &[Spawns(3), Alloc(2, 192, 0), Wire(0, 2)];
+// Process 2 has a block of 192 bytes, 0, and an end, 2, of which process 0 has the other, 1: three records and 256 bytes.
+fn begin<M: Machine>(alloc: Global, machine: &mut M) -> Result<(), Refused> {
+    let (first, _second, third) = (machine.spawn()?, machine.spawn()?, machine.spawn()?);
+    machine.alloc(alloc, third, 192, 0)?;
+    machine.wire(first, third, 0, None)?;
+    Ok(())
+}
 
 // What the process is told that asks for 16 bytes, once a record is held where it is to be, and gives them back at once.
 fn wait_late<W: SharedMachine, R: Wait + Clock>(
@@ -117,7 +119,7 @@ fn wait_late<W: SharedMachine, R: Wait + Clock>(
 
 // Two threads of process 0, or one of it and one of process 1. In every other round they wait until a time, and whoever ends
 // their wait lets them sleep before.
-fn assert_round<W: SharedMachine + Send, R: Threads + Wait + Clock + Abort + Sync>(
+fn assert_round<W: SharedMachine, R: Runtime>(
     rt: &R,
     alloc: Global,
     (mine, one, other): (&mut W, &mut W, &mut W),
@@ -125,9 +127,8 @@ fn assert_round<W: SharedMachine + Send, R: Threads + Wait + Clock + Abort + Syn
     by: u16,
     seed: u64,
 ) {
-    for call in BEFORE {
-        let _done = answer_of(mine, alloc, later(*call, by));
-    }
+    let begun = begin(alloc, mine);
+    assert!(rt; begun.is_ok());
     watch.held.store(0, SeqCst);
     watch.reads.store(0, SeqCst);
     let is_late = want.starts_with("No");
@@ -138,7 +139,7 @@ fn assert_round<W: SharedMachine + Send, R: Threads + Wait + Clock + Abort + Syn
     } else {
         by | (seed / 2 % 2) as u16
     };
-    let (told, _answer) = thread::join(
+    let (told, _done) = thread::join(
         rt,
         || {
             thread::join(
@@ -149,7 +150,7 @@ fn assert_round<W: SharedMachine + Send, R: Threads + Wait + Clock + Abort + Syn
         },
         || {
             watch.await_sleep(if lets_sleep { 20_000 } else { 0 });
-            end_late(alloc, mine, later(ender, by), seed)
+            end_late(alloc, mine, ender, by, seed)
         },
     );
     let (first, second) = told;
@@ -160,38 +161,29 @@ fn assert_round<W: SharedMachine + Send, R: Threads + Wait + Clock + Abort + Syn
 }
 
 /// In 32 rounds each is always told so.
-pub fn assert_memory<W: SharedMachine + Send, R: Threads + Wait + Clock + Abort + Sync>(
+pub fn assert_memory<W: SharedMachine, R: Runtime>(
     rt: &R,
     alloc: Global,
-    mine: &mut W,
-    others: &mut [W],
+    workers: &mut [W],
     memory: Memory,
 ) {
-    let [one, other, ..] = others else {
-        panic!(rt; "no other workers");
+    let [mine, one, other] = workers else {
+        panic!(rt; "not three workers");
     };
-    let mut seed = 1u64;
     for round in 0..32u16 {
-        seed = seed
-            .wrapping_mul(6_364_136_223_846_793_005)
-            .wrapping_add(1_442_695_040_888_963_407);
-        let workers = (&mut *mine, &mut *one, &mut *other);
-        assert_round(rt, alloc, workers, memory, 32 * round, seed >> 20);
+        let all = (&mut *mine, &mut *one, &mut *other);
+        assert_round(rt, alloc, all, memory, 32 * round, seed_of(round));
     }
 }
 
 // In 2,048 rounds over 64 kernels each is, all bytes come back, and threads slept.
-fn assert_waits<R: Threads + Wait + Clock + Abort + Sync>(
+fn assert_waits<R: Runtime>(
     rt: &R,
     alloc: Global,
     config: Config,
     holds: bool,
-    (ender, want): (Call, &'static str),
+    (ender, want): (Ender, &'static str),
 ) {
-    let config = Config {
-        wear: 1_000_000,
-        ..config
-    };
     let watch = Watch {
         holds,
         held: AtomicU64::new(0),
@@ -211,18 +203,18 @@ fn assert_waits<R: Threads + Wait + Clock + Abort + Sync>(
 }
 
 // An arena has a record, and no space, until the call.
-fn assert_space<R: Threads + Wait + Clock + Abort + Sync>(rt: &R, alloc: Global, ender: Call) {
-    assert_waits(rt, alloc, arenas_of(1, 256, 5), false, (ender, ""));
+fn assert_space<R: Runtime>(rt: &R, alloc: Global, ender: Ender) {
+    assert_waits(rt, alloc, arena_of(256, 5), false, (ender, ""));
 }
 
 // It has space, and no record.
-fn assert_record<R: Threads + Wait + Clock + Abort + Sync>(rt: &R, alloc: Global, ender: Call) {
-    assert_waits(rt, alloc, arenas_of(1, 1024, 3), false, (ender, ""));
+fn assert_record<R: Runtime>(rt: &R, alloc: Global, ender: Ender) {
+    assert_waits(rt, alloc, arena_of(1024, 3), false, (ender, ""));
 }
 
 // The last record is held by a call that finds no space for as many bytes, or no second record.
-fn assert_in_vain<R: Threads + Wait + Clock + Abort + Sync>(rt: &R, alloc: Global, ender: Call) {
-    assert_waits(rt, alloc, arenas_of(1, 272, 4), true, (ender, ""));
+fn assert_in_vain<R: Runtime>(rt: &R, alloc: Global, ender: Ender) {
+    assert_waits(rt, alloc, arena_of(272, 4), true, (ender, ""));
 }
 
 #[test]
@@ -267,19 +259,19 @@ fn waits_for_a_record_of_one_that_is_killed(rt: HostRuntime) {
 
 #[test]
 fn waits_for_a_record_claimed_in_vain_by_an_alloc(rt: HostRuntime) {
-    assert_in_vain(&rt, rt.alloc(), Alloc(2, 48, 0));
+    assert_in_vain(&rt, rt.alloc(), Alloc(2, 48));
 }
 
 #[test]
 fn waits_for_a_record_claimed_in_vain_by_an_open(rt: HostRuntime) {
-    assert_in_vain(&rt, rt.alloc(), Open(2, 0));
+    assert_in_vain(&rt, rt.alloc(), Open(2));
 }
 
 /// The process ends that waits.
 #[test]
 fn waits_for_memory_until_killed(rt: HostRuntime) {
     for (bytes, records) in [(256, 5), (1024, 3)] {
-        let config = arenas_of(1, bytes, records);
+        let config = arena_of(bytes, records);
         assert_waits(&rt, rt.alloc(), config, false, (Kill(2, 0, 4096), "Ended"));
     }
 }
@@ -288,7 +280,7 @@ fn waits_for_memory_until_killed(rt: HostRuntime) {
 #[test]
 fn waits_for_memory_until_a_time(rt: HostRuntime) {
     for (bytes, records, late) in [(256, 5, "NoSpace"), (1024, 3, "NoRecord")] {
-        let config = arenas_of(1, bytes, records);
-        assert_waits(&rt, rt.alloc(), config, false, (Glance(0), late));
+        let config = arena_of(bytes, records);
+        assert_waits(&rt, rt.alloc(), config, false, (Nothing, late));
     }
 }

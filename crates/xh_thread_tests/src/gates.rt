@@ -1,5 +1,5 @@
 //! A gate that stops a worker.
-use crate::harness::SMALL;
+use crate::machines::arena_of;
 use std::test::Fail;
 use xh_runner::{Gate, Point, run_threads};
 use xh_script::{Fault, read_script};
@@ -22,7 +22,7 @@ impl Gate for StopsFirst {
 #[test]
 fn gate_stops_a_worker(rt: HostRuntime) -> Result<(), Fail> {
     let script = read_script(rt.alloc(), b"process a\na alloc x 16 0\n")?;
-    let ended = run_threads(&rt, rt.alloc(), &script, SMALL, &StopsFirst);
+    let ended = run_threads(&rt, rt.alloc(), &script, arena_of(256, 256), &StopsFirst);
     assert!(&rt; matches!(ended, Err(Fault::Gate)));
     Ok(())
 }

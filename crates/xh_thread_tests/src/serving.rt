@@ -1,14 +1,12 @@
 //! A server of eight clients, on nine threads. Each client is killed once it was answered often enough, with a request on its
 //! way, and another takes its place.
-use crate::machines::{Case, SharedMachine, arenas_of, on_kernel};
+use crate::machines::{Case, Runtime, SharedMachine, arena_of, on_new_kernel};
 use std::alloc::Global;
-use std::process::Abort;
 use std::sync::Wait;
 use std::sync::atomic::AtomicU64;
 use std::sync::atomic::Ordering::SeqCst;
 use std::thread;
-use std::thread::Threads;
-use xh_core::{Config, Refused};
+use xh_core::Refused;
 
 const CLIENTS: usize = 8;
 
@@ -140,14 +138,12 @@ fn be_server<W: SharedMachine, R: Wait>(
     serve(rt, worker, board, &mut ends)
 }
 
-/// Each of the nine others has a thread, the last the server's. Each request was answered.
-pub fn assert_served<W: SharedMachine + Send, R: Threads + Wait + Abort + Sync>(
-    rt: &R,
-    alloc: Global,
-    worker: &mut W,
-    others: &mut [W],
-) {
-    let board = make_board(alloc, worker).expect(rt, "clients");
+/// Each of nine other workers has a thread, the last the server's. Each request was answered.
+pub fn assert_served<W: SharedMachine, R: Runtime>(rt: &R, alloc: Global, workers: &mut [W]) {
+    let Some((mine, others)) = workers.split_first_mut() else {
+        panic!(rt; "no worker");
+    };
+    let board = make_board(alloc, mine).expect(rt, "clients");
     thread::for_each_mut(
         rt,
         others,
@@ -166,10 +162,6 @@ pub fn assert_served<W: SharedMachine + Send, R: Threads + Wait + Abort + Sync>(
 /// A server takes at the ends of its clients, some of which are killed and replaced.
 #[test]
 fn clients_are_served(rt: HostRuntime) {
-    let config = Config {
-        wear: 1_000_000,
-        ..arenas_of(1, 4096, 64)
-    };
-    let ledger = on_kernel(&rt, rt.alloc(), config, 10, Case::Serves);
+    let ledger = on_new_kernel(&rt, rt.alloc(), arena_of(4096, 64), 10, Case::Serves);
     assert!(&rt; ledger.is_ok());
 }

@@ -3,12 +3,10 @@ use crate::answers::Answer::{self, Block, Bytes, Done, Moved, No, Number, Place,
 use crate::answers::Call::{self, Alloc, Free, Glance, Moved as Count, Read, Spawn, Split, Write};
 use crate::answers::{LACKING, answer_of, answer_or_same, assert_row};
 use crate::ledgers::assert_same;
-use crate::machines::{Booked, Case, Trial, arenas_of, on_kernel, on_serial};
+use crate::machines::{Booked, Trial, arenas_of, on_new_kernel, on_serial};
 use std::alloc::Global;
 use std::process::Abort;
 use std::sync::Wait;
-use std::thread::Threads;
-use std::time::Clock;
 use xh_core::{Config, Ledger, Refused, Status};
 
 /// What the call answers. Where a growth is refused nothing has changed, and the same call then answers as if it had
@@ -41,7 +39,7 @@ pub fn is_lacking(made: &Result<Ledger, Refused>) -> bool {
 
 /// Each call on a new machine of each kind, and then both ledgers. With a growth refused, no machine is there, or nothing
 /// that it was taken apart to; the next is whole. A call to which one was refused leaves all as it was.
-fn assert_grown_on<R: Threads + Wait + Clock + Abort + Sync>(
+fn assert_grown_on<R: Wait + Abort>(
     rt: &R,
     alloc: Global,
     config: Config,
@@ -52,9 +50,9 @@ fn assert_grown_on<R: Threads + Wait + Clock + Abort + Sync>(
     if is_lacking(&serial) {
         serial = on_serial(rt, alloc, config, trial);
     }
-    let mut kernel = on_kernel(rt, alloc, config, 1, Case::Alone(trial));
+    let mut kernel = on_new_kernel(rt, alloc, config, &trial);
     if is_lacking(&kernel) {
-        kernel = on_kernel(rt, alloc, config, 1, Case::Alone(trial));
+        kernel = on_new_kernel(rt, alloc, config, &trial);
     }
     assert_same(rt, &serial.expect(rt, "room"), &kernel.expect(rt, "room"));
 }
