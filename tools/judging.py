@@ -26,6 +26,7 @@ PROCESSORS = len(os.sched_getaffinity(0))
 ROOM = pathlib.Path(tempfile.gettempdir(), f"judging.{os.urandom(8).hex()}")
 # For so many seconds a program may run, and a tool that proves, builds, or runs many programs.
 LIMIT, LONG = 600, 43_200
+NOBODY, REFUSAL = 65534, b"a growth of memory was refused"
 ENDS = signal.SIGTERM, signal.SIGINT, signal.SIGHUP
 # It sleeps, as does what it starts, one in a session of its own.
 SLEEPER = """#!/usr/bin/env bash
@@ -108,22 +109,18 @@ def kept(main: Callable[[], int]) -> int:
     while not ended and (number := signal.sigwait({*ends, signal.SIGCHLD})) == signal.SIGCHLD:
         while not ended and (found := os.waitpid(-1, os.WNOHANG))[0]:
             ended, status = found[0] == child, found[1]
-    end_children()
+    # All that this process began, and what they began, until there is none.
+    with contextlib.suppress(ChildProcessError):
+        while True:
+            for it in pathlib.Path("/proc/thread-self/children").read_text().split():
+                os.kill(int(it), signal.SIGKILL)
+            os.wait()
     shutil.rmtree(ROOM, ignore_errors=True)
     if not ended:
         signal.signal(number, signal.SIG_DFL)
         signal.pthread_sigmask(signal.SIG_SETMASK, before)
         os.kill(os.getpid(), number)
     return os.waitstatus_to_exitcode(status) % 256
-
-
-def end_children() -> None:
-    """Ends all that this process began, and what they began, until there is none."""
-    with contextlib.suppress(ChildProcessError):
-        while True:
-            for it in pathlib.Path("/proc/thread-self/children").read_text().split():
-                os.kill(int(it), signal.SIGKILL)
-            os.wait()
 
 
 def wait_for(is_so: Callable[[], object], seconds: int) -> bool:
@@ -431,3 +428,40 @@ def growth_tests(file: str | pathlib.Path, *programs: pathlib.Path) -> None:
 
 def has_tests(program: Word, least: int) -> None:
     claim((count := len(tests_of(program))) >= least, f"it has {count} tests, and not {least}")
+
+
+def threads_of(user: int) -> int:
+    """How many threads run as a user: each of them counts for the limit."""
+    count = 0
+    for file in pathlib.Path("/proc").glob("[0-9]*/status"):
+        with contextlib.suppress(OSError):
+            it = re.search(rf"(?ms)^Uid:\t{user}\t.*^Threads:\t(\d+)$", file.read_text())
+            count += int(it[1]) if it else 0
+    return count
+
+
+def run_limited(limit: int, program: str, *words: str) -> subprocess.CompletedProcess[bytes]:
+    """With so many threads at most. Root is refused none, so where this runs as root the program
+    runs as nobody. It is named by its open file, since nobody may not get to its folder."""
+    user, before = os.getuid(), []
+    if user == 0:
+        user = NOBODY
+        before = ["setpriv", f"--reuid={user}", f"--regid={user}", "--clear-groups"]
+    with open(program, "rb") as it:
+        number = it.fileno()
+        before += ["prlimit", f"--nproc={threads_of(user) + limit}", f"/proc/self/fd/{number}"]
+        return subprocess.run([*before, *words], stdin=subprocess.DEVNULL, capture_output=True,
+                              pass_fds=[number], timeout=min(20, LIMIT))
+
+
+def ends_by_process_limit(program: str, *words: str) -> None:
+    """At each limit, from one that lets no thread start to one that lets all, it ends in time: it
+    is whole, or tells the refusal, with another status than 0 if it is no test. The first run is
+    refused, and the last whole."""
+    refused = []
+    for limit in range(1, 8):
+        ran = run_limited(limit, program, *words)
+        refused.append(REFUSAL in ran.stdout + ran.stderr)
+        is_right = ran.returncode == 0 if words else (ran.returncode != 0) == refused[-1]
+        claim(is_right, f"limit {limit}: {ran}")
+    claim(refused[0] and not refused[-1], f"refused at limits 1, 2, ..: {refused}")

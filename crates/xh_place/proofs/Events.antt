@@ -1,34 +1,44 @@
--- What a seat did, and what its place shows of it.
-use Rattle.xh_place.proofs.Words.{map-append, ◌≡◌, ◌&&◌, ℕ, Bool, true, false, List, [], ◌∷◌, ◌++◌, append_assoc, append-nil, sym, ap, ◌∙◌, LotOf, Status, Event, Accept, Claim, Vacate, inl, inr, map}
-use Rattle.xh_place.proofs.Words.{Held, with_lots, Body, Nothing, Data, End, bytes, content_of, fits_in, nothing, accepted_on, claimed, vacated, let_go, HasNow, Acts, bare, IsPlace}
-use Rattle.xh_place.proofs.Words.{Item, PlaceOf, Becomes, Did, Gains, refl, subst, ⊎_elim, Option, Some, None, HasDone, HasGained, HasLost, alone, picked, item_in, without}
-use Rattle.xh_place.proofs.Words.{Among, keys, among_back, among_either, among_front, at_key, no_key, value_at, item_at, item_of, shown, FindsFull, LetsGo, PlaceSeen, SawFull, SeatFull}
-use Rattle.xh_place.proofs.Words.{SeatLetsGo, Stays}
-use Rattle.xh_place.proofs.Words.{IsSamePlace, with_blocks, with_more}
+-- A seat that did some deeds, and its place.
+use Rattle.xh_place.proofs.Words.{map-append, ◌≡◌, ◌&&◌, ℕ, Bool, true, false, List, [], ◌∷◌, ◌++◌, append_assoc, append-nil, sym, ap, ◌∙◌, LotOf, Event, Claim, Vacate, map, None, Some, value_at}
+use Rattle.xh_place.proofs.Words.{without}
+use Rattle.xh_place.proofs.Words.{Held, with_lots, Body, Nothing, Data, End, bytes, content_of, fits_in, claimed, vacated, HasNow, Acts, Item, PlaceSeen, Becomes, Did, refl, subst, HasDone}
+use Rattle.xh_place.proofs.Words.{HasGained, HasLost}
+use Rattle.xh_place.proofs.Words.{item_of, let_go, Status, LetsGo, FindsFull, SawFull, keys, Stays, Accept, GainsAll, IsSamePlace, StartsWith, accepted_on, items_of, keys_append}
+use Rattle.xh_place.specs.Ends.{IsTooLate}
 use Rattle.xh_records.specs.Deeds.{Deed}
 use Rattle.xh_records.specs.Showing.{IsEmpty}
-use Rattle.xh_place.proofs.Seeing.{did_more, did_none, did_starts, full_wide, place_did, placed, starts_more, starts_same}
-use Rattle.xh_place.proofs.Steps.{place_seen, stays}
+use Rattle.xh_place.proofs.Seeing.{did_more, did_none, did_starts, full_wide, starts_more, starts_same}
+
+abbrev pub none_item : Item
+none_item = record { len = 0; content = bytes [] }
+
+-- its lots alone changed
+pub now_of : (old new : Held Body) (lots : List (ℕ × LotOf Body)) → new ≡ with_lots old lots → HasNow old lots new
+now_of old new lots e = e ∙ (λ i. record old { lots = lots; front = sym (ap (λ (h : Held Body). h.front) e) i })
 
 pub own_lots : (old new : Held Body) (lots : List (ℕ × LotOf Body)) → HasNow old lots new → HasNow old new.lots new
-own_lots old new lots is = is ∙ ap (with_lots (bare old)) (sym (ap (λ (h : Held Body). h.lots) is))
+own_lots old new lots is = is ∙ ap (λ (ls : List (ℕ × LotOf Body)). record old { lots = ls; front = new.front }) (sym (ap (λ (h : Held Body). h.lots) is))
 
 pub own_acts : (es : List (Event × Item)) (lots : List (ℕ × LotOf Body)) (old new : Held Body) → Acts es lots old new → Acts es new.lots old new
 own_acts es lots old new h = (own_lots old new lots h.0, h.1)
+
+-- the deeds of lots that came, and then of more
+pub log_more : (p d : ℕ) (ys zs : List (ℕ × LotOf Body)) → accepted_on p d (items_of ys) ++ accepted_on p d (items_of zs) ≡ accepted_on p d (items_of (ys ++ zs))
+log_more p d ys zs = sym (map-append (λ (x : ℕ × Item). (Accept p x.0 d, x.1)) (items_of ys) (items_of zs)) ∙ ap (accepted_on p d) (sym (map-append (λ (x : ℕ × LotOf Body). (x.0, item_of x.1)) ys zs))
 
 -- ---- a seat that did some deeds
 
 pub acts_of : (own : List (Deed Body)) (parts : List (Event × Item)) (lots : List (ℕ × LotOf Body)) (x y : Held Body) → HasDone own lots x y → map (λ (d : Deed Body). (d.0, item_of d.1)) own ≡ parts
     → Acts parts lots x y
-acts_of own parts lots x y h e = (ap bare h.0, (h.1.0, h.1.1, ap (map (λ (d : Deed Body). (d.0, item_of d.1))) h.1.2 ∙ e))
+acts_of own parts lots x y h e = (h.0, (h.1.0, h.1.1, ap (map (λ (d : Deed Body). (d.0, item_of d.1))) h.1.2 ∙ e))
 
 pub acts_none : (lots : List (ℕ × LotOf Body)) (x y : Held Body) → y ≡ with_lots x lots → Acts [] lots x y
-acts_none lots x y e = (ap bare e, did_none x.process x.front y.front (ap (λ (h : Held Body). h.front) e))
+acts_none lots x y e = (now_of x y lots e, did_none x.process x.front y.front (ap (λ (h : Held Body). h.front) e))
 
 -- some, and then others
 pub acts_twice : (es fs : List (Event × Item)) (lots more : List (ℕ × LotOf Body)) (old mid last : Held Body) → Acts es lots old mid → Acts fs more mid last → Acts (es ++ fs) more old last
 acts_twice es fs lots more old mid last one two = (
-  two.0 ∙ ap (λ (h : Held Body). with_lots h more) one.0,
+  two.0 ∙ ap (λ (h : Held Body). record h { lots = more; front = last.front }) one.0,
   did_more old.process es fs old.front mid.front last.front one.1
       (subst (λ (p : ℕ). Did p fs mid.front last.front) (ap (λ (h : Held Body). h.process) one.0) two.1),
 )
@@ -36,7 +46,7 @@ acts_twice es fs lots more old mid last one two = (
 -- its lots changed afterwards
 pub acts_lent : (es : List (Event × Item)) (lots more : List (ℕ × LotOf Body)) (old mid last : Held Body) → Acts es lots old mid → last ≡ with_lots mid more → Acts es more old last
 acts_lent es lots more old mid last one then = (
-  ap bare then ∙ ap (λ (h : Held Body). with_lots h more) one.0,
+  now_of mid last more then ∙ ap (λ (h : Held Body). record h { lots = more; front = last.front }) one.0,
   subst (λ (f : List (Deed Body)). Did old.process es old.front f) (sym (ap (λ (h : Held Body). h.front) then)) one.1,
 )
 
@@ -44,13 +54,13 @@ second : (a b : Bool) → (a && b) ≡ true → b ≡ true
 second true b e = e
 second false b e = absurd (cc)
 
--- nothing stands at an empty record
+-- none_item stands at an empty record
 none_in : (b : Body) → fits_in b 0 ≡ true → content_of b ≡ bytes []
 none_in Nothing e = refl
 none_in (Data v) e = let f : false ≡ true = second _ _ e in absurd (cc)
 none_in (End p) e = absurd (cc)
 
-pub empty_item : (l : LotOf Body) → IsEmpty fits_in l → item_of l ≡ nothing
+pub empty_item : (l : LotOf Body) → IsEmpty fits_in l → item_of l ≡ none_item
 empty_item l e = λ i. record { len = e.0 i; content = none_in l.body e.1 i }
 
 pub claim_acts : (x y : Held Body) (p r : ℕ) (h : HasGained (Claim p r) (IsEmpty fits_in) x y) → Acts (claimed p (r ∷ [])) (x.lots ++ (r, h.0) ∷ []) x y
@@ -62,115 +72,119 @@ vacate_acts x y p r l at none h =
     let same : Some h.0 ≡ Some l = sym h.1 ∙ at in let one : h.0 ≡ l = cc in
     acts_of ((Vacate p r, h.0) ∷ []) (vacated p r) (without r x.lots) x y h.2.0 (λ i. (Vacate p r, (ap item_of one ∙ empty_item l none) i) ∷ [])
 
--- ---- what is shown of lots
+-- ---- a seat that looked before
 
-pub shown_append : (lots : List (ℕ × LotOf Body)) (rs qs : List ℕ) → shown lots (rs ++ qs) ≡ shown lots rs ++ shown lots qs
-shown_append lots [] qs = refl
-shown_append lots (r ∷ rs) qs = ap (λ (l : List (ℕ × Item)). (r, item_in (value_at r lots)) ∷ l) (shown_append lots rs qs)
+pub acts_again : (old mid new : Held Body) → Acts [] old.lots old mid → Acts [] mid.lots mid new → Acts [] old.lots old new
+acts_again old mid new one two = acts_twice [] [] old.lots old.lots old mid new one (subst (λ (h : Held Body). Acts [] h.lots mid new) one.0 two)
 
--- only what stands at these numbers counts
-pub shown_same : (rs : List ℕ) (xs ys : List (ℕ × LotOf Body)) → ((r : ℕ) → Among rs r → value_at r xs ≡ value_at r ys) → shown xs rs ≡ shown ys rs
-shown_same [] xs ys same = refl
-shown_same (r ∷ rs) xs ys same = λ i. (r, item_in (same r (inl refl) i)) ∷ shown_same rs xs ys (λ q a. same q (inr a)) i
+-- it is the seat that it was, but for what it has seen
+pub looked_at : (old mid : Held Body) → HasNow old old.lots mid → record mid { front = old.front } ≡ old
+looked_at old mid same = ap (λ (h : Held Body). record h { front = old.front }) same
 
-pub shown_picked : (rs : List ℕ) (lots : List (ℕ × LotOf Body)) (xs : List (ℕ × Item)) → ((r : ℕ) → Among rs r → value_at r xs ≡ Some (item_in (value_at r lots))) → shown lots rs ≡ picked rs xs
-shown_picked [] lots xs same = refl
-shown_picked (r ∷ rs) lots xs same = λ i. alone r (sym (same r (inl refl)) i) ++ shown_picked rs lots xs (λ q a. same q (inr a)) i
+pub did_since : (old mid : Held Body) (to : List (Deed Body)) (es : List (Event × Item)) → Acts [] old.lots old mid → Did mid.process es mid.front to → Did mid.process es old.front to
+did_since old mid to es same then =
+    did_more mid.process [] es old.front mid.front to (subst (λ (p : ℕ). Did p [] old.front mid.front) (sym (ap (λ (h : Held Body). h.process) same.0)) same.1) then
 
--- ---- a place whose seat let go of what it claimed, or claimed nothing
+-- and then did what its process and lots say
+pub acts_then : (es : ℕ → List (Event × Item)) (f : List (ℕ × LotOf Body) → List (ℕ × LotOf Body)) (old mid new : Held Body) → Acts [] old.lots old mid → Acts (es mid.process) (f mid.lots) mid new
+    → Acts (es old.process) (f old.lots) old new
+acts_then es f old mid new one two =
+    acts_twice [] (es old.process) old.lots (f old.lots) old mid new one (subst (λ (h : Held Body). Acts (es h.process) (f h.lots) mid new) one.0 two)
 
-pub lets_none : (also : List ℕ → Type 0) (arena : ℕ) (old new : PlaceSeen) → also [] → Stays old new → LetsGo also arena old new
-lets_none also arena old new h same = ([], h, (λ r a. absurd a), same)
+pub lets_since : (also : List ℕ → Type 0) (arena : ℕ) (old mid new : Held Body) → Acts [] old.lots old mid → LetsGo also arena mid new → LetsGo also arena old new
+lets_since also arena old mid new same h = (h.0, h.1, h.2, acts_then (λ p. let_go p h.0) (λ ls. ls) old mid new same h.3)
 
-module _ {seat : Held Body} (rs : List ℕ) {room total : ℕ} {state : Status} (is : IsPlace seat (shown seat.lots rs) room total state) (last : Held Body) {p : PlaceSeen}
-    (view : place_seen seat rs state ≡ p) where
-  -- it did these deeds alone
-  pub did_only : (es : ℕ → List (Event × Item)) → Acts (es seat.process) seat.lots seat last → IsPlace last (shown last.lots rs) room total state
-      × Becomes p.place (es p.place.process) p (place_seen last rs state)
-  did_only es new = let both = stays rs is last new.0 in (both.0, (both.1 p.place (placed view), place_did seat view last es new.1))
-
-  pub lets_go : (also : List ℕ → Type 0) (arena : ℕ) → SeatLetsGo also arena seat last → LetsGo also arena p (place_seen last rs state)
-  lets_go also arena h = (h.0, h.1, h.2, (did_only (λ q. let_go q h.0) h.3).1)
-
-  -- what it found, by its place's list
-  kept : (claims : List ℕ) (r : ℕ) → Among (keys seat.lots ++ claims) r → Among (keys (shown seat.lots rs) ++ claims) r
-  kept claims r a = ⊎_elim (λ b. among_front (keys (shown seat.lots rs)) claims r (go (value_at r seat.lots) refl b)) (λ b. among_back (keys (shown seat.lots rs)) claims r b)
-      (among_either (keys seat.lots) claims r a) where
-        go : (o : Option (LotOf Body)) → value_at r seat.lots ≡ o → Among (keys seat.lots) r → Among (keys (shown seat.lots rs)) r
-        go None e b = absurd (no_key r seat.lots e b)
-        go (Some l) e b = at_key r (item_of l) (shown seat.lots rs) (is.same r ∙ ap item_at e)
-
-  pub finds_full : (most arena : ℕ) → SeatFull most seat last arena → FindsFull most p (place_seen last rs state) arena
-  finds_full most arena h =
-      let held : List ℕ = keys (shown seat.lots rs) ++ h.0 in
-      let wide = full_wide seat.process (keys seat.lots ++ h.0) held seat.shape seat.front last.front seat.front last.front arena (kept h.0) (starts_same refl) (starts_same refl) h.1.1 in (
-        h.0,
-        (h.1.0, subst (λ (z : PlaceSeen). SawFull z.place.process (keys z.place.blocks ++ h.0) z.place.shape z.front last.front arena) view wide),
-        h.2,
-        (did_only (λ q. let_go q h.0) h.3).1,
-      )
-
--- ---- a call that looked before
-
-pub stays_then : (p : PlaceOf) (es : List (Event × Item)) (old mid new : PlaceSeen) → Stays old mid → Becomes p es mid new → Becomes p es old new
-stays_then p es old mid new same then =
-    (then.0, did_more old.place.process [] es old.front mid.front new.front same.1 (subst (λ (q : PlaceOf). Did q.process es mid.front new.front) same.0 then.1))
-
--- it is the same place
-pub becomes_same : (xs : List (ℕ × Item)) (es : List (Event × Item)) (old new : PlaceSeen) → Becomes (with_blocks old.place xs) es old new → IsSamePlace old new
-becomes_same xs es old new h =
-    (ap (λ p. p.table) h.0, ap (λ p. p.shape) h.0, ap (λ p. p.process) h.0, did_starts old.place.process es old.front new.front h.1)
-
-pub stays_same : (old new : PlaceSeen) → Stays old new → IsSamePlace old new
-stays_same old new h = becomes_same old.place.blocks [] old new h
-
-pub same_then : (old mid new : PlaceSeen) → IsSamePlace old mid → IsSamePlace mid new → IsSamePlace old new
-same_then old mid new one two = (two.0 ∙ one.0, two.1 ∙ one.1, two.2 ∙ one.2, starts_more old.front one.3 two.3)
-
-pub stays_itself : (p : PlaceSeen) → Stays p p
-stays_itself p = (refl, did_none p.place.process p.front p.front refl)
-
-pub stays_again : (old mid new : PlaceSeen) → Stays old mid → Stays mid new → Stays old new
-stays_again old mid new one two = stays_then old.place [] old mid new one (two.0 ∙ one.0, two.1)
-
--- and then saw no more
-pub same_since : (old mid : PlaceSeen) (to : List (Deed Body)) → Stays old mid → to ≡ mid.front → Did old.place.process [] old.front to
-same_since old mid to same e = subst (λ (f : List (Deed Body)). Did old.place.process [] old.front f) (sym e) same.1
-
-pub let_since : (also : List ℕ → Type 0) (arena : ℕ) (old mid new : PlaceSeen) → Stays old mid → LetsGo also arena mid new → LetsGo also arena old new
-let_since also arena old mid new same h = (
-  h.0,
-  h.1,
-  h.2,
-  stays_then old.place (let_go old.place.process h.0) old mid new same (subst (λ (q : PlaceOf). Becomes q (let_go q.process h.0) mid new) same.0 h.3),
-)
-
-pub full_since : (most arena : ℕ) (old mid new : PlaceSeen) → Stays old mid → FindsFull most mid new arena → FindsFull most old new arena
+pub full_since : (most arena : ℕ) (old mid new : Held Body) → Acts [] old.lots old mid → FindsFull most mid new arena → FindsFull most old new arena
 full_since most arena old mid new same h =
-    let p : PlaceOf = mid.place in let held : List ℕ = keys p.blocks ++ h.0 in
-    let wide = full_wide p.process held held p.shape mid.front new.front old.front new.front arena (λ r a. a) (did_starts old.place.process [] old.front mid.front same.1) (starts_same refl) h.1.1 in
-    let then = subst (λ (q : PlaceOf). Becomes q (let_go q.process h.0) mid new) same.0 h.3 in (
+    let held : List ℕ = keys mid.lots ++ h.0 in
+    let wide = full_wide mid.process held held mid.shape mid.front new.front old.front new.front arena (λ r a. a) (did_starts old.process [] old.front mid.front same.1) (starts_same refl) h.1.1 in (
       h.0,
-      (h.1.0, subst (λ (q : PlaceOf). SawFull q.process (keys q.blocks ++ h.0) q.shape old.front new.front arena) same.0 wide),
+      (h.1.0, subst (λ (q : Held Body). SawFull q.process (keys q.lots ++ h.0) q.shape old.front new.front arena) same.0 wide),
       h.2,
-      stays_then old.place (let_go old.place.process h.0) old mid new same then,
+      acts_then (λ p. let_go p h.0) (λ ls. ls) old mid new same h.3,
     )
 
--- ---- blocks that come
+pub acts_itself : (x : Held Body) → Acts [] x.lots x x
+acts_itself x = acts_none x.lots x x refl
 
-pub more_none : (p : PlaceOf) → p ≡ with_more [] p
-more_none p = λ i. record p { blocks = sym (append-nil p.blocks) i }
+-- a place whose seat did so
+pub becomes : (seat last : Held Body) (lots : List (ℕ × LotOf Body)) (parts : List (Event × Item)) {old new : Status} {xs ys : List ℕ} → Acts parts lots seat last → ys ≡ xs → new ≡ old
+    → ◌≡◌ {A = PlaceSeen} (record { seat = last; list = ys; state = new }) (record { seat = record seat { lots = lots; front = last.front }; list = xs; state = old })
+    × Did seat.process parts seat.front last.front
+becomes seat last lots parts h items state = ((λ i. record { seat = h.0 i; list = items i; state = state i }), h.1)
 
-pub more_twice : (ys zs : List (ℕ × Item)) (p : PlaceOf) → with_more zs (with_more ys p) ≡ with_more (ys ++ zs) p
-more_twice ys zs p = λ i. record p { blocks = append_assoc p.blocks ys zs i }
+pub stays_itself : (p : PlaceSeen) → Stays p p
+stays_itself p = (refl, did_none p.seat.process p.seat.front p.seat.front refl)
 
-pub gains_none : (d : ℕ) (old new : PlaceSeen) → Stays old new → Gains d [] old new
-gains_none d old new same = (same.0 ∙ more_none old.place, same.1)
-
-pub gains_twice : (d : ℕ) (ys zs : List (ℕ × Item)) (old mid new : PlaceSeen) → Gains d ys old mid → Gains d zs mid new → Gains d (ys ++ zs) old new
-gains_twice d ys zs old mid new one two = (
-  two.0 ∙ ap (with_more zs) one.0 ∙ more_twice ys zs old.place,
-  subst (λ (es : List (Event × Item)). Did old.place.process es old.front new.front) (sym (map-append (λ (x : ℕ × Item). (Accept old.place.process x.0 d, x.1)) ys zs))
-      (did_more old.place.process (accepted_on old.place.process d ys) (accepted_on old.place.process d zs) old.front mid.front new.front one.1
-      (subst (λ (q : PlaceOf). Did q.process (accepted_on q.process d zs) mid.front new.front) one.0 two.1)),
+pub stays_again : (old mid new : PlaceSeen) → Stays old mid → Stays mid new → Stays old new
+stays_again old mid new one two = (
+  two.0 ∙ ap (λ (q : PlaceSeen). record { seat = record q.seat { front = new.seat.front }; list = q.list; state = q.state }) one.0,
+  did_more old.seat.process [] [] old.seat.front mid.seat.front new.seat.front one.1
+      (subst (λ (p : ℕ). Did p [] mid.seat.front new.seat.front) (ap (λ (q : PlaceSeen). q.seat.process) one.0) two.1),
 )
+
+-- it is the same seat and place
+pub acts_same : (es : List (Event × Item)) (lots : List (ℕ × LotOf Body)) (old new : Held Body) → Acts es lots old new
+    → (new.table ≡ old.table) × (new.shape ≡ old.shape) × (new.process ≡ old.process) × StartsWith new.front old.front
+acts_same es lots old new h = (ap (λ (q : Held Body). q.table) h.0, ap (λ (q : Held Body). q.shape) h.0, ap (λ (q : Held Body). q.process) h.0, did_starts old.process es old.front new.front h.1)
+
+pub becomes_same : (lots : List (ℕ × LotOf Body)) (xs : List ℕ) (es : List (Event × Item)) (old new : PlaceSeen) → Becomes lots xs es old new → IsSamePlace old new
+becomes_same lots xs es old new h = acts_same es lots old.seat new.seat (ap (λ (p : PlaceSeen). p.seat) h.0, h.1)
+
+pub same_then : (old mid new : PlaceSeen) → IsSamePlace old mid → IsSamePlace mid new → IsSamePlace old new
+same_then old mid new one two = (two.0 ∙ one.0, two.1 ∙ one.1, two.2 ∙ one.2, starts_more old.seat.front one.3 two.3)
+
+-- ---- one after the other
+
+pub becomes_twice : (es fs : List (Event × Item)) (lots more : List (ℕ × LotOf Body)) (xs ys : List ℕ) (old mid new : PlaceSeen) → Becomes lots xs es old mid → Becomes more ys fs mid new
+    → Becomes more ys (es ++ fs) old new
+becomes_twice es fs lots more xs ys old mid new one two = (
+  two.0 ∙ ap (λ (q : PlaceSeen). record { seat = record q.seat { lots = more; front = new.seat.front }; list = ys; state = q.state }) one.0,
+  did_more old.seat.process es fs old.seat.front mid.seat.front new.seat.front one.1
+      (subst (λ (p : ℕ). Did p fs mid.seat.front new.seat.front) (ap (λ (q : PlaceSeen). q.seat.process) one.0) two.1),
+)
+
+-- its own lots and list
+pub own_becomes : (es : List (Event × Item)) (lots : List (ℕ × LotOf Body)) (xs : List ℕ) (old new : PlaceSeen) → Becomes lots xs es old new → Becomes new.seat.lots new.list es old new
+own_becomes es lots xs old new h = (
+  h.0 ∙ (λ i. record {
+    seat = record old.seat { lots = sym (ap (λ (q : PlaceSeen). q.seat.lots) h.0) i; front = new.seat.front };
+    list = sym (ap (λ (q : PlaceSeen). q.list) h.0) i;
+    state =
+        old.state;
+  }),
+  h.1,
+)
+
+-- ---- lots that come
+
+pub gains_none : (d : ℕ) (old new : PlaceSeen) → Stays old new → GainsAll d [] old new
+gains_none d old new same = (
+  same.0 ∙ (λ i. record
+      { seat = record old.seat { lots = sym (append-nil old.seat.lots) i; front = new.seat.front }; list = sym (append-nil old.list) i; state = old.state }),
+  same.1,
+)
+
+-- first some, in lots that were changed so, and then more
+pub came_twice : (d : ℕ) (f : List (ℕ × LotOf Body) → List (ℕ × LotOf Body)) (lots ys zs : List (ℕ × LotOf Body)) (old mid new : PlaceSeen)
+    → Becomes lots (old.list ++ keys ys) (accepted_on old.seat.process d (items_of ys)) old mid
+    → Becomes (f mid.seat.lots ++ zs) (mid.list ++ keys zs) (accepted_on mid.seat.process d (items_of zs)) mid new
+    → Becomes (f lots ++ zs) (old.list ++ keys (ys ++ zs)) (accepted_on old.seat.process d (items_of (ys ++ zs))) old new
+came_twice d f lots ys zs old mid new one two =
+    let p : ℕ = old.seat.process in
+    let then = subst (λ (q : PlaceSeen). Becomes (f q.seat.lots ++ zs) (q.list ++ keys zs) (accepted_on q.seat.process d (items_of zs)) mid new) one.0 two in
+    subst (λ (z : List ℕ × List (Event × Item)). Becomes (f lots ++ zs) z.0 z.1 old new)
+    (λ i. ((append_assoc old.list (keys ys) (keys zs) ∙ ap (λ (l : List ℕ). old.list ++ l) (sym (keys_append ys zs))) i, log_more p d ys zs i))
+    (becomes_twice (accepted_on p d (items_of ys)) (accepted_on p d (items_of zs)) lots (f lots ++ zs) (old.list ++ keys ys) ((old.list ++ keys ys) ++ keys zs) old mid new one then)
+
+pub gains_twice : (d : ℕ) (ys zs : List (ℕ × LotOf Body)) (old mid new : PlaceSeen) → GainsAll d ys old mid → GainsAll d zs mid new → GainsAll d (ys ++ zs) old new
+gains_twice d ys zs old mid new one two = subst (λ (ls : List (ℕ × LotOf Body)). Becomes ls (old.list ++ keys (ys ++ zs)) (accepted_on old.seat.process d (items_of (ys ++ zs))) old new)
+    (append_assoc old.seat.lots ys zs) (came_twice d (λ ls. ls) (old.seat.lots ++ ys) ys zs old mid new one two)
+
+-- only how far the process has come is another
+pub becomes_state : (lots : List (ℕ × LotOf Body)) (xs : List ℕ) (es : List (Event × Item)) (old new : PlaceSeen) (s : Status) → Becomes lots xs es old new
+    → Becomes lots xs es (record old { state = s }) (record new { state = s })
+becomes_state lots xs es old new s h = (ap (λ (p : PlaceSeen). record p { state = s }) h.0, h.1)
+
+pub late_state : (d r : ℕ) (s t u : Status) (old new : PlaceSeen) (sum : ℕ) → IsTooLate d r s old new sum → IsTooLate d r t (record old { state = u }) (record new { state = t }) sum
+late_state d r s t u old new sum h = (h.0, h.1, h.2, h.3, h.4, becomes_state _ _ _ (record old { state = s }) new t h.5, h.6, h.7, h.8)

@@ -1,4 +1,3 @@
-pub mod Terms
 pub mod Words
 pub mod Common
 pub mod Listing
@@ -7,11 +6,11 @@ pub mod Seeing
 pub mod Events
 pub mod Gained
 pub mod Counted
+pub mod Parted
+pub mod Settled
+pub mod Ends
+pub mod Shown
 pub mod Givens
 pub mod Swept
-pub mod Found
-pub mod Parted
-pub mod Lent
-pub mod Ends
 pub mod Drained
 pub mod Stayed

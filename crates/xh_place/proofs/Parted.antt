@@ -1,21 +1,24 @@
 -- A block cut in two, and one in which some bytes were overwritten.
 use Rattle.xh_place.proofs.Words.{◌≡◌, ◌≢◌, ℕ, ◌+◌, ◌-◌, ◌/◌, ◌<◌, ◌≤◌, List, [], ◌∷◌, ◌++◌, length, drop, take, true, refl, sym, ap, ◌∙◌, subst, arith, rules, length-take-le, length-drop, Some}
 use Rattle.xh_place.proofs.Words.{None, LotOf, start, Tests, first_refusal, is_over, Status, Running, Among, keys, value_at, put, at_key, front_at, keys_push, last_put, put_keys}
-use Rattle.xh_place.proofs.Words.{IsLotOf, Held, IsRecord, IsSeatOf, RecordsOf, with_lots, HasNow, CutsLot, IsData, bare, Body, Nothing, Data, End, bytes, content_of, fits_in, front, kind_of, rest}
-use Rattle.xh_place.proofs.Words.{Did, claimed, Item, item_at, item_of, shown, total_of, IsBlock, IsPlace, length-append, Shape, patched}
+use Rattle.xh_place.proofs.Words.{IsLotOf, Held, IsRecord, IsSeatOf, RecordsOf, with_lots, HasNow, CutsLot, IsData, Body, Nothing, Data, End, bytes, content_of, fits_in, head_of, kind_of, tail_of}
+use Rattle.xh_place.proofs.Words.{Did, claimed, item_of, found, IsBlock, IsPlace, length-append, Shape, patched}
 use Rattle.xh_model.specs.Arena.{IsGoodCut}
-use Rattle.xh_place.proofs.Listing.{put_front, shown_keys, total_put}
-use Rattle.xh_place.proofs.Events.{acts_lent}
+use Rattle.xh_place.proofs.Listing.{put_front}
+use Rattle.xh_place.proofs.Events.{acts_lent, now_of}
 use Rattle.xh_place.proofs.Gained.{fits_bytes, has}
-use Rattle.xh_place.proofs.Steps.{IsNow, changes, gains, is_now, quiet_alive, stays, turned}
 use Rattle.xh_core.specs.declared.header.Kind.TheVariants as kind
-use Rattle.std.specs.Prelude.{Err, Ok, OnErr, Option, Result, Some, is_none}
+use Rattle.std.specs.Prelude.{Err, Ok, OnErr, Option, Result, is_none, option_map}
 use Rattle.xh_core.specs.Calls.{range_tests}
 use Rattle.xh_core.specs.Refusing.{Tested}
-use Rattle.xh_core.specs.declared.header.Header.{Header}
 use Rattle.xh_core.specs.declared.refused.Refused.{Refused}
 use Rattle.xh_core.specs.declared.refused.Refused.TheVariants.{NotOwned}
 use Rattle.xh_place.specs.Places.{header_of}
+use Rattle.xh_place.proofs.Steps.{block_small, changes, enough, gains, now_as, now_is}
+use Rattle.std.specs.Borrow.{MutBor}
+use Rattle.std.specs.Fn.{CalledAtMut, Mut}
+use Rattle.xh_place.specs.Calls.{bytes_in, made_of}
+use Rattle.xh_place.specs.Places.{Item}
 
 still_fresh : {X : Type 0} (r t : ℕ) (y : X) (xs : List (ℕ × X)) → (Among (keys xs) t → ⊥) → Among (keys (put r y xs)) t → ⊥
 still_fresh r t y xs fresh a = fresh (subst (λ (ks : List ℕ). Among ks t) (put_keys r y xs) a)
@@ -24,9 +27,9 @@ still_fresh r t y xs fresh a = fresh (subst (λ (ks : List ℕ). Among ks t) (pu
 cut_up : (seat mid last : Held Body) (r t : ℕ) (l l0 h m : LotOf Body) → HasNow seat (seat.lots ++ (t, l0) ∷ []) mid → (Among (keys seat.lots) t → ⊥) → value_at r seat.lots ≡ Some l
     → last ≡ with_lots mid (put t m (put r h mid.lots)) → HasNow seat (put r h seat.lots ++ (t, m) ∷ []) last
 cut_up seat mid last r t l l0 h m is fresh at new =
-    ap bare new ∙ ap (λ (s : Held Body). with_lots s (put t m (put r h s.lots))) is
-    ∙ ap (λ (ls : List (ℕ × LotOf Body)). with_lots (bare seat) (put t m ls)) (put_front r h l seat.lots ((t, l0) ∷ []) at)
-    ∙ ap (with_lots (bare seat)) (last_put t l0 m (put r h seat.lots) (still_fresh r t h seat.lots fresh))
+    now_of mid last (put t m (put r h mid.lots)) new ∙ ap (λ (s : Held Body). record s { lots = put t m (put r h s.lots); front = last.front }) is
+    ∙ ap (λ (ls : List (ℕ × LotOf Body)). record seat { lots = put t m ls; front = last.front }) (put_front r h l seat.lots ((t, l0) ∷ []) at)
+    ∙ ap (λ (ls : List (ℕ × LotOf Body)). record seat { lots = ls; front = last.front }) (last_put t l0 m (put r h seat.lots) (still_fresh r t h seat.lots fresh))
 
 -- the bytes of a data block
 pub data_of : (b : Body) (n : ℕ) → kind_of (content_of b) ≡ kind.Data → fits_in b n ≡ true → (xs : List ℕ) × (content_of b ≡ bytes xs) × (length xs ≡ n) × (n ≤ 134217728)
@@ -35,20 +38,11 @@ data_of (Data v) n k e = (v.items, refl, search rules, search rules)
 data_of (End p) n k e = absurd (cc)
 
 -- the list and its place after the cut
-module _ {seat : Held Body} (last : Held Body) (rs : List ℕ) {ys : List ℕ} {room cap total : ℕ} {state : Status} {r t : ℕ} {l h m : LotOf Body} (alive : is_over state ≡ true → ⊥)
-    (is : IsPlace seat (shown seat.lots rs) room total state) (at : value_at r seat.lots ≡ Some l) (head : IsBlock seat.shape r h) (tail : IsBlock seat.shape t m)
-    (fresh : Among (keys seat.lots) t → ⊥)
-    (new : HasNow seat (put r h seat.lots ++ (t, m) ∷ []) last) (lens : h.len + m.len ≡ l.len) (items : ys ≡ rs ++ t ∷ []) (caps : cap ≡ room) where
-  pub parted : IsNow seat rs state last ys cap total (λ (es : List (ℕ × Item)). put r (item_of h) es ++ (t, item_of m) ∷ [])
-  parted =
-      let xs : List (ℕ × Item) = shown seat.lots rs in let xs1 : List (ℕ × Item) = put r (item_of h) xs in
-      let seat1 : Held Body = with_lots seat (put r h seat.lots) in
-      let is1 : IsPlace seat1 xs1 room (total_of xs1) state = changes is seat1 r l h at refl head in
-      let moved : total_of xs1 + l.len ≡ total_of xs + h.len = total_put xs r (item_of l) (item_of h) (is.same r ∙ ap item_at at) in
-      let all : total ≡ total_of xs = is.sum in let sum : total ≡ total_of xs1 + m.len = omega arith in
-      is_now seat rs state last (put r h seat.lots ++ (t, m) ∷ []) ys room (total_of xs1 + m.len) cap total (λ (es : List (ℕ × Item)). put r (item_of h) es ++ (t, item_of m) ∷ []) new
-      (gains is1 last t m (still_fresh r t h seat.lots fresh) new tail (quiet_alive state (xs1 ++ (t, item_of m) ∷ []) alive))
-      (items ∙ ap (λ (z : List ℕ). z ++ t ∷ []) (sym (shown_keys seat.lots rs) ∙ sym (put_keys r (item_of h) xs)) ∙ sym (keys_push xs1 (t, item_of m))) caps sum
+pub parted : {s : Shape} {lots : List (ℕ × LotOf Body)} {xs : List ℕ} {room total : ℕ} {state : Status} {r t : ℕ} {l h m : LotOf Body} → IsPlace s lots xs room total state → (is_over state ≡ true → ⊥)
+    → value_at r lots ≡ Some l → IsBlock s r h → IsBlock s t m → (Among (keys lots) t → ⊥) → h.len + m.len ≡ l.len → IsPlace s (put r h lots ++ (t, m) ∷ []) (xs ++ t ∷ []) room total state
+parted {s} {lots} {xs} {room} {total} {state} {r} {t} {l} {h} {m} is alive at head tail fresh lens =
+    let shorter : IsPlace s (put r h lots) xs room (total - m.len) state = changes is at head (omega (arith, enough is r at, lens)) in
+    now_as (gains shorter tail (still_fresh r t h lots fresh) alive) refl refl (omega (arith, enough is r at, lens))
 
 -- A seat that claimed t, to cut r: what it has of both
 pub record Cutting (all : RecordsOf) (seat mid : Held Body) (r t : ℕ) (l l0 : LotOf Body) : Type 0 where
@@ -80,15 +74,15 @@ cutting all seat mid r t l l0 own at block exists lot fresh is = record {
 pub is_cut : (all : RecordsOf) (seat mid last : Held Body) (r t k : ℕ) (l l0 h m : LotOf Body) (b : Body) → Cutting all seat mid r t l l0
     → (Among (keys seat.lots) t → ⊥) → IsBlock seat.shape r l
     → IsLotOf seat.shape t l0 → IsRecord seat.shape t → IsData l → IsGoodCut k l.len → t / 256 ≡ r / 256
-    → h ≡ record l { len = k; body = h.body } → content_of h.body ≡ front k (content_of l.body) → m ≡ record l0 { len = l.len - k; body = b } → content_of b ≡ rest k (content_of l.body)
+    → h ≡ record l { len = k; body = h.body } → content_of h.body ≡ head_of k (content_of l.body) → m ≡ record l0 { len = l.len - k; body = b } → content_of b ≡ tail_of k (content_of l.body)
     → last ≡ with_lots mid (put t m (put r h mid.lots)) → Did seat.process (claimed seat.process (t ∷ [])) seat.front mid.front → CutsLot seat last r k l t
 is_cut all seat mid last r t k l l0 h m b c fresh block lot exists held good arena head head_bytes tail tail_bytes new acted =
     let d = data_of l.body l.len held.0 held.1 in let xs : List ℕ = d.0 in
     let long : length xs ≡ l.len = d.2 in let most : l.len ≤ 134217728 = d.3 in let below : k < l.len = good.2 in let some : 0 < k = good.0 in
     let h_len : h.len ≡ k = ap (λ (z : LotOf Body). z.len) head in let m_len : m.len ≡ l.len - k = ap (λ (z : LotOf Body). z.len) tail in
-    let h_bytes : content_of h.body ≡ bytes (take k xs) = head_bytes ∙ ap (front k) d.1 in
+    let h_bytes : content_of h.body ≡ bytes (take k xs) = head_bytes ∙ ap (head_of k) d.1 in
     let body : m.body ≡ b = ap (λ (z : LotOf Body). z.body) tail in
-    let m_bytes : content_of m.body ≡ bytes (drop k xs) = ap content_of body ∙ tail_bytes ∙ ap (rest k) d.1 in
+    let m_bytes : content_of m.body ≡ bytes (drop k xs) = ap content_of body ∙ tail_bytes ∙ ap (tail_of k) d.1 in
     let h_long : length (take k xs) ≡ h.len = length-take-le k xs (omega arith) ∙ sym h_len in
     let m_long : length (drop k xs) ≡ m.len = length-drop k xs ∙ ap (λ (n : ℕ). n - k) long ∙ sym m_len in (
       h,
@@ -123,15 +117,15 @@ weaker : {A : Type 0} {P Q : A → Type 0} (ts us : Tests) (result : Result A Re
 weaker ts us (Ok a) e (fine, is) gives = (e ∙ fine, gives a is)
 weaker ts us (Err refused) e is gives = e ∙ is
 
--- a call on bytes of a block of the list is refused as the block's own tests say
-pub tested_range : {A : Type 0} (s : Status) (found : Option Header) (x : Item) (at n : ℕ) (result : Result A Refused) {y : Item} {P Q : A → Type 0}
-    → first_refusal (start s ++ (is_none found, NotOwned) ∷ []) ≡ None → found ≡ Some (header_of x) → y ≡ x → Tested (range_tests (Some (header_of y)) at n) result P
-    → ((a : A) → P a → Q a) → Tested (start s ++ range_tests found at n) result Q
-tested_range s found x at n result {y} fine is same tests gives =
-    let e : first_refusal (start s ++ range_tests found at n) ≡ first_refusal (range_tests (Some (header_of y)) at n)
-    = ap (λ (z : Status). first_refusal (start z ++ range_tests found at n)) (runs s ((is_none found, NotOwned) ∷ []) fine)
-    ∙ ap (λ (o : Option Header). first_refusal (range_tests o at n)) (is ∙ ap (λ (z : Item). Some (header_of z)) (sym same)) in
-    weaker (range_tests (Some (header_of y)) at n) (start s ++ range_tests found at n) result e tests gives
+-- a call on bytes of a block of the seat is refused as the block's own tests say
+pub tested_range : {A : Type 0} (s : Status) (seat : Held Body) (r : ℕ) {l : LotOf Body} (at n : ℕ) (result : Result A Refused) {P Q : A → Type 0}
+    → first_refusal (start s ++ (is_none (found seat r), NotOwned) ∷ []) ≡ None → value_at r seat.lots ≡ Some l → Tested (range_tests (Some (header_of (item_of l))) at n) result P
+    → ((a : A) → P a → Q a) → Tested (start s ++ range_tests (found seat r) at n) result Q
+tested_range s seat r {l} at n result fine is tests gives =
+    let e : first_refusal (start s ++ range_tests (found seat r) at n) ≡ first_refusal (range_tests (Some (header_of (item_of l))) at n)
+    = ap (λ (z : Status). first_refusal (start z ++ range_tests (found seat r) at n)) (runs s ((is_none (found seat r), NotOwned) ∷ []) fine)
+    ∙ ap (λ (o : Option (LotOf Body)). first_refusal (range_tests (option_map header_of (option_map item_of o)) at n)) is in
+    weaker (range_tests (Some (header_of (item_of l))) at n) (start s ++ range_tests (found seat r) at n) result e tests gives
 
 -- ---- a block in which some bytes were overwritten
 
@@ -143,37 +137,54 @@ patch_long at ys xs fits =
     let d : length (take at xs ++ (ys ++ drop (at + length ys) xs)) ≡ length (take at xs) + length (ys ++ drop (at + length ys) xs) = length-append (take at xs) (ys ++ drop (at + length ys) xs) in
     omega arith
 
-is_patched : {s : Shape} {r : ℕ} (at : ℕ) (ys : List ℕ) {l m : LotOf Body} {x : Item} → IsBlock s r l → item_of l ≡ x → kind_of x.content ≡ kind.Data → at + length ys ≤ x.len
-    → m ≡ record l { body = m.body } → content_of m.body ≡ patched at ys (content_of l.body)
-    → IsBlock s r m × (m.len ≡ l.len) × (item_of m ≡ record x { content = patched at ys x.content })
-is_patched {s} {r} at ys {l} {m} {x} block same data_kind fits lot content =
-    let d = data_of l.body l.len (ap (λ (z : Item). kind_of z.content) same ∙ data_kind) block.full.1 in let xs : List ℕ = d.0 in
-    let long : length xs ≡ l.len = d.2 in let most : l.len ≤ 134217728 = d.3 in
-    let len : m.len ≡ l.len = ap (λ (z : LotOf Body). z.len) lot in let x_len : l.len ≡ x.len = ap (λ (z : Item). z.len) same in
-    let room : at + length ys ≤ length xs = omega arith in let some : 0 < l.len = block.full.0 in
+-- another body of the same length
+pub another : {s : Shape} {r : ℕ} {l m : LotOf Body} → IsBlock s r l → m ≡ record l { body = m.body } → fits_in m.body m.len ≡ true → m.len ≡ l.len → IsBlock s r m
+another {s} {r} {l} {m} block lot fits len = record {
+  exists = block.exists;
+  lot = (ap (λ (z : LotOf Body). z.index) lot ∙ block.lot.0, block.lot.1 ∙ ap (λ (z : LotOf Body). Some z.id) (sym lot));
+  full = (omega (arith, len, block.full.0), fits);
+}
+
+-- the block with these bytes there
+pub is_patched : {s : Shape} {r : ℕ} (at : ℕ) (ys : List ℕ) {l m : LotOf Body} → IsBlock s r l → IsData l → at + length ys ≤ l.len → m ≡ record l { body = m.body }
+    → content_of m.body ≡ patched at ys (content_of l.body) → IsBlock s r m × (m.len ≡ l.len) × (item_of m ≡ record (item_of l) { content = patched at ys (content_of l.body) })
+is_patched {s} {r} at ys {l} {m} block held fits lot content =
+    let d = data_of l.body l.len held.0 held.1 in let xs : List ℕ = d.0 in
+    let long : length xs ≡ l.len = d.2 in let most : l.len ≤ 134217728 = d.3 in let len : m.len ≡ l.len = ap (λ (z : LotOf Body). z.len) lot in
+    let room : at + length ys ≤ length xs = omega (arith, fits, long) in let some : 0 < l.len = block.full.0 in
     let new : content_of m.body ≡ bytes (take at xs ++ (ys ++ drop (at + length ys) xs)) = content ∙ ap (patched at ys) d.1 in
     let new_long : length (take at xs ++ (ys ++ drop (at + length ys) xs)) ≡ m.len = patch_long at ys xs room ∙ long ∙ sym len in (
-      record {
-        exists = block.exists;
-        lot = (ap (λ (z : LotOf Body). z.index) lot ∙ block.lot.0, block.lot.1 ∙ ap (λ (z : LotOf Body). Some z.id) (sym lot));
-        full =
-            (omega arith, fits_bytes m.body (take at xs ++ (ys ++ drop (at + length ys) xs)) m.len new new_long (omega arith) (omega arith));
-      },
+      another block lot (fits_bytes m.body (take at xs ++ (ys ++ drop (at + length ys) xs)) m.len new new_long (omega (arith, len, some)) (omega (arith, len, most))) len,
       len,
-      (λ i. record { len = (len ∙ x_len) i; content = (content ∙ ap (λ (z : Item). patched at ys z.content) same) i }),
+      (λ i. record { len = len i; content = content i }),
     )
 
 -- what a write leaves: the bytes stand in the block, or the seat is as it was
-pub overwritten : {seat : Held Body} (last : Held Body) (rs : List ℕ) {room total : ℕ} {state : Status} {r : ℕ} {l : LotOf Body} {x : Item} {A : Type 0} (at : ℕ) (ys : List ℕ)
-    (result : Result A Refused) → IsPlace seat (shown seat.lots rs) room total state → value_at r seat.lots ≡ Some l → IsBlock seat.shape r l → item_of l ≡ x
+pub overwritten : {A : Type 0} (at : ℕ) (ys : List ℕ) (result : Result A Refused) (seat last : Held Body) (r : ℕ) {xs : List ℕ} {room total : ℕ} {state : Status} {l : LotOf Body}
+    → IsPlace seat.shape seat.lots xs room total state → value_at r seat.lots ≡ Some l
     → Tested (range_tests (Some (header_of (item_of l))) at (length ys)) result (λ _. IsData l × (at + length ys ≤ l.len)
     × ((m : LotOf Body) × (m ≡ record l { body = m.body }) × (content_of m.body ≡ patched at ys (content_of l.body)) × (last ≡ with_lots seat (put r m seat.lots))))
     → OnErr result (last ≡ seat)
-    → (f : List (ℕ × Item) → List (ℕ × Item)) × IsNow seat rs state last rs room total f
-    × Tested (range_tests (Some (header_of (item_of l))) at (length ys)) result (λ _. f ≡ put r (record x { content = patched at ys x.content }))
-    × OnErr result (f ≡ (λ (es : List (ℕ × Item)). es)) × (last.front ≡ seat.front)
-overwritten {seat} last rs {room} {total} {state} {r} {l} {x} at ys (Ok a) is held block same (fine, (kinds, fits, (m, lot, content, new))) none =
-    let p = is_patched at ys block same (ap (λ (z : Item). kind_of z.content) (sym same) ∙ kinds.0) (subst (λ (z : Item). at + length ys ≤ z.len) same fits) lot content in
-    (put r (item_of m), turned rs is last held (ap bare new) p.0 p.1, (fine, ap (put r) p.2), none, ap (λ (s : Held Body). s.front) new)
-overwritten {seat} last rs {room} {total} {state} {r} {l} {x} at ys (Err refused) is held block same tests unmoved =
-    ((λ (es : List (ℕ × Item)). es), stays rs is last (ap bare unmoved), tests, refl, ap (λ (s : Held Body). s.front) unmoved)
+    → IsPlace last.shape last.lots xs room total state × Tested (range_tests (Some (header_of (item_of l))) at (length ys)) result
+    (λ _. (m : LotOf Body) × (item_of m ≡ record (item_of l) { content = patched at ys (content_of l.body) }) × (last ≡ with_lots seat (put r m seat.lots)))
+overwritten at ys (Ok a) seat last r {xs} {room} {total} {state} {l} is held (fine, (kinds, fits, (m, lot, content, new))) none =
+    let p = is_patched at ys (is.whole r l held) kinds fits lot content in
+    (now_is seat last (now_of seat last (put r m seat.lots) new) (changes is held p.0 (omega (arith, p.1))), (fine, (m, p.2, new)))
+overwritten at ys (Err refused) seat last r is held tests unmoved = (now_is seat last (now_of seat last seat.lots unmoved) is, tests)
+
+-- the same of what a function left there
+pub lent : {F A : Type 0} (g : Mut F (MutBor (List ℕ) × Unit {0}) (A × (MutBor (List ℕ) × Unit {0}))) (from to : F) (result : Result A Refused) (seat last : Held Body) (r : ℕ)
+    {xs : List ℕ} {room total : ℕ} {state : Status} {l : LotOf Body} → IsPlace seat.shape seat.lots xs room total state → value_at r seat.lots ≡ Some l
+    → Tested (range_tests (Some (header_of (item_of l))) 0 0) result (λ a. (item_of l ≡ made_of (bytes_in (content_of l.body)))
+    × ((m : LotOf Body) × CalledAtMut g from (bytes_in (content_of l.body)) a to (bytes_in (content_of m.body)) × (m ≡ record l { body = m.body })
+    × (item_of m ≡ made_of (bytes_in (content_of m.body))) × (last ≡ with_lots seat (put r m seat.lots))))
+    → OnErr result (last ≡ seat)
+    → IsPlace last.shape last.lots xs room total state × Tested (range_tests (Some (header_of (item_of l))) 0 0) result
+    (λ a. (shown : List ℕ) × (m : LotOf Body) × (item_of l ≡ made_of shown) × CalledAtMut g from shown a to (bytes_in (content_of m.body)) × (item_of m ≡ made_of (bytes_in (content_of m.body)))
+    × (m.len ≡ length shown) × (last ≡ with_lots seat (put r m seat.lots)))
+lent g from to (Ok a) seat last r {xs} {room} {total} {state} {l} is held (fine, (whole, (m, called, lot, full, new))) none =
+    let block = is.whole r l held in let most = block_small block in let len : m.len ≡ l.len = ap (λ (z : LotOf Body). z.len) lot in
+    let long : m.len ≡ length (bytes_in (content_of m.body)) = ap (λ (z : Item). z.len) full in let was : l.len ≡ length (bytes_in (content_of l.body)) = ap (λ (z : Item). z.len) whole in
+    let fits = fits_bytes m.body (bytes_in (content_of m.body)) m.len (ap (λ (z : Item). z.content) full) (sym long) (omega (arith, len, block.full.0)) (omega (arith, len, most)) in
+    (now_is seat last (now_of seat last (put r m seat.lots) new) (changes is held (another block lot fits len) (omega (arith, len))), (fine, (_, m, whole, called, full, len ∙ was, new)))
+lent g from to (Err refused) seat last r is held tests unmoved = (now_is seat last (now_of seat last seat.lots unmoved) is, tests)

@@ -1,19 +1,16 @@
 -- What was seen stays seen, and a word that was seen between two fronts was seen between wider ones.
-use Rattle.xh_place.proofs.Words.{◌≡◌, ℕ, ⊎_elim, inl, inr, List, [], ◌∷◌, ◌++◌, append_assoc, append-nil, refl, sym, ap, ◌∙◌, subst, Event, Among, value_at, Shape}
-use Rattle.xh_place.proofs.Words.{StartsWith, Held, IsRecord, HasSeenWord, Body, Got, Content, bytes, endpoint, direction_toward, IsSwept, Sweeps, AreFetched, drop, suc, zero, AreGot, Did, Message, flat_map, map, map-append}
-use Rattle.xh_place.proofs.Words.{EndsWith, toward_in, Clears, Drains, Item, PlaceOf, Status, IsElsewhere, IsSeen, PlaceSeen, SawAt, SawFull, SawWord}
-use Rattle.xh_place.proofs.Words.{Accept, LotOf, dite, here_first, item_of, not_here, place_of, record_got, ℕ_discrete}
+use Rattle.xh_place.proofs.Words.{◌≡◌, ℕ, List, [], ◌∷◌, ◌++◌, append_assoc, append-nil, refl, sym, ap, ◌∙◌, subst, Event, Among, Shape, map, map-append}
+use Rattle.xh_place.proofs.Words.{StartsWith, Body, Did, Item, SawAt, SawFull, item_of, place_of}
+use Rattle.xh_place.proofs.Words.{Content, bytes, endpoint, direction_toward, drop, suc, zero, EndsWith, IsElsewhere, IsRecord, IsSeen, IsSeenAfter, IsSwept, Message, Sweeps, flat_map}
+use Rattle.xh_place.proofs.Words.{inl, inr, ⊎_elim, dite, ℕ_discrete, here_first, not_here, Accept, Arrived, Held, LotOf, HasSeenWord}
 use Rattle.xh_model.specs.Words.{process_of}
-use Rattle.xh_records.specs.Deeds.{Adds, deeds_by}
-use Rattle.xh_records.proofs.Deeds.{deeds_append}
-use Rattle.xh_place.specs.Seen.{Arrived, Sight, bears, brings}
-use Rattle.xh_records.specs.Deeds.{Arrives, Deed}
-use Rattle.xh_arena.specs.Views.{VaultOf}
-use Rattle.xh_core.specs.declared.refused.Refused.{Refused}
-use Rattle.xh_core.specs.declared.refused.Refused.TheVariants as reason
-use Rattle.xh_place.specs.Vaults.{IsNoBlock, IsNoPair}
+use Rattle.xh_records.specs.Deeds.{Adds, Arrives}
+use Rattle.xh_place.specs.Endpoints.{AreFetched, AreGot, record_got}
+use Rattle.xh_place.specs.Seen.{Sight, bears, brings}
+use Rattle.xh_place.specs.declared.got.Got.{Got}
 use Rattle.xh_place.specs.declared.got.Got.TheVariants.{Here, Missing}
-use Rattle.xh_place.proofs.Steps.{view_of}
+use Rattle.xh_records.specs.Deeds.{Deed, deeds_by}
+use Rattle.xh_records.proofs.Deeds.{deeds_append}
 
 pub starts_same : {X : Type 0} {a b : List X} → b ≡ a → StartsWith b a
 starts_same {X} {a} {b} e = ([], e ∙ sym (append-nil a))
@@ -78,20 +75,47 @@ pub full_wide : (p : ℕ) (held more : List ℕ) (s : Shape) (from to from' to' 
 full_wide p held more s from to from' to' arena kept before after h = λ r exists near. let look = h r exists near in
     (look.0, look.1, (λ own. kept r (look.2 own)), saw_wide s from to from' to' r look.0 before after look.3)
 
-module _ (old new old' new' : PlaceSeen) (shape : old.place.shape ≡ old'.place.shape) (process : old.place.process ≡ old'.place.process)
-    (before : StartsWith old.front old'.front) (after : StartsWith new'.front new.front) where
-  pub word_wide : (r word : ℕ) → SawWord old new r word → SawWord old' new' r word
-  word_wide r word h = subst (λ (s : Shape). SawAt s old'.front new'.front r word) shape (saw_wide old.place.shape old.front new.front old'.front new'.front r word before after h)
+module _ (old new old' new' : Held Body) (shape : old.shape ≡ old'.shape) (process : old.process ≡ old'.process) (before : StartsWith old.front old'.front) (after : StartsWith new'.front new.front)
+  where
+    pub word_wide : (r word : ℕ) → SawAt old.shape old.front new.front r word → SawAt old'.shape old'.front new'.front r word
+    word_wide r word h = subst (λ (s : Shape). SawAt s old'.front new'.front r word) shape (saw_wide old.shape old.front new.front old'.front new'.front r word before after h)
 
-  pub seen_wide : (r : ℕ) (s : Sight) → IsSeen old new r s → IsSeen old' new' r s
-  seen_wide r (bears word) h = ⊎_elim (λ w. inl (word_wide r word w)) (λ n. inr (subst (λ (s : Shape). (IsRecord s r → ⊥) × (word ≡ 0)) shape n)) h
-  seen_wide r (brings d x) h = subst (λ (p : ℕ). Arrived p old'.front new'.front r d x) process
-      (arrived_wide old.place.process old.front new.front old'.front new'.front r d x before after h)
+    pub seen_wide : (r : ℕ) (s : Sight) → IsSeen old new r s → IsSeen old' new' r s
+    seen_wide r (bears word) h = ⊎_elim (λ w. inl (word_wide r word w)) (λ n. inr (subst (λ (s : Shape). (IsRecord s r → ⊥) × (word ≡ 0)) shape n)) h
+    seen_wide r (brings d x) h = subst (λ (p : ℕ). Arrived p old'.front new'.front r d x) process (arrived_wide old.process old.front new.front old'.front new'.front r d x before after h)
 
--- ---- what is told of looks, where each is a look in another sense
+pub after_wide : (d p : ℕ) (s : Shape) (from to from' : List (Deed Body)) → StartsWith from from' → (r : ℕ) (w : Sight) → IsSeenAfter d p s from to r w → IsSeenAfter d p s from' to r w
+after_wide d p s from to from' before r (bears word) h = (h.0, h.1, starts_more from' before h.2, h.3)
+after_wide d p s from to from' before r (brings way x) h = arrived_wide p from to from' to r way x before (starts_same refl) h
 
 pub away_as : (P Q : ℕ → ℕ → Type 0) → ((r word : ℕ) → P r word → Q r word) → (d r : ℕ) → IsElsewhere P d r → IsElsewhere Q d r
 away_as P Q f d r h = (h.0, h.1, f r h.0 h.2)
+
+-- ---- what came back, where it isn't told what came
+
+module _ (saw : ℕ → Sight → Type 0) where
+  pub fetched : (d : ℕ) (ys : List (ℕ × Item)) (gots : List Got) → AreGot saw d ys gots → AreFetched saw d (map record_got gots) ys
+  fetched d ys [] h = h
+  fetched d ys (Here block kind ∷ gots) h = inl (h.0, h.1, h.2, h.4, fetched d h.1 gots h.5)
+  fetched d ys (Missing r word ∷ gots) h = inr (word, h.0, h.1, fetched d ys gots h.2)
+
+  pub fetched_both : (d : ℕ) (rs qs : List ℕ) (ys zs : List (ℕ × Item)) → AreFetched saw d rs ys → AreFetched saw d qs zs → AreFetched saw d (rs ++ qs) (ys ++ zs)
+  fetched_both d [] qs ys zs all two = subst (λ (l : List (ℕ × Item)). AreFetched saw d qs (l ++ zs)) (sym all) two
+  fetched_both d (r ∷ rs) qs ys zs one two = ⊎_elim (λ t. inl (t.0, t.1 ++ zs, ap (λ (l : List (ℕ × Item)). l ++ zs) t.2, t.3, fetched_both d rs qs t.1 zs t.4 two))
+      (λ t. inr (t.0, t.1, t.2, fetched_both d rs qs ys zs t.3 two)) one
+
+  pub got_both : (d : ℕ) (ys zs : List (ℕ × Item)) (gots more : List Got) → AreGot saw d ys gots → AreGot saw d zs more → AreGot saw d (ys ++ zs) (gots ++ more)
+  got_both d ys zs [] more all two = subst (λ (l : List (ℕ × Item)). AreGot saw d (l ++ zs) more) (sym all) two
+  got_both d ys zs (Here block kind ∷ gots) more h two =
+      (h.0, h.1 ++ zs, ap (λ (l : List (ℕ × Item)). l ++ zs) h.2, h.3, h.4, got_both d h.1 zs gots more h.5 two)
+  got_both d ys zs (Missing r word ∷ gots) more h two = (h.0, h.1, got_both d ys zs gots more h.2 two)
+
+-- the same, where it is so at the records that are told of
+pub given_got_as : (P Q : ℕ → Sight → Type 0) (d : ℕ) (ys : List (ℕ × Item)) (gots : List Got) → ((r : ℕ) → Among (map record_got gots) r → (s : Sight) → P r s → Q r s)
+    → AreGot P d ys gots → AreGot Q d ys gots
+given_got_as P Q d ys [] f h = h
+given_got_as P Q d ys (Here block kind ∷ gots) f h = (h.0, h.1, h.2, h.3, f block.rec (inl refl) (brings d h.0) h.4, given_got_as P Q d h.1 gots (λ r a. f r (inr a)) h.5)
+given_got_as P Q d ys (Missing r word ∷ gots) f h = (h.0, f r (inl refl) (bears word) h.1, given_got_as P Q d ys gots (λ q a. f q (inr a)) h.2)
 
 module _ (P Q : ℕ → Sight → Type 0) (f : (r : ℕ) (s : Sight) → P r s → Q r s) where
   pub all_got_as : (d : ℕ) (ys : List (ℕ × Item)) (gots : List Got) → AreGot P d ys gots → AreGot Q d ys gots
@@ -108,72 +132,10 @@ module _ (P Q : ℕ → Sight → Type 0) (f : (r : ℕ) (s : Sight) → P r s �
   ends_as (bytes xs) came h = h
   ends_as (endpoint e) came h = (h.0, h.1, h.2, h.3, h.4, all_fetched_as (direction_toward (endpoint e)) (flat_map (λ (m : Message). m.blocks.items) h.0) came h.5)
 
-  sweeps_as : (p budget : ℕ) (xs left : List (ℕ × Item)) (n : ℕ) (log : List (Event × Item)) → Sweeps P p budget xs left n log → Sweeps Q p budget xs left n log
+  pub sweeps_as : (p budget : ℕ) (xs left : List (ℕ × Item)) (n : ℕ) (log : List (Event × Item)) → Sweeps P p budget xs left n log → Sweeps Q p budget xs left n log
   sweeps_as p zero xs left n log h = h
   sweeps_as p (suc budget) [] left n log h = h
   sweeps_as p (suc budget) (y ∷ ys) left n log h = (h.0, h.1, h.2, ends_as y.1.content h.0 h.3, h.4, h.5, sweeps_as p budget (ys ++ h.0) left h.1 h.2 h.6)
 
-  pub swept_as : (from budget : ℕ) (old new : PlaceOf) (n : ℕ) (log : List (Event × Item)) → IsSwept P from budget old new n log → IsSwept Q from budget old new n log
-  swept_as from budget old new n log h = (h.0, sweeps_as old.process budget (drop from old.blocks) h.0 n log h.1, h.2)
-
-  pub drains_as : (e : ℕ) (ys : List (ℕ × Item)) (old new : PlaceOf) → Drains P e ys old new → Drains Q e ys old new
-  drains_as e ys old new h = (h.0, h.1, h.2, h.3, h.4, all_got_as (toward_in (value_at e old.blocks)) ys h.2 h.5, h.6)
-
-  pub clears_as : (r : ℕ) (ys : List (ℕ × Item)) (old new : PlaceOf) → Clears P r ys old new → Clears Q r ys old new
-  clears_as r ys old new h = (h.0, h.1, h.2, h.3, ends_as h.0.content ys h.4, h.5)
-
--- the same, where it is so at the records that are told of
-pub given_got_as : (P Q : ℕ → Sight → Type 0) (d : ℕ) (ys : List (ℕ × Item)) (gots : List Got) → ((r : ℕ) → Among (map record_got gots) r → (s : Sight) → P r s → Q r s)
-    → AreGot P d ys gots → AreGot Q d ys gots
-given_got_as P Q d ys [] f h = h
-given_got_as P Q d ys (Here block kind ∷ gots) f h = (h.0, h.1, h.2, h.3, f block.rec (inl refl) (brings d h.0) h.4, given_got_as P Q d h.1 gots (λ r a. f r (inr a)) h.5)
-given_got_as P Q d ys (Missing r word ∷ gots) f h = (h.0, f r (inl refl) (bears word) h.1, given_got_as P Q d ys gots (λ q a. f q (inr a)) h.2)
-
--- ---- what is told of a lack, where the arena was full in another sense
-
-module _ {V : Type 0} (changes : V → V → ℕ → VaultOf → VaultOf → Type 0) (old new : V) (a n : ℕ) (P Q : Type 0) (f : P → Q) where
-  pub no_block_as : (e : Refused) → IsNoBlock changes old new a n P e → IsNoBlock changes old new a n Q e
-  no_block_as reason.NoRecord h = (h.0, f h.1)
-  no_block_as e h = h
-
-  pub no_pair_as : (extent : ℕ) (e : Refused) → IsNoPair changes old new a n P extent e → IsNoPair changes old new a n Q extent e
-  no_pair_as extent reason.NoRecord h = (h.0, f h.1)
-  no_pair_as extent e h = h
-
--- ---- a place whose seat is seen
-
-pub placed : {p q : PlaceSeen} → p ≡ q → p.place ≡ q.place
-placed e = ap (λ (p : PlaceSeen). p.place) e
-
-pub fronted : {p q : PlaceSeen} → p ≡ q → p.front ≡ q.front
-fronted e = ap (λ (p : PlaceSeen). p.front) e
-
--- the seat saw more since it was the place's
-pub since : {p q : PlaceSeen} → q ≡ p → {last : List (Deed Body)} → StartsWith last q.front → StartsWith last p.front
-since {p} {q} e {last} h = subst (λ (f : List (Deed Body)). StartsWith last f) (fronted e) h
-
--- what the seat saw, as the place says it
-module _ (seat : Held Body) {xs : List (ℕ × Item)} {state : Status} {p : PlaceSeen} (is : record { place = view_of seat xs state; front = seat.front } ≡ p) (last : Held Body) where
-  pub place_saw : (r word : ℕ) → SawAt seat.shape seat.front last.front r word → SawAt p.place.shape p.front last.front r word
-  place_saw r word h = subst (λ (z : PlaceSeen). SawAt z.place.shape z.front last.front r word) is h
-
-  pub place_arrived : (r d : ℕ) (x : Item) → Arrived seat.process seat.front last.front r d x → Arrived p.place.process p.front last.front r d x
-  place_arrived r d x h = subst (λ (z : PlaceSeen). Arrived z.place.process z.front last.front r d x) is h
-
-  pub place_did : (es : ℕ → List (Event × Item)) → Did seat.process (es seat.process) seat.front last.front → Did p.place.process (es p.place.process) p.front last.front
-  place_did es h = subst (λ (z : PlaceSeen). Did z.place.process (es z.place.process) z.front last.front) is h
-
--- ---- what a take gained, block by block
-
-module _ (saw : ℕ → Sight → Type 0) where
-  -- where it isn't told what came
-  pub fetched : (d : ℕ) (ys : List (ℕ × Item)) (gots : List Got) → AreGot saw d ys gots → AreFetched saw d (map record_got gots) ys
-  fetched d ys [] h = h
-  fetched d ys (Here block kind ∷ gots) h = inl (h.0, h.1, h.2, h.4, fetched d h.1 gots h.5)
-  fetched d ys (Missing r word ∷ gots) h = inr (word, h.0, h.1, fetched d ys gots h.2)
-
-  pub got_both : (d : ℕ) (ys zs : List (ℕ × Item)) (gots more : List Got) → AreGot saw d ys gots → AreGot saw d zs more → AreGot saw d (ys ++ zs) (gots ++ more)
-  got_both d ys zs [] more all two = subst (λ (l : List (ℕ × Item)). AreGot saw d (l ++ zs) more) (sym all) two
-  got_both d ys zs (Here block kind ∷ gots) more h two =
-      (h.0, h.1 ++ zs, ap (λ (l : List (ℕ × Item)). l ++ zs) h.2, h.3, h.4, got_both d h.1 zs gots more h.5 two)
-  got_both d ys zs (Missing r word ∷ gots) more h two = (h.0, h.1, got_both d ys zs gots more h.2 two)
+  pub swept_as : (p from budget : ℕ) (old new : List (ℕ × Item)) (n : ℕ) (log : List (Event × Item)) → IsSwept P p from budget old new n log → IsSwept Q p from budget old new n log
+  swept_as p from budget old new n log h = (h.0, sweeps_as p budget (drop from old) h.0 n log h.1, h.2)

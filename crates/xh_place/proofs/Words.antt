@@ -10,9 +10,7 @@ pub use Rattle.std.proofs.lemmas.List.{drop-append-le, drop-drop, drop_at, drop_
 pub use Rattle.std.proofs.lemmas.Result.{on_err_weaker, on_ok_weaker}
 pub use Rattle.std.specs.List.{flat_map, list_all, list_any}
 pub use Rattle.xh_arena.specs.Views.{LotOf, TallyOf}
-pub use Rattle.xh_channel.specs.Calls.{EndpointPuts, EndpointShuts, EndpointTakes}
 pub use Rattle.xh_channel.specs.Endpoint.{EndpointOf}
-pub use Rattle.xh_channel.specs.declared.message.Message.{Message}
 pub use Rattle.xh_core.specs.Calls.{alloc_tests, arena_tests, end_tests, given_tests, reclaimed, split_tests}
 pub use Rattle.xh_core.specs.Refusing.{Tests, first_refusal}
 pub use Rattle.xh_core.specs.Statuses.{is_over, is_running}
@@ -29,29 +27,32 @@ pub use Rattle.xh_model.specs.declared.event.Event.{Event}
 pub use Rattle.xh_model.specs.declared.event.Event.TheVariants.{Accept, Claim, Pass, Vacate}
 pub use Rattle.xh_model.specs.declared.event.Holder.TheVariants.{Process}
 pub use Rattle.xh_model.specs.declared.limits.TheConstants.{END_BYTES, MAX_BUDGET}
-pub use Rattle.xh_place.specs.Bodies.{Content, away, bytes, content_of, endpoint, fits_in, front, kind_of, bytes_part, patched, rest, direction_toward}
+pub use Rattle.xh_place.specs.Bodies.{Content, away, bytes, content_of, endpoint, fits_in, head_of, kind_of, bytes_part, patched, tail_of, direction_toward}
 pub use Rattle.xh_place.specs.Desk.{IsSameDesk, IsSeatAt}
 pub use Rattle.xh_place.specs.Ending.{HasGivenBack, IsClosed, IsSwept, Sweeps}
-pub use Rattle.xh_place.specs.Endpoints.{AreFetched, AreGot, EndsWith, IsDrained, record_got}
-pub use Rattle.xh_place.specs.Ends.{EndDoes, IsTooLate, RefusedOr, end_block, ending_again}
-pub use Rattle.xh_place.specs.Messages.{IsSent, IsTaken, IsUntaken, refusal, settled}
 pub use Rattle.xh_place.specs.Events.{accepted_on, claimed, let_go, passed_on, vacated}
-pub use Rattle.xh_place.specs.Places.{AreBlocks, FitsLength, IsBlock, IsPlace, IsPlaceOf, IsQuiet, IsWholeItem, Item, Lists, PlaceOf, found as found_at, header_of, item_at, item_in, item_of, shown}
-pub use Rattle.xh_place.specs.Places.{alone, picked, total_of}
-pub use Rattle.xh_place.proofs.Terms.{is_listed, last, nothing, settle, with_blocks, with_list, with_more}
-pub use Rattle.xh_place.specs.Seen.{Becomes, Did, FindsFull, Gains, IsElsewhere, IsSamePlace, IsSeen, IsSeenAfter, LetsGo, PlaceSeen, SawFull, SawWord, Stays}
+pub use Rattle.xh_place.specs.Places.{AreBlocks, AreWhole, IsBlock, IsPlace, IsQuiet, Item, Lists, PlaceSeen, found, header_of, item_of, lens, shown, total_of}
+pub use Rattle.xh_place.specs.Seen.{Acts, Arrived, Becomes, Did, FindsFull, Gains, IsElsewhere, IsSamePlace, IsSeen, IsSeenAfter, LeavesIt, LetsGo, SawFull, Stays, less, less_all}
 pub use Rattle.xh_core.specs.Calls.{start, stop}
+pub use Rattle.xh_place.specs.Ends.{RefusedOr, ending_again}
+pub use Rattle.xh_place.specs.Messages.{IsSent, IsTaken, IsUntaken}
+pub use Rattle.xh_place.specs.inner.Reclaiming.{Changes, Clears, Drains, GainsAll, TakesEach}
+pub use Rattle.xh_place.specs.declared.got.Taken.{Taken}
+pub use Rattle.xh_channel.specs.declared.message.Message.{Message}
 pub use Rattle.xh_place.specs.Tallies.{gave, ids_of, took}
 pub use Rattle.xh_place.specs.declared.body.Body.{Body}
 pub use Rattle.xh_place.specs.declared.body.Body.TheVariants.{Data, End, Nothing}
-pub use Rattle.xh_place.specs.declared.got.Got.{Got}
-pub use Rattle.xh_place.specs.declared.got.Taken.{Taken}
-pub use Rattle.xh_place.specs.inner.Lists.{AreBack, CameBack, IsSeenBy, lens, less, less_all}
-pub use Rattle.xh_place.specs.inner.Lots.{Acts, HasNow, CutsLot, IsData, IsEndLot, LotDoes, SeatFull, SeatLetsGo, bare}
-pub use Rattle.xh_place.specs.inner.Reclaiming.{Clears, Drains, IsSweptLate, TakesEach, toward_in}
+pub use Rattle.xh_place.specs.inner.Lots.{CutsLot, HasNow, IsData, item_in, items_of, len_at}
 pub use Rattle.xh_records.specs.History.{StartsWith}
 pub use Rattle.xh_records.specs.Seats.{HasDone, HasGained, HasLooked, HasLost, HasSeenWord, Held, IsRecord, IsSeatOf, Knows, RecordsOf, SawAt, SawTaken, with_lots}
 pub use Rattle.xh_records.specs.Showing.{IsLotOf}
 pub use Rattle.xh_records.specs.declared.shape.Shape.{Shape}
 pub use mathlib.Core.Logic.{dite}
 pub use native.Mathlib.Decide.{ℕ_discrete}
+pub use Rattle.xh_place.specs.Endpoints.{AreFetched, AreGot, EndDoes, EndsWith, IsDrained, end_block, record_got}
+pub use Rattle.xh_place.specs.declared.got.Got.{Got}
+pub use Rattle.xh_place.specs.inner.Lists.{AreBack, CameBack, IsSeenBy}
+pub use Rattle.xh_place.specs.inner.Lots.{IsEndLot}
+pub use Rattle.xh_channel.specs.Calls.{EndpointPuts}
+pub use Rattle.xh_place.specs.Seen.{Sight, bears, brings}
+pub use Rattle.xh_channel.specs.Calls.{EndpointShuts, EndpointTakes}

@@ -1,16 +1,18 @@
 -- What reclaiming does: the sweep, and the calls that end an endpoint or a process.
-use Rattle.std.specs.Prelude.{◌≡◌, ℕ, suc, ◌+◌, List, [], ◌∷◌, ◌++◌, length, take, drop, Some, Result}
-use Rattle.xh_arena.specs.Views.{TallyOf}
+use Rattle.std.specs.Prelude.{◌≡◌, ℕ, suc, ◌+◌, ◌<◌, ◌≤◌, List, [], ◌∷◌, ◌++◌, length, take, drop, Some, Result}
+use Rattle.xh_arena.specs.Views.{LotOf, TallyOf}
 use Rattle.xh_core.specs.declared.refused.Refused.{Refused}
 use Rattle.xh_model.specs.declared.event.Event.{Event}
-use Rattle.xh_model.specs.Keyed.{value_at, without}
+use Rattle.xh_model.specs.declared.event.Event.TheVariants.{Accept, Vacate}
+use Rattle.xh_model.specs.Keyed.{keys, value_at, without}
 use Rattle.xh_core.specs.Calls.{reclaimed}
 use Rattle.xh_model.specs.declared.limits.TheConstants.{MAX_BUDGET}
+use Rattle.xh_place.specs.declared.body.Body.{Body}
 use Rattle.xh_place.specs.Bodies.{direction_toward}
 use Rattle.xh_place.specs.Endpoints.{EndsWith}
 use Rattle.xh_place.specs.Events.{accepted_on, vacated}
-use Rattle.xh_place.specs.Places.{Item, PlaceOf}
-use Rattle.xh_place.specs.Seen.{Becomes, IsSeen, PlaceSeen, Sight}
+use Rattle.xh_place.specs.Places.{Item, PlaceSeen, item_of, shown}
+use Rattle.xh_place.specs.Seen.{Becomes, IsSeen, Sight}
 
 -- `saw r s` says what was seen at the record r
 module _ (saw : ℕ → Sight → Type 0) where
@@ -21,9 +23,25 @@ module _ (saw : ℕ → Sight → Type 0) where
       × (log ≡ accepted_on p (direction_toward y.1.content) came ++ (vacated p y.0 ++ later)) × Sweeps p budget (ys ++ came) left more later
   Sweeps p budget ys left bytes log = (left ≡ ys) × (bytes ≡ 0) × (log ≡ [])
 
-  -- a sweep of the list from `from` on
-  abbrev pub IsSwept : ℕ → ℕ → PlaceOf → PlaceOf → ℕ → List (Event × Item) → Type 0
-  IsSwept from budget old new bytes log = (left : List (ℕ × Item)) × Sweeps old.process budget (drop from old.blocks) left bytes log × (new.blocks ≡ take from old.blocks ++ left)
+  -- a sweep of these blocks from `from` on
+  abbrev pub IsSwept : ℕ → ℕ → ℕ → List (ℕ × Item) → List (ℕ × Item) → ℕ → List (Event × Item) → Type 0
+  IsSwept p from budget old new bytes log = (left : List (ℕ × Item)) × Sweeps p budget (drop from old) left bytes log × (new ≡ take from old ++ left)
+
+-- the blocks that these deeds accepted, and the records that they vacated, in their order
+abbrev pub came_by : List (Event × Item) → List (ℕ × Item)
+came_by [] = []
+came_by ((Accept p r d, x) ∷ log) = (r, x) ∷ came_by log
+came_by (deed ∷ log) = came_by log
+
+abbrev pub gone_by : List (Event × Item) → List ℕ
+gone_by [] = []
+gone_by ((Vacate p r, x) ∷ log) = r ∷ gone_by log
+gone_by (deed ∷ log) = gone_by log
+
+-- The same as one equation: the blocks that came by these deeds stand behind those from `from` on, and of all these the first ones went, as many as the budget allows, or all.
+abbrev pub IsSweptSo : ℕ → ℕ → List (ℕ × Item) → List (ℕ × Item) → List (Event × Item) → Type 0
+IsSweptSo from budget old new log = (k : ℕ) × (k ≤ budget) × (gone_by log ≡ keys (take k (drop from old ++ came_by log))) × (new ≡ take from old ++ drop k (drop from old ++ came_by log))
+    × (from < length new → k ≡ budget)
 
 -- of each arena the worker has given some bytes back, or none: so many of all; and it moved no others
 abbrev pub HasGivenBack : ℕ → List TallyOf → List TallyOf → Type 0
@@ -35,6 +53,6 @@ HasGivenBack bytes _ _ = ⊥
 
 -- the endpoint is swept, and what is left of it and of what came with it stands last
 abbrev pub IsClosed : ℕ → PlaceSeen → PlaceSeen → ℕ → Result ℕ Refused → Type 0
-IsClosed e old new bytes result = (x : Item) × (left : List (ℕ × Item)) × (log : List (Event × Item)) × (value_at e old.place.blocks ≡ Some x)
-    × Sweeps (IsSeen old new) old.place.process MAX_BUDGET ((e, x) ∷ []) left bytes log
-    × Becomes (record old.place { blocks = without e old.place.blocks ++ left }) log old new × (result ≡ reclaimed bytes (length left))
+IsClosed e old new bytes result = (l : LotOf Body) × (left : List (ℕ × Item)) × (log : List (Event × Item)) × (value_at e old.seat.lots ≡ Some l)
+    × Sweeps (IsSeen old.seat new.seat) old.seat.process MAX_BUDGET ((e, item_of l) ∷ []) left bytes log × (shown new.seat.lots new.list ≡ without e (shown old.seat.lots old.list) ++ left)
+    × Becomes new.seat.lots new.list log old new × (result ≡ reclaimed bytes (length left))

@@ -1,16 +1,16 @@
 // What a place does to the bytes of a data block, in its lot.
 ghost use Rattle.std.specs.Fn.{CalledAt, CalledAtMut};
-ghost use Rattle.std.specs.Prelude.{◌≡◌, ◌+◌, ◌≤◌, Some, IfSome, OnErr, length};
+ghost use Rattle.std.specs.Prelude.{◌≡◌, ◌+◌, ◌<◌, ◌≤◌, Some, IfSome, OnErr, length, true};
 ghost use Rattle.xh_arena.specs.Views.{LotOf};
 ghost use Rattle.xh_core.specs.Calls.{range_tests};
 ghost use Rattle.xh_core.specs.declared.header.Kind.TheVariants as kind;
 ghost use Rattle.xh_core.specs.Refusing.{Tested};
 ghost use Rattle.xh_model.specs.Keyed.{value_at, put};
-ghost use Rattle.xh_place.specs.Bodies.{bytes, content_of, fits_in, kind_of, bytes_part, patched, rest};
+ghost use Rattle.xh_place.specs.Bodies.{bytes, content_of, fits_in, kind_of, bytes_part, patched, tail_of};
 ghost use Rattle.xh_place.specs.Calls.{bytes_in, made_of};
-ghost use Rattle.xh_place.specs.Places.{Item, header_of, item_of};
+ghost use Rattle.xh_place.specs.Places.{header_of, item_of};
 ghost use Rattle.xh_place.specs.declared.body.Body.{Body};
-ghost use Rattle.xh_place.specs.inner.Lots.{IsBodyOf, IsData};
+ghost use Rattle.xh_place.specs.inner.Lots.{IsData};
 ghost use Rattle.xh_records.specs.Seats.{IsSeatOf, IsRecord, with_lots};
 ghost use Rattle.xh_records.specs.Showing.{IsFull, IsLotOf};
 
@@ -182,9 +182,9 @@ pub(crate) fn lend_lot<A, F: FnMut(&mut [u8]) -> A>(
 }
 
 // The bytes that a data block carried.
-pub(crate) fn bytes_of(body: Body) -> Vec<u8>
-    requires { (x : Item) × IsBodyOf body x × (kind_of x.content ≡ kind.Data) }
-    ensures { (x : Item) → IsBodyOf body x → x ≡ made_of result.items }
+pub(crate) fn bytes_of(body: Body, len: u32) -> Vec<u8>
+    requires { (fits_in body len ≡ true) × (0 < len) × (kind_of (content_of body) ≡ kind.Data) }
+    ensures { (length result.items ≡ len) × (content_of body ≡ bytes result.items) }
 {
     match body {
         Body::Data(bytes) => bytes,
@@ -205,7 +205,7 @@ pub(crate) fn rest_of(
     requires own { IsSeatOf records.now seat.old × IsRecord records.now.shape r }
     requires held { (l : LotOf Body) × (value_at r seat.old.lots ≡ Some l) × IsLotOf seat.old.shape r l × IsData l × (k ≤ l.len) }
     ensures same { seat.new ≡ seat.old }
-    ensures bytes { (l : LotOf Body) → value_at r seat.old.lots ≡ Some l → IfSome result (λ v. bytes v.items ≡ rest k (content_of l.body)) }
+    ensures bytes { (l : LotOf Body) → value_at r seat.old.lots ≡ Some l → IfSome result (λ v. bytes v.items ≡ tail_of k (content_of l.body)) }
 {
     records.with_lot(
         seat,
@@ -213,7 +213,7 @@ pub(crate) fn rest_of(
         &mut |lot: &mut Lot<Body>|
             requires { IsData lot.old × (k ≤ lot.old.len) }
             ensures lot { lot.new ≡ lot.old }
-            ensures bytes { IfSome result (λ v. bytes v.items ≡ rest k (content_of lot.old.body)) }
+            ensures bytes { IfSome result (λ v. bytes v.items ≡ tail_of k (content_of lot.old.body)) }
         {
             let Body::Data(buffer) = lot.body() else {
                 unreachable!()

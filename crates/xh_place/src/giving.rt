@@ -5,21 +5,21 @@ ghost use Rattle.xh_arena.specs.Views.{LotOf};
 ghost use Rattle.xh_model.specs.Keyed.{Among, Distinct, value_at};
 ghost use Rattle.xh_model.specs.declared.limits.TheConstants.{DIRECTIONS, MAX_BLOCKS};
 ghost use Rattle.xh_place.specs.Bodies.{IsEndAt, away, content_of};
-ghost use Rattle.xh_place.specs.Endpoints.{AreGot, record_got};
+ghost use Rattle.xh_place.specs.Endpoints.{AreGot, EndDoes, record_got};
 ghost use Rattle.xh_place.specs.Messages.{refusal};
-ghost use Rattle.xh_place.specs.Places.{IsBlock, item_in, shown};
-ghost use Rattle.xh_place.specs.Seen.{IsSeenAfter};
+ghost use Rattle.xh_place.specs.Places.{IsBlock, lens, shown};
+ghost use Rattle.xh_place.specs.Seen.{Acts, IsSeenAfter};
 ghost use Rattle.xh_place.specs.declared.got.Got.{Got};
 ghost use Rattle.xh_place.specs.declared.body.Body.{Body};
-ghost use Rattle.xh_place.specs.inner.Lots.{Acts, LotDoes};
 ghost use Rattle.xh_records.specs.Seats.{IsSeatOf, IsRecord};
 ghost use Rattle.arrayvec.specs.ArrayVec.{ArrayVec};
 ghost use Rattle.xh_place.specs.Events.{accepted_on, passed_on};
-ghost use Rattle.xh_place.specs.inner.Lists.{AreBack, CameBack, IsSeenBy, lens};
+ghost use Rattle.xh_place.specs.inner.Lots.{item_in};
+ghost use Rattle.xh_place.specs.inner.Lists.{AreBack, CameBack, IsSeenBy};
 
 use crate::body::Body;
 use crate::desk::Desk;
-use crate::endpoints::put_at;
+use crate::end_lots::put_at;
 use crate::gate::{Gate, Point};
 use crate::lots::{accept_block, pass_block, place_of};
 use arrayvec::ArrayVec;
@@ -123,7 +123,7 @@ fn post<R: Wait, V, G: Gate>(
     ensures direction { (result.1 ≡ away (item_in (value_at e seat.old.lots)).content) × (result.1 < DIRECTIONS) }
     ensures passed { Acts (passed_on seat.old.process result.1 (shown seat.old.lots given.now)) seat.new.lots seat.old seat.new }
     ensures end { (l : LotOf Body) → value_at e seat.old.lots ≡ Some l → (m : LotOf Body) × (value_at e seat.new.lots ≡ Some m)
-        × LotDoes (EndpointPuts tag (record { items = given.now }) result.0) l m × IsBlock seat.old.shape e m }
+        × EndDoes (EndpointPuts tag (record { items = given.now }) result.0) l m × IsBlock seat.old.shape e m }
     ensures gone { (r : ℕ) → Among given.now r → value_at r seat.new.lots ≡ None }
     ensures others { (r : ℕ) → (Among given.now r → ⊥) → e ≢ r → value_at r seat.new.lots ≡ value_at r seat.old.lots }
     ensures bytes { result.2 ≡ lens given.now (λ r. value_at r seat.old.lots) }
@@ -153,7 +153,7 @@ pub(crate) fn give_all<R: Wait, V, G: Gate>(
     ensures moved { Acts (passed_on seat.old.process (away (item_in (value_at e seat.old.lots)).content) (shown seat.old.lots given.now)
         ++ accepted_on seat.old.process (away (item_in (value_at e seat.old.lots)).content) (shown seat.new.lots result.back.items)) seat.new.lots seat.old seat.new }
     ensures end { (l : LotOf Body) → value_at e seat.old.lots ≡ Some l → (m : LotOf Body) × (value_at e seat.new.lots ≡ Some m)
-        × LotDoes (EndpointPuts tag (record { items = given.now }) result.put) l m × IsBlock seat.old.shape e m }
+        × EndDoes (EndpointPuts tag (record { items = given.now }) result.put) l m × IsBlock seat.old.shape e m }
     ensures others { (r : ℕ) → (Among given.now r → ⊥) → e ≢ r → value_at r seat.new.lots ≡ value_at r seat.old.lots }
     ensures back { AreBack given.now result.back.items seat.new }
     ensures lost { result.lost ≡ lens given.now (λ r. value_at r seat.old.lots) }

@@ -3,8 +3,9 @@
 
 mod body;
 mod bytes;
+mod checks;
 mod desk;
-mod endpoints;
+mod end_lots;
 mod gate;
 mod giving;
 mod got;

@@ -1,19 +1,19 @@
 // What a place does to the lots of its seat.
-ghost use Rattle.std.specs.Prelude.{◌≡◌, ◌≢◌, ℕ, MatchBool, MatchResult, ◌+◌, ◌-◌, ◌*◌, ◌%◌, ◌/◌, ◌<◌, ◌≤◌, ◌++◌, ◌∷◌, [], Some, IfOk, IfErr, OnOk, OnErr, slice_get, length, true, vec_capacity};
+ghost use Rattle.std.specs.Prelude.{◌≡◌, ◌≢◌, ℕ, MatchResult, ◌+◌, ◌-◌, ◌*◌, ◌%◌, ◌/◌, ◌<◌, ◌≤◌, ◌++◌, ◌∷◌, [], Some, IfOk, IfErr, OnOk, OnErr, slice_get, length, true, vec_capacity};
 ghost use Rattle.xh_arena.specs.Views.{LotOf};
 ghost use Rattle.xh_model.specs.Arena.{IsGoodCut};
 ghost use Rattle.xh_model.specs.Keyed.{Among, keys, value_at, put, without};
 ghost use Rattle.xh_model.specs.declared.limits.TheConstants.{DIRECTIONS, MAX_BYTES, MAX_RECORDS, UNIT};
-ghost use Rattle.xh_place.specs.Bodies.{bytes, front, content_of, fits_in, kind_of};
+ghost use Rattle.xh_place.specs.Bodies.{bytes, head_of, content_of, fits_in, kind_of};
 ghost use Rattle.xh_place.specs.Calls.{padded};
 ghost use Rattle.xh_place.specs.Desk.{IsSameDesk, IsSeatAt};
 ghost use Rattle.xh_place.specs.Places.{IsBlock, item_of, header_of};
-ghost use Rattle.xh_place.specs.Seen.{Arrived};
+ghost use Rattle.xh_place.specs.Seen.{Acts, Arrived, FindsFull, LetsGo};
 ghost use Rattle.xh_place.specs.Splitting.{IsUncut};
 ghost use Rattle.xh_place.specs.Tallies.{gave, took};
 ghost use Rattle.xh_place.specs.Vaults.{Asks, IsNoBlock, IsRefusedAt};
 ghost use Rattle.xh_place.specs.declared.body.Body.{Body};
-ghost use Rattle.xh_place.specs.inner.Lots.{Acts, CutsLot, IsData, SeatFull, SeatLetsGo};
+ghost use Rattle.xh_place.specs.inner.Lots.{CutsLot, IsData};
 ghost use Rattle.xh_records.specs.Seats.{IsSeatOf, IsRecord, SawAt, with_lots};
 ghost use Rattle.xh_records.specs.Showing.{IsLotOf, IsFull};
 ghost use Rattle.xh_place.specs.Events.{accepted_on, claimed, passed_on, vacated};
@@ -32,7 +32,7 @@ use std::mem;
 use xh_arena::{Lot, Refused};
 use xh_core::{Header, Kind, Refused as Reason};
 use xh_model::limits::{MAX_RECORDS, PLACES};
-use xh_records::{OwnerWord, Records, Seat};
+use xh_records::{Records, Seat};
 
 // Gives the buffer room for `n` bytes, and for no more than an eighth above them. It says whether it has.
 fn fit(buffer: &mut Vec<u8>, n: usize) -> bool
@@ -68,7 +68,7 @@ fn fill<R, V: Vaults, G>(
 ) -> Result<(), Refused>
     requires at { IsSeatAt V.names desk.old seat.old }
     requires held { (l : LotOf Body) × (value_at r seat.old.lots ≡ Some l) × (l.len ≡ 0) × IsRecord seat.old.shape r × IsLotOf seat.old.shape r l }
-    requires size { (0 < n) × (n % UNIT ≡ 0) × (n ≤ V.extent desk.old.vaults) }
+    requires size { (0 < n) × (n % UNIT ≡ 0) }
     requires room { (length buffer.old.items ≤ n) × (n ≤ vec_capacity buffer.old) }
     ensures same { IsSameDesk V.names V.extent desk.old desk.new }
     ensures seat { OnOk result ((l : LotOf Body) → value_at r seat.old.lots ≡ Some l → (m : LotOf Body) × (m ≡ record l { len = n; body = m.body })
@@ -87,7 +87,7 @@ fn fill<R, V: Vaults, G>(
         &mut |lot: &mut Lot<Body>| -> Result<(), Refused>
             requires ids { slice_get (V.names vaults.now) arena ≡ Some lot.old.id }
             requires empty { lot.old.len ≡ 0 }
-            requires size { (0 < n) × (n % UNIT ≡ 0) × (n ≤ V.extent vaults.now) }
+            requires size { (0 < n) × (n % UNIT ≡ 0) }
             requires room { (length buffer.now.items ≤ n) × (n ≤ vec_capacity buffer.now) }
             ensures same { (V.names vaults.exit.now ≡ V.names vaults.entry.now) × (V.extent vaults.exit.now ≡ V.extent vaults.entry.now) }
             ensures lot { OnOk result ((lot.new ≡ record lot.old { len = n; body = lot.new.body }) × (content_of lot.new.body ≡ bytes (padded n buffer.entry.now.items))) }
@@ -170,7 +170,7 @@ pub(crate) fn make_block<R, V: Vaults, G: Gate>(
 ) -> Result<u16, Reason>
     requires at { IsSeatAt V.names desk.old seat.old }
     requires arena { arena < length seat.old.shape.names }
-    requires size { (0 < n) × (n % UNIT ≡ 0) × (n ≤ V.extent desk.old.vaults) × (n ≤ MAX_BYTES) × (length buffer.old.items ≤ n) }
+    requires size { (0 < n) × (n % UNIT ≡ 0) × (n ≤ MAX_BYTES) × (length buffer.old.items ≤ n) }
     ensures same { IsSameDesk V.names V.extent desk.old desk.new }
     ensures arena { IfOk result (λ r. r / MAX_RECORDS ≡ arena) }
     ensures block { IfOk result (λ r. (l : LotOf Body) × (Among (keys seat.old.lots) r → ⊥)
@@ -178,9 +178,9 @@ pub(crate) fn make_block<R, V: Vaults, G: Gate>(
         × (l.len ≡ n) × (content_of l.body ≡ bytes (padded n buffer.old.items))) }
     ensures buffer { MatchResult result (λ _. buffer.new.items ≡ []) (λ _. buffer.new.items ≡ buffer.old.items) }
     ensures taken { OnOk result (V.tallies desk.new.vaults ≡ took arena n (V.tallies desk.old.vaults)) }
-    ensures refused { OnErr result (SeatLetsGo (λ claims. length claims ≤ 1) arena seat.old seat.new × (V.tallies desk.new.vaults ≡ V.tallies desk.old.vaults)) }
+    ensures refused { OnErr result (LetsGo (λ claims. length claims ≤ 1) arena seat.old seat.new × (V.tallies desk.new.vaults ≡ V.tallies desk.old.vaults)) }
     ensures asked { OnOk result (Asks V.changes arena desk.old.vaults desk.new.vaults) }
-    ensures why { IfErr result (IsNoBlock V.changes desk.old.vaults desk.new.vaults arena n (SeatFull 0 seat.old seat.new arena)) }
+    ensures why { IfErr result (IsNoBlock V.changes desk.old.vaults desk.new.vaults arena n (FindsFull 0 seat.old seat.new arena)) }
 {
     let Ok(r) = desk.records.claim(seat, arena) else {
         return Err(Reason::NoRecord);
@@ -218,19 +218,6 @@ pub(crate) fn give_up<R, V: Vaults, G: Gate, E: Outlet<V>>(
     desk.gate.between(place_of(seat), Point::Returned);
     desk.records.vacate(seat, r);
     len
-}
-
-// Whether the seat holds the record, as its word says.
-pub(crate) fn holds(records: &Records<Body>, seat: &mut Seat<Body>, r: u16) -> bool
-    requires own { IsSeatOf records.now seat.old }
-    requires exist { (q : ℕ) → Among (keys seat.old.lots) q → IsRecord seat.old.shape q }
-    ensures same { Acts [] seat.old.lots seat.old seat.new }
-    ensures holds { MatchBool result (Among (keys seat.old.lots) r) (Among (keys seat.old.lots) r → ⊥) }
-{
-    if !records.has(r) {
-        return false;
-    }
-    records.owner_word(seat, r) == OwnerWord::Owned(seat.process()).encode()
 }
 
 // The length and kind of a lot's block.
@@ -292,13 +279,11 @@ pub(crate) fn pass_block(
     direction: u8,
 ) -> u32
     requires own { IsSeatOf records.now seat.old × IsRecord records.now.shape r × (direction < DIRECTIONS) }
-    requires held { (l : LotOf Body) × (value_at r seat.old.lots ≡ Some l) × IsLotOf seat.old.shape r l × IsFull fits_in l }
+    requires held { (l : LotOf Body) × (value_at r seat.old.lots ≡ Some l) × IsFull fits_in l }
     ensures { (l : LotOf Body) × (value_at r seat.old.lots ≡ Some l) × Acts (passed_on seat.old.process direction ((r, item_of l) ∷ [])) (without r seat.old.lots) seat.old seat.new
         × (result ≡ l.len) }
 {
-    let header = look(records, seat, r);
-    records.pass(seat, r, direction);
-    header.len
+    records.pass(seat, r, direction)
 }
 
 // The second record's lot gets the bytes of the first one's past the first `k`, and its body the other.
@@ -316,7 +301,7 @@ fn part<R, V: Vaults, G>(
     ensures same { IsSameDesk V.names V.extent desk.old desk.new × (V.tallies desk.new.vaults ≡ V.tallies desk.old.vaults) }
     ensures asked { Asks V.changes (pair.0 / MAX_RECORDS) desk.old.vaults desk.new.vaults }
     ensures parted { (l m : LotOf Body) → value_at pair.0 seat.old.lots ≡ Some l → value_at pair.1 seat.old.lots ≡ Some m → (h : LotOf Body) × (h ≡ record l { len = k; body = h.body })
-        × (content_of h.body ≡ front k (content_of l.body)) × (seat.new ≡ with_lots seat.old (put pair.1 (record m { len = l.len - k; body = body.old }) (put pair.0 h seat.old.lots))) }
+        × (content_of h.body ≡ head_of k (content_of l.body)) × (seat.new ≡ with_lots seat.old (put pair.1 (record m { len = l.len - k; body = body.old }) (put pair.0 h seat.old.lots))) }
 {
     let arena = (pair.0 / MAX_RECORDS) as u8;
     let vaults = &mut desk.vaults;
@@ -331,12 +316,12 @@ fn part<R, V: Vaults, G>(
             ensures same { (V.names vaults.exit.now ≡ V.names vaults.entry.now) × (V.extent vaults.exit.now ≡ V.extent vaults.entry.now) }
             ensures tallies { V.tallies vaults.exit.now ≡ V.tallies vaults.entry.now }
             ensures head { head.new ≡ record head.old { len = k; body = head.new.body } }
-            ensures content { content_of head.new.body ≡ front k (content_of head.old.body) }
+            ensures content { content_of head.new.body ≡ head_of k (content_of head.old.body) }
             ensures tail { tail.new ≡ record tail.old { len = head.old.len - k; body = body.entry.now } }
             ensures asked { Asks V.changes arena vaults.entry.now vaults.exit.now }
         {
             vaults.cut(arena, head, tail, k);
-            *tail.body_mut() = mem::take(body);
+            mem::swap(tail.body_mut(), body);
             let Body::Data(buffer) = head.body_mut() else {
                 unreachable!()
             };
@@ -362,8 +347,8 @@ pub(crate) fn cut_block<R, V: Vaults, G: Gate>(
     ensures tallies { V.tallies desk.new.vaults ≡ V.tallies desk.old.vaults }
     ensures cut { IfOk result (λ t. (l : LotOf Body) → value_at r seat.old.lots ≡ Some l → CutsLot seat.old seat.new r k l t) }
     ensures asked { OnOk result (Asks V.changes (r / MAX_RECORDS) desk.old.vaults desk.new.vaults) }
-    ensures refused { OnErr result (SeatLetsGo (λ claims. length claims ≤ 1) (r / MAX_RECORDS) seat.old seat.new × (desk.new.vaults ≡ desk.old.vaults)) }
-    ensures why { IfErr result (IsUncut (SeatFull 0 seat.old seat.new (r / MAX_RECORDS))) }
+    ensures refused { OnErr result (LetsGo (λ claims. length claims ≤ 1) (r / MAX_RECORDS) seat.old seat.new × (desk.new.vaults ≡ desk.old.vaults)) }
+    ensures why { IfErr result (IsUncut (FindsFull 0 seat.old seat.new (r / MAX_RECORDS))) }
 {
     let Ok(t) = desk.records.claim(seat, (r / MAX_RECORDS) as u8) else {
         return Err(Reason::NoRecord);

@@ -7,12 +7,12 @@ ghost use Rattle.xh_place.specs.Events.{vacated};
 ghost use Rattle.xh_model.specs.declared.limits.TheConstants.{END_BYTES, MAX_RECORDS};
 ghost use Rattle.xh_place.specs.Bodies.{fits_in};
 ghost use Rattle.xh_place.specs.Desk.{IsSameDesk, IsSeatAt};
-ghost use Rattle.xh_place.specs.Ends.{end_block};
+ghost use Rattle.xh_place.specs.Endpoints.{end_block};
 ghost use Rattle.xh_place.specs.Places.{item_of};
 ghost use Rattle.xh_place.specs.Tallies.{took};
 ghost use Rattle.xh_place.specs.Vaults.{AsksEach, IsNoPair, IsRefusedAt};
 ghost use Rattle.xh_place.specs.declared.body.Body.{Body};
-ghost use Rattle.xh_place.specs.inner.Lots.{Acts, SeatFull, SeatLetsGo};
+ghost use Rattle.xh_place.specs.Seen.{Acts, FindsFull, LetsGo};
 ghost use Rattle.xh_records.specs.History.{StartsWith};
 ghost use Rattle.xh_records.specs.Seats.{IsRecord, IsSeatOf, with_lots};
 ghost use Rattle.xh_records.specs.Showing.{IsEmpty};
@@ -49,7 +49,6 @@ fn halve<R, V: Vaults, G>(
 ) -> Result<(), Refused>
     requires at { IsSeatAt V.names desk.old seat.old }
     requires held { (l m : LotOf Body) × AreEmpty seat.old pair.0 pair.1 l m }
-    requires size { 2 * END_BYTES ≤ V.extent desk.old.vaults }
     ensures same { IsSameDesk V.names V.extent desk.old desk.new }
     ensures halved { OnOk result ((l m : LotOf Body) → value_at pair.0 seat.old.lots ≡ Some l → value_at pair.1 seat.old.lots ≡ Some m
         → seat.new ≡ with_lots seat.old (put pair.1 (record m { len = END_BYTES; body = second.old }) (put pair.0 (record l { len = END_BYTES; body = first.old }) seat.old.lots))) }
@@ -67,11 +66,11 @@ fn halve<R, V: Vaults, G>(
         &mut |low: &mut Lot<Body>, high: &mut Lot<Body>| -> Result<(), Refused>
             requires ids { (slice_get (V.names vaults.now) arena ≡ Some low.old.id) × (high.old.id ≡ low.old.id) }
             requires empty { (low.old.len ≡ 0) × (high.old.len ≡ 0) }
-            requires size { 2 * END_BYTES ≤ V.extent vaults.now }
             ensures same { (V.names vaults.exit.now ≡ V.names vaults.entry.now) × (V.extent vaults.exit.now ≡ V.extent vaults.entry.now) }
             ensures low { OnOk result (low.new ≡ record low.old { len = END_BYTES; body = first.entry.now }) }
             ensures high { OnOk result (high.new ≡ record high.old { len = END_BYTES; body = second.entry.now }) }
-            ensures tallies { MatchResult result (λ _. V.tallies vaults.exit.now ≡ took arena (2 * END_BYTES) (V.tallies vaults.entry.now)) (λ _. V.tallies vaults.exit.now ≡ V.tallies vaults.entry.now) }
+            ensures tallies { MatchResult result (λ _. V.tallies vaults.exit.now ≡ took arena (2 * END_BYTES) (V.tallies vaults.entry.now))
+                (λ _. V.tallies vaults.exit.now ≡ V.tallies vaults.entry.now) }
             ensures refused { OnErr result ((low.new ≡ low.old) × (high.new ≡ high.old)
                 × (first.exit.now ≡ first.entry.now) × (second.exit.now ≡ second.entry.now)) }
             ensures asked { OnOk result (AsksEach V.changes (arena ∷ arena ∷ []) vaults.entry.now vaults.exit.now) }
@@ -79,8 +78,8 @@ fn halve<R, V: Vaults, G>(
         {
             vaults.carve(arena, low, 2 * END_BYTES)?;
             vaults.cut(arena, low, high, END_BYTES);
-            *low.body_mut() = mem::take(first);
-            *high.body_mut() = mem::take(second);
+            mem::swap(low.body_mut(), first);
+            mem::swap(high.body_mut(), second);
             Ok(())
         },
     )
@@ -96,7 +95,7 @@ fn claim_two<G: Gate>(
     requires own { IsSeatOf records.now seat.old }
     requires arena { arena < length seat.old.shape.names }
     ensures seen { StartsWith seat.new.front seat.old.front }
-    ensures claimed { MatchOption result (SeatFull 1 seat.old seat.new arena) (λ r. (l m : LotOf Body) × AreClaimed arena seat.old seat.new r.0 r.1 l m) }
+    ensures claimed { MatchOption result (FindsFull 1 seat.old seat.new arena) (λ r. (l m : LotOf Body) × AreClaimed arena seat.old seat.new r.0 r.1 l m) }
 {
     let Ok(r) = records.claim(seat, arena) else {
         return None;
@@ -148,12 +147,8 @@ fn fit_ends<R, V: Vaults, G>(
     ensures taken { OnOk result (V.tallies desk.new.vaults ≡ took (pair.0 / MAX_RECORDS) (2 * END_BYTES) (V.tallies desk.old.vaults)) }
     ensures asked { OnOk result (AsksEach V.changes (pair.0 / MAX_RECORDS ∷ pair.0 / MAX_RECORDS ∷ []) desk.old.vaults desk.new.vaults) }
     ensures refused { IfErr result (λ u. (seat.new ≡ seat.old) × (V.tallies desk.new.vaults ≡ V.tallies desk.old.vaults) × (u.low ≡ low) × (u.high ≡ high)) }
-    ensures why { IfErr result (λ u. IsNoPair V.changes desk.old.vaults desk.new.vaults (pair.0 / MAX_RECORDS) (2 * END_BYTES) ⊥ (V.extent desk.old.vaults) u.why) }
+    ensures why { IfErr result (λ u. IsNoPair V.changes desk.old.vaults desk.new.vaults (pair.0 / MAX_RECORDS) (2 * END_BYTES) ⊥ u.why) }
 {
-    if desk.vaults.size() < 2 * END_BYTES {
-        let why = Reason::NoSpace;
-        return Err(Unopened { why, low, high });
-    }
     let mut first = Body::End(low);
     let mut second = Body::End(high);
     let halved = halve(desk, seat, pair, &mut first, &mut second);
@@ -182,8 +177,8 @@ pub(crate) fn make_ends<R, V: Vaults, G: Gate>(
     ensures made { IfOk result (λ r. (l m : LotOf Body) × AreMade arena seat.old seat.new r.0 r.1 l m × (item_of l ≡ end_block low) × (item_of m ≡ end_block high)) }
     ensures taken { OnOk result (V.tallies desk.new.vaults ≡ took arena (2 * END_BYTES) (V.tallies desk.old.vaults)) }
     ensures asked { OnOk result (AsksEach V.changes (arena ∷ arena ∷ []) desk.old.vaults desk.new.vaults) }
-    ensures refused { IfErr result (λ u. SeatLetsGo (λ claims. length claims ≤ 2) arena seat.old seat.new × (V.tallies desk.new.vaults ≡ V.tallies desk.old.vaults) × (u.low ≡ low) × (u.high ≡ high)) }
-    ensures why { IfErr result (λ u. IsNoPair V.changes desk.old.vaults desk.new.vaults arena (2 * END_BYTES) (SeatFull 1 seat.old seat.new arena) (V.extent desk.old.vaults) u.why) }
+    ensures refused { IfErr result (λ u. LetsGo (λ claims. length claims ≤ 2) arena seat.old seat.new × (V.tallies desk.new.vaults ≡ V.tallies desk.old.vaults) × (u.low ≡ low) × (u.high ≡ high)) }
+    ensures why { IfErr result (λ u. IsNoPair V.changes desk.old.vaults desk.new.vaults arena (2 * END_BYTES) (FindsFull 1 seat.old seat.new arena) u.why) }
     ensures seen { StartsWith seat.new.front seat.old.front }
 {
     let Some((r, t)) = claim_two(desk.records, seat, arena, desk.gate) else {

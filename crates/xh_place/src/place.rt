@@ -1,20 +1,20 @@
 //! A process's place.
-ghost use Rattle.std.specs.Prelude.{◌≡◌, ◌⊎◌, ◌+◌, ◌*◌, ◌<◌, ◌≤◌, [], length, is_some, Some, IfOk, IfErr, true};
+ghost use Rattle.std.specs.Prelude.{◌≡◌, ◌⊎◌, ◌+◌, ◌*◌, ◌<◌, ◌≤◌, [], length, IfOk, IfErr, true};
 ghost use Rattle.xh_core.specs.Statuses.{is_over};
-ghost use Rattle.xh_model.specs.Keyed.{keys, value_at};
 ghost use Rattle.xh_model.specs.declared.limits.TheConstants.{GENERATIONS, MAX_ARENAS, MAX_RECORDS};
-ghost use Rattle.xh_place.specs.Places.{AreBlocks, IsPlaceOf, Item, Lists, found, place_line, line_in, started, total_of};
+ghost use Rattle.xh_place.specs.Places.{AreBlocks, AreWhole, Lists, found, place_line, line_in, started, total_of};
 ghost use Rattle.xh_place.specs.Seen.{Stays};
 ghost use Rattle.xh_model.specs.Words.{generation_of};
+ghost use Rattle.xh_records.specs.Seats.{IsSeatOf};
 ghost use Rattle.xh_core.specs.declared.status.Status.TheVariants as status;
 
 mod blocks;
-mod ending;
-mod ends;
+mod endpoints;
 mod messages;
+mod reclaiming;
 
 use crate::body::Body;
-use crate::lots::{holds, look};
+use crate::checks::find;
 use std::alloc::Global;
 use std::marker::Model;
 use xh_core::{Glance, Header, PlaceLine, Refused, Status};
@@ -31,23 +31,13 @@ pub struct Place {
 }
 
 impl Model for Place {
-    ghost use Rattle.xh_place.specs.Places.{IsPlace, shown};
-    ghost use Rattle.xh_place.specs.Seen.{PlaceSeen};
+    ghost use Rattle.xh_place.specs.Places.{IsPlace, PlaceSeen};
 
     ghost Value = { PlaceSeen };
 
-    ghost view = { λ p. record {
-      place = record {
-        table = p.seat.table;
-        shape = p.seat.shape;
-        process = p.seat.process;
-        blocks = shown p.seat.lots p.list.items;
-        state = p.state;
-      };
-      front = p.seat.front;
-    } };
+    ghost view = { λ p. record { seat = p.seat; list = p.list.items; state = p.state } };
 
-    ghost invariant = { λ p. IsPlace p.seat (shown p.seat.lots p.list.items) p.list.capacity p.total p.state };
+    ghost invariant = { λ p. IsPlace p.seat.shape p.seat.lots p.list.items p.list.capacity p.total p.state };
 }
 
 impl Place {
@@ -57,10 +47,7 @@ impl Place {
         requires empty { seat.lots ≡ [] }
         requires room { room ≡ length seat.shape.names * seat.shape.records }
         requires arenas { length seat.shape.names ≤ MAX_ARENAS }
-        ensures place { IfOk result (λ p. p ≡ record {
-          place = record { table = seat.table; shape = seat.shape; process = seat.process; blocks = []; state = status.Vacant };
-          front = seat.front;
-        }) }
+        ensures place { IfOk result (λ p. p ≡ record { seat = seat; list = []; state = status.Vacant }) }
         ensures refused { IfErr result (λ e. e ≡ Refused.OutOfMemory) }
     {
         let list = Order::with_capacity(alloc, usize::from(room))?;
@@ -74,9 +61,9 @@ impl Place {
 
     /// The place is a process's from now on: its first one, or the next, of which there are at most 2,047.
     pub fn start(&mut self, records: &Records<Body>)
-        requires own { IsPlaceOf records.now self.old.place }
-        requires free { (self.old.place.state ≡ status.Vacant) ⊎ ((self.old.place.state ≡ status.Ended) × (generation_of self.old.place.process + 1 < GENERATIONS)) }
-        ensures { self.new ≡ record self.old { place = started self.old.place } }
+        requires own { IsSeatOf records.now self.old.seat }
+        requires free { (self.old.state ≡ status.Vacant) ⊎ ((self.old.state ≡ status.Ended) × (generation_of self.old.seat.process + 1 < GENERATIONS)) }
+        ensures { self.new ≡ started self.old }
     {
         if let Status::Ended = self.state {
             records.renew(&mut self.seat);
@@ -86,71 +73,49 @@ impl Place {
 
     /// The records of its blocks, in the order gained.
     pub fn blocks(&self) -> &[u16]
-        ensures list { result.now ≡ keys self.now.place.blocks }
-        ensures blocks { AreBlocks self.now.place.blocks }
-        ensures none { is_over self.now.place.state ≡ true → self.now.place.blocks ≡ [] }
+        ensures list { result.now ≡ self.now.list }
+        ensures blocks { AreBlocks self.now }
+        ensures none { is_over self.now.state ≡ true → self.now.list ≡ [] }
     {
         self.list.as_slice()
     }
 
     /// How many bytes its blocks have.
     pub fn total(&self) -> u64
-        ensures total { result ≡ total_of self.now.place.blocks }
-        ensures blocks { AreBlocks self.now.place.blocks }
+        ensures total { result ≡ total_of self.now }
+        ensures blocks { AreBlocks self.now }
     {
         self.total
     }
 
     /// The number of its latest process: the place, and 32 times the generation.
     pub fn process(&self) -> u16
-        ensures { result ≡ self.now.place.process }
+        ensures { result ≡ self.now.seat.process }
     {
         self.seat.process()
     }
 
     /// How far its process has come.
     pub fn state(&self) -> Status
-        ensures { result ≡ self.now.place.state }
+        ensures { result ≡ self.now.state }
     {
         self.state
     }
 
-    // Whether the record is one of the list.
-    fn has(&mut self, records: &Records<Body>, r: u16) -> bool
-        requires own { IsPlaceOf records.now self.old.place }
-        ensures same { Stays self.old self.new }
-        ensures has { result ≡ is_some (value_at r self.old.place.blocks) }
-    {
-        holds(records, &mut self.seat, r)
-    }
-
-    // The length and kind of a block of the list.
-    fn look(&mut self, records: &Records<Body>, r: u16) -> Header
-        requires own { IsPlaceOf records.now self.old.place }
-        requires listed { (x : Item) × (value_at r self.old.place.blocks ≡ Some x) }
-        ensures same { Stays self.old self.new }
-        ensures header { Some result ≡ found self.old.place r }
-    {
-        look(records, &mut self.seat, r)
-    }
-
     /// The length and kind of a block of the list; of any other record None.
     pub fn header(&mut self, records: &Records<Body>, r: u16) -> Option<Header>
-        requires own { IsPlaceOf records.now self.old.place }
+        requires own { IsSeatOf records.now self.old.seat }
         ensures same { Stays self.old self.new }
-        ensures header { result ≡ found self.old.place r }
+        ensures header { result ≡ found self.old.seat r }
     {
-        if !self.has(records, r) {
-            return None;
-        }
-        Some(self.look(records, r))
+        find(records, &mut self.seat, r)
     }
 
     // How many blocks the list has.
     fn count(&self) -> usize
-        ensures count { result ≡ length self.now.place.blocks }
+        ensures count { result ≡ length self.now.list }
         ensures few { result ≤ MAX_ARENAS * MAX_RECORDS }
-        ensures quiet { is_over self.now.place.state ≡ true → self.now.place.blocks ≡ [] }
+        ensures quiet { is_over self.now.state ≡ true → self.now.list ≡ [] }
     {
         self.list.len()
     }
@@ -158,10 +123,10 @@ impl Place {
     /// Gives the seat, which holds the blocks of the list and no others, and what the ledger says of the
     /// place, unless nobody has had it.
     pub fn end(self) -> (Seat<Body>, Option<PlaceLine>)
-        ensures same { (result.0.table ≡ self.place.table) × (result.0.shape ≡ self.place.shape) × (result.0.process ≡ self.place.process) × (result.0.front ≡ self.front) }
-        ensures lists { Lists result.0 self.place.blocks }
-        ensures nothing { is_over self.place.state ≡ true → result.0.lots ≡ [] }
-        ensures line { result.1 ≡ line_in self.place.state (place_line self.place) }
+        ensures same { result.0 ≡ self.seat }
+        ensures lists { Lists self.seat.lots self.list × AreWhole self.seat.shape self.seat.lots }
+        ensures nothing { is_over self.state ≡ true → self.seat.lots ≡ [] }
+        ensures line { result.1 ≡ line_in self.state (place_line self) }
     {
         let line = self.line();
         let Place {
@@ -178,7 +143,7 @@ impl Place {
 
     // What the ledger says of it.
     fn line(&self) -> PlaceLine
-        ensures { result ≡ place_line self.now.place }
+        ensures { result ≡ place_line self.now }
     {
         let glance = Glance {
             process: self.process(),

@@ -1,29 +1,13 @@
--- What the private steps do to a place's list, and the bytes of records by their lots.
-use Rattle.std.specs.Prelude.{◌≡◌, ◌⊎◌, ℕ, ◌+◌, ◌==◌, Bool, cond, List, [], ◌∷◌, ◌++◌, Option, Some, is_some}
+-- What a give does to its seat where blocks come back.
+use Rattle.std.specs.Prelude.{◌≡◌, ◌⊎◌, ℕ, ◌==◌, List, [], ◌∷◌, ◌++◌, Some, is_some}
 use Rattle.std.specs.List.{list_any}
 use Rattle.xh_arena.specs.Views.{LotOf}
 use Rattle.xh_model.specs.Keyed.{Among, keys, value_at}
 use Rattle.xh_records.specs.Seats.{Held, SawAt}
 use Rattle.xh_place.specs.declared.body.Body.{Body}
-use Rattle.xh_place.specs.inner.Lots.{Acts}
 use Rattle.xh_place.specs.Events.{accepted_on}
-use Rattle.xh_place.specs.Places.{IsBlock, item_in, item_of}
-use Rattle.xh_place.specs.Seen.{Arrived, IsElsewhere, Sight, bears, brings}
-
--- the list without a number
-abbrev pub less : ℕ → List ℕ → List ℕ
-less r [] = []
-less r (x ∷ xs) = cond (x == r) (less r xs) (x ∷ less r xs)
-
--- the list without those of the given numbers that do not stay
-abbrev pub less_all : List ℕ → (ℕ → Bool) → List ℕ → List ℕ
-less_all [] stays xs = xs
-less_all (r ∷ rs) stays xs = less_all rs stays (cond (stays r) xs (less r xs))
-
--- the bytes of these records, by what the seat has of each
-abbrev pub lens : List ℕ → (ℕ → Option (LotOf Body)) → ℕ
-lens [] lot = 0
-lens (r ∷ rs) lot = (item_in (lot r)).len + lens rs lot
+use Rattle.xh_place.specs.Places.{IsBlock, item_of}
+use Rattle.xh_place.specs.Seen.{Acts, Arrived, IsElsewhere, Sight, bears, brings}
 
 -- a record did not come back, since the seat saw another word, and nothing changed but what it has seen; or it was accepted on the direction, with so many bytes
 abbrev pub CameBack : ℕ → ℕ → Held Body → Held Body → List ℕ → List ℕ → ℕ → Type 0

@@ -7,7 +7,7 @@ use Rattle.xh_records.specs.Showing.{IsEmpty, IsLotOf}
 use Rattle.xh_records.specs.Seats.{Held, IsRecord}
 use Rattle.xh_place.specs.declared.body.Body.{Body}
 use Rattle.xh_place.specs.Bodies.{fits_in}
-use Rattle.xh_place.specs.inner.Lots.{Acts}
+use Rattle.xh_place.specs.Seen.{Acts}
 use Rattle.xh_place.specs.Events.{claimed}
 use Rattle.xh_place.specs.Places.{IsBlock}
 

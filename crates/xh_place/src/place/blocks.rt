@@ -1,28 +1,28 @@
 //! Data blocks of a place.
 ghost use Rattle.xh_place.specs.Events.{vacated};
-ghost use Rattle.std.specs.Prelude.{◌≡◌, ◌≢◌, ℕ, ◌+◌, ◌/◌, ◌%◌, ◌<◌, ◌≤◌, ◌∷◌, [], ◌++◌, is_none, length, Some, IfErr, IfOk, MatchResult, OnErr, OnOk};
+ghost use Rattle.std.specs.Prelude.{◌≡◌, ◌≢◌, ℕ, ◌+◌, ◌/◌, ◌%◌, ◌<◌, ◌≤◌, ◌++◌, [], length, Some, IfErr, IfOk, MatchResult, OnErr, OnOk};
+ghost use Rattle.xh_arena.specs.Views.{LotOf};
 ghost use Rattle.xh_core.specs.Calls.{data_tests, split_tests, start};
-ghost use Rattle.xh_core.specs.declared.refused.Refused.TheVariants.{NotOwned};
 ghost use Rattle.xh_core.specs.Refusing.{Tested};
 ghost use Rattle.xh_model.specs.Arena.{IsGoodCut};
-ghost use Rattle.xh_model.specs.Keyed.{Distinct, keys, value_at, without};
+ghost use Rattle.xh_model.specs.Keyed.{Distinct, value_at, without};
 ghost use Rattle.xh_model.specs.declared.limits.TheConstants.{MAX_BYTES, MAX_RECORDS, UNIT};
 ghost use Rattle.xh_place.specs.declared.body.Body.{Body};
-ghost use Rattle.xh_place.specs.Bodies.{bytes, kind_of};
-ghost use Rattle.xh_place.specs.Desk.{IsAt, IsSameDesk, StaysAt};
+ghost use Rattle.xh_place.specs.Bodies.{content_of, kind_of};
+ghost use Rattle.xh_place.specs.Desk.{IsSameDesk, IsSeatAt, StaysAt};
 ghost use Rattle.xh_place.specs.Ending.{HasGivenBack};
-ghost use Rattle.xh_place.specs.Places.{Item, IsPlaceOf, found, total_of};
-ghost use Rattle.xh_place.specs.Seen.{Becomes, Stays};
+ghost use Rattle.xh_place.specs.Places.{AreWhole, IsBlock, found};
+ghost use Rattle.xh_place.specs.Seen.{Acts, Becomes, less};
+ghost use Rattle.xh_records.specs.Seats.{IsSeatOf};
 ghost use Rattle.xh_place.specs.Tallies.{gave, took};
 ghost use Rattle.xh_place.specs.Vaults.{Asks};
-ghost use Rattle.xh_core.specs.Headers.{len_in};
 ghost use Rattle.xh_core.specs.Space.{rounded};
 ghost use Rattle.xh_place.specs.Calls.{Allocates, FreesBlock, GivesUp, HasBytes, Lends, LendsMut, Makes, Reads, Splits, Writes, space_at};
-ghost use Rattle.xh_place.specs.inner.Lots.{IsBodyOf};
 ghost use Rattle.xh_core.specs.declared.header.Kind.TheVariants as kind;
 
 use crate::body::Body;
 use crate::bytes::{bytes_of, lend_lot, read_lot, show_lot, write_lot};
+use crate::checks::{test_block, test_cut, test_data};
 use crate::desk::Desk;
 use crate::gate::Gate;
 use crate::list::remove;
@@ -31,7 +31,7 @@ use crate::outlet::Outlet;
 use crate::place::Place;
 use crate::vaults::Vaults;
 use std::alloc::Global;
-use xh_core::{Block, Header, Kind, Refused};
+use xh_core::{Block, Refused};
 use xh_model::limits::UNIT;
 use xh_records::Records;
 
@@ -56,9 +56,9 @@ impl Place {
         n: u32,
         arena: u32,
     ) -> Result<Block, Refused>
-        requires at { IsAt V.names desk.old self.old.place }
+        requires at { IsSeatAt V.names desk.old self.old.seat }
         ensures same { StaysAt V.names V.extent desk.old desk.new self.old self.new }
-        ensures made { Allocates self.old.place.state (space_at V.changes V.extent (length self.old.place.shape.names) desk.old.vaults desk.new.vaults) n arena self.old self.new result }
+        ensures made { Allocates self.old.state (space_at V.changes V.extent (length self.old.seat.shape.names) desk.old.vaults desk.new.vaults) n arena self.old self.new result }
         ensures tallies { MatchResult result (λ b. V.tallies desk.new.vaults ≡ took arena b.len (V.tallies desk.old.vaults)) (λ _. V.tallies desk.new.vaults ≡ V.tallies desk.old.vaults) }
         ensures asked { OnOk result (Asks V.changes arena desk.old.vaults desk.new.vaults) }
         ensures untouched { IfErr result (λ e. e ≢ Refused.NoSpace → e ≢ Refused.Worn → desk.new.vaults ≡ desk.old.vaults) }
@@ -76,9 +76,9 @@ impl Place {
         bytes: &mut Vec<u8>,
         arena: u32,
     ) -> Result<Block, Refused>
-        requires at { IsAt V.names desk.old self.old.place }
+        requires at { IsSeatAt V.names desk.old self.old.seat }
         ensures same { StaysAt V.names V.extent desk.old desk.new self.old self.new }
-        ensures made { Makes self.old.place.state (space_at V.changes V.extent (length self.old.place.shape.names) desk.old.vaults desk.new.vaults)
+        ensures made { Makes self.old.state (space_at V.changes V.extent (length self.old.seat.shape.names) desk.old.vaults desk.new.vaults)
             (length bytes.old.items) bytes.old.items arena self.old self.new result }
         ensures tallies { MatchResult result (λ b. V.tallies desk.new.vaults ≡ took arena b.len (V.tallies desk.old.vaults)) (λ _. V.tallies desk.new.vaults ≡ V.tallies desk.old.vaults) }
         ensures asked { OnOk result (Asks V.changes arena desk.old.vaults desk.new.vaults) }
@@ -98,10 +98,10 @@ impl Place {
         n: usize,
         arena: u32,
     ) -> Result<Block, Refused>
-        requires at { IsAt V.names desk.old self.old.place }
+        requires at { IsSeatAt V.names desk.old self.old.seat }
         requires room { length buffer.old.items ≤ n }
         ensures same { StaysAt V.names V.extent desk.old desk.new self.old self.new }
-        ensures made { Makes self.old.place.state (space_at V.changes V.extent (length self.old.place.shape.names) desk.old.vaults desk.new.vaults)
+        ensures made { Makes self.old.state (space_at V.changes V.extent (length self.old.seat.shape.names) desk.old.vaults desk.new.vaults)
             n buffer.old.items arena self.old self.new result }
         ensures tallies { MatchResult result (λ b. V.tallies desk.new.vaults ≡ took arena b.len (V.tallies desk.old.vaults)) (λ _. V.tallies desk.new.vaults ≡ V.tallies desk.old.vaults) }
         ensures asked { OnOk result (Asks V.changes arena desk.old.vaults desk.new.vaults) }
@@ -131,50 +131,19 @@ impl Place {
         r: u16,
         out: &mut E,
     ) -> u32
-        requires at { IsAt V.names desk.old self.old.place }
-        requires listed { (x : Item) × (value_at r self.old.place.blocks ≡ Some x) }
+        requires at { IsSeatAt V.names desk.old self.old.seat }
+        requires listed { (l : LotOf Body) × (value_at r self.old.seat.lots ≡ Some l) }
         ensures same { IsSameDesk V.names V.extent desk.old desk.new }
-        ensures list { Becomes (record self.old.place { blocks = without r self.old.place.blocks }) (vacated self.old.place.process r) self.old self.new }
-        ensures once { Distinct (keys self.old.place.blocks) }
-        ensures bytes { (result ≡ len_in (found self.old.place r)) × (result + total_of self.new.place.blocks ≡ total_of self.old.place.blocks) }
+        ensures list { Becomes (without r self.old.seat.lots) (less r self.old.list) (vacated self.old.seat.process r) self.old self.new }
+        ensures once { Distinct self.old.list }
         ensures back { (V.tallies desk.new.vaults ≡ gave (r / MAX_RECORDS) result (V.tallies desk.old.vaults)) × HasGivenBack result (V.tallies desk.old.vaults) (V.tallies desk.new.vaults) }
-        ensures asked { Asks V.changes (r / MAX_RECORDS) desk.old.vaults desk.new.vaults × (0 < result) }
-        ensures arena { r / MAX_RECORDS < length self.old.place.shape.names }
-        ensures body { (x : Item) → value_at r self.old.place.blocks ≡ Some x → (b : Body) × IsBodyOf b x × E.has out.new b }
+        ensures asked { Asks V.changes (r / MAX_RECORDS) desk.old.vaults desk.new.vaults }
+        ensures block { (l : LotOf Body) → value_at r self.old.seat.lots ≡ Some l → IsBlock self.old.seat.shape r l × (result ≡ l.len) × E.has out.new l.body }
     {
         remove(&mut self.list, r);
         let len = give_up(desk, &mut self.seat, r, out);
         self.total -= u64::from(len);
         len
-    }
-
-    // The tests of a call on a block.
-    #[inline(always)]
-    fn test_block(&mut self, records: &Records<Body>, r: u16) -> Result<(), Refused>
-        requires own { IsPlaceOf records.now self.old.place }
-        ensures same { Stays self.old self.new }
-        ensures tested { Tested (start self.old.place.state ++ (is_none (found self.old.place r), NotOwned) ∷ []) result (λ _. (x : Item) × (value_at r self.old.place.blocks ≡ Some x)) }
-    {
-        self.state().check_start()?;
-        if !self.has(records, r) {
-            return Err(Refused::NotOwned);
-        }
-        Ok(())
-    }
-
-    // The tests of a call on a data block.
-    #[inline(always)]
-    fn test_data(&mut self, records: &Records<Body>, r: u16) -> Result<Header, Refused>
-        requires own { IsPlaceOf records.now self.old.place }
-        ensures same { Stays self.old self.new }
-        ensures tested { Tested (start self.old.place.state ++ data_tests (found self.old.place r)) result (λ s. (found self.old.place r ≡ Some s) × (s.kind ≡ kind.Data)) }
-    {
-        self.test_block(records, r)?;
-        let header = self.look(records, r);
-        if header.kind == Kind::End {
-            return Err(Refused::NotData);
-        }
-        Ok(header)
     }
 
     /// A data block's bytes go back, and its record is free. It answers the bytes. NoProcess, Ended, NotOwned, NotData.
@@ -183,11 +152,11 @@ impl Place {
         desk: &mut Desk<'_, R, V, G>,
         r: u16,
     ) -> Result<u32, Refused>
-        requires at { IsAt V.names desk.old self.old.place }
+        requires at { IsSeatAt V.names desk.old self.old.seat }
         ensures same { StaysAt V.names V.extent desk.old desk.new self.old self.new }
-        ensures freed { FreesBlock self.old.place.state r self.old self.new result }
+        ensures freed { FreesBlock self.old.state r self.old self.new result }
         ensures tallies { MatchResult result (λ n. V.tallies desk.new.vaults ≡ gave (r / MAX_RECORDS) n (V.tallies desk.old.vaults)) (λ _. V.tallies desk.new.vaults ≡ V.tallies desk.old.vaults) }
-        ensures arena { OnOk result (r / MAX_RECORDS < length self.old.place.shape.names) }
+        ensures arena { OnOk result (r / MAX_RECORDS < length self.old.seat.shape.names) }
         ensures asked { MatchResult result (λ _. Asks V.changes (r / MAX_RECORDS) desk.old.vaults desk.new.vaults) (λ _. desk.new.vaults ≡ desk.old.vaults) }
     {
         self.release(desk, r, &mut ())
@@ -199,16 +168,17 @@ impl Place {
         desk: &mut Desk<'_, R, V, G>,
         r: u16,
     ) -> Result<Vec<u8>, Refused>
-        requires at { IsAt V.names desk.old self.old.place }
+        requires at { IsSeatAt V.names desk.old self.old.seat }
         ensures same { StaysAt V.names V.extent desk.old desk.new self.old self.new }
-        ensures freed { GivesUp (λ v. HasBytes r self.old.place v.items) self.old.place.state r self.old self.new result }
-        ensures tallies { MatchResult result (λ v. V.tallies desk.new.vaults ≡ gave (r / MAX_RECORDS) (length v.items) (V.tallies desk.old.vaults)) (λ _. V.tallies desk.new.vaults ≡ V.tallies desk.old.vaults) }
-        ensures arena { OnOk result (r / MAX_RECORDS < length self.old.place.shape.names) }
+        ensures freed { GivesUp (λ v. HasBytes r self.old.seat v.items) self.old.state r self.old self.new result }
+        ensures tallies { MatchResult result (λ v. V.tallies desk.new.vaults ≡ gave (r / MAX_RECORDS) (length v.items) (V.tallies desk.old.vaults))
+            (λ _. V.tallies desk.new.vaults ≡ V.tallies desk.old.vaults) }
+        ensures arena { OnOk result (r / MAX_RECORDS < length self.old.seat.shape.names) }
         ensures asked { MatchResult result (λ _. Asks V.changes (r / MAX_RECORDS) desk.old.vaults desk.new.vaults) (λ _. desk.new.vaults ≡ desk.old.vaults) }
     {
         let mut body = Body::Nothing;
-        self.release(desk, r, &mut body)?;
-        Ok(bytes_of(body))
+        let len = self.release(desk, r, &mut body)?;
+        Ok(bytes_of(body, len))
     }
 
     // A data block's bytes go back, and its record is free. What it carried goes to the outlet.
@@ -219,15 +189,16 @@ impl Place {
         r: u16,
         out: &mut E,
     ) -> Result<u32, Refused>
-        requires at { IsAt V.names desk.old self.old.place }
+        requires at { IsSeatAt V.names desk.old self.old.seat }
         ensures same { StaysAt V.names V.extent desk.old desk.new self.old self.new }
-        ensures freed { FreesBlock self.old.place.state r self.old self.new result }
+        ensures freed { FreesBlock self.old.state r self.old self.new result }
         ensures tallies { MatchResult result (λ n. V.tallies desk.new.vaults ≡ gave (r / MAX_RECORDS) n (V.tallies desk.old.vaults)) (λ _. V.tallies desk.new.vaults ≡ V.tallies desk.old.vaults) }
-        ensures arena { OnOk result (r / MAX_RECORDS < length self.old.place.shape.names) }
+        ensures arena { OnOk result (r / MAX_RECORDS < length self.old.seat.shape.names) }
         ensures asked { MatchResult result (λ _. Asks V.changes (r / MAX_RECORDS) desk.old.vaults desk.new.vaults) (λ _. desk.new.vaults ≡ desk.old.vaults) }
-        ensures body { IfOk result (λ n. (x : Item) × (value_at r self.old.place.blocks ≡ Some x) × ((b : Body) × IsBodyOf b x × E.has out.new b) × (kind_of x.content ≡ kind.Data) × (n ≡ x.len)) }
+        ensures body { IfOk result (λ n. (l : LotOf Body) × (value_at r self.old.seat.lots ≡ Some l) × IsBlock self.old.seat.shape r l × (kind_of (content_of l.body) ≡ kind.Data) × (n ≡ l.len)
+            × E.has out.new l.body) }
     {
-        self.test_data(desk.records, r)?;
+        test_data(desk.records, &mut self.seat, self.state, r)?;
         Ok(self.give_up(desk, r, out))
     }
 
@@ -242,31 +213,17 @@ impl Place {
         r: u16,
         k: u32,
     ) -> Result<(Block, Block), Refused>
-        requires at { IsAt V.names desk.old self.old.place }
+        requires at { IsSeatAt V.names desk.old self.old.seat }
         ensures same { StaysAt V.names V.extent desk.old desk.new self.old self.new }
-        ensures cut { Splits self.old.place.state r k self.old self.new result }
+        ensures cut { Splits self.old.state r k self.old self.new result }
         ensures tallies { V.tallies desk.new.vaults ≡ V.tallies desk.old.vaults }
         ensures asked { MatchResult result (λ _. Asks V.changes (r / MAX_RECORDS) desk.old.vaults desk.new.vaults) (λ _. desk.new.vaults ≡ desk.old.vaults) }
     {
-        let len = self.test_cut(desk.records, r, k)?;
+        let len = test_cut(desk.records, &mut self.seat, self.state, r, k)?;
         let rec = cut_block(alloc, desk, &mut self.seat, r, k)?;
         self.list.push_reserved(rec);
         let len = len - k;
         Ok((Block { rec: r, len: k }, Block { rec, len }))
-    }
-
-    // The tests of a split: the block's length.
-    fn test_cut(&mut self, records: &Records<Body>, r: u16, k: u32) -> Result<u32, Refused>
-        requires own { IsPlaceOf records.now self.old.place }
-        ensures same { Stays self.old self.new }
-        ensures tested { Tested (start self.old.place.state ++ split_tests (found self.old.place r) k) result
-            (λ n. (x : Item) × (value_at r self.old.place.blocks ≡ Some x) × (kind_of x.content ≡ kind.Data) × (x.len ≡ n) × IsGoodCut k n) }
-    {
-        let header = self.test_data(records, r)?;
-        if k == 0 || k % UNIT != 0 || k >= header.len {
-            return Err(Refused::BadCut);
-        }
-        Ok(header.len)
     }
 
     /// The bytes of a data block from `at` on, as many as `out` has. NoProcess, Ended, NotOwned, NotData, and BadRange
@@ -278,11 +235,11 @@ impl Place {
         at: u32,
         out: &mut [u8],
     ) -> Result<(), Refused>
-        requires { IsPlaceOf records.now self.old.place }
-        ensures read { Reads self.old.place.state r at out.new self.old self.new result }
+        requires { IsSeatOf records.now self.old.seat }
+        ensures read { Reads self.old.state r at out.new self.old self.new result }
         ensures refused { OnErr result (out.new ≡ out.old) }
     {
-        self.test_block(records, r)?;
+        test_block(records, &mut self.seat, self.state, r)?;
         read_lot(records, &mut self.seat, r, at, out)
     }
 
@@ -295,10 +252,10 @@ impl Place {
         at: u32,
         bytes: &[u8],
     ) -> Result<(), Refused>
-        requires { IsPlaceOf records.now self.old.place }
-        ensures { Writes self.old.place.state r at bytes.now self.old self.new result }
+        requires { IsSeatOf records.now self.old.seat }
+        ensures { Writes self.old.state r at bytes.now self.old self.new result }
     {
-        self.test_block(records, r)?;
+        test_block(records, &mut self.seat, self.state, r)?;
         write_lot(records, &mut self.seat, r, at, bytes)
     }
 
@@ -310,11 +267,11 @@ impl Place {
         r: u16,
         f: &mut F,
     ) -> Result<A, Refused>
-        requires own { IsPlaceOf records.now self.old.place }
+        requires own { IsSeatOf records.now self.old.seat }
         requires callable { F.IsAlwaysCallable f.old }
-        ensures { Lends F.FnMut self.old.place.state r f.old f.new self.old self.new result }
+        ensures { Lends F.FnMut self.old.state r f.old f.new self.old self.new result }
     {
-        self.test_block(records, r)?;
+        test_block(records, &mut self.seat, self.state, r)?;
         show_lot(records, &mut self.seat, r, f)
     }
 
@@ -325,11 +282,11 @@ impl Place {
         r: u16,
         f: &mut F,
     ) -> Result<A, Refused>
-        requires own { IsPlaceOf records.now self.old.place }
+        requires own { IsSeatOf records.now self.old.seat }
         requires callable { F.IsAlwaysCallable f.old }
-        ensures { LendsMut F.FnMut self.old.place.state r f.old f.new self.old self.new result }
+        ensures { LendsMut F.FnMut self.old.state r f.old f.new self.old self.new result }
     {
-        self.test_block(records, r)?;
+        test_block(records, &mut self.seat, self.state, r)?;
         lend_lot(records, &mut self.seat, r, f)
     }
 }

@@ -1,17 +1,19 @@
-use Rattle.xh_place.proofs.Common.{rules, ◌≡◌, ◌<◌, ◌/◌, ◌%◌, length, refl, sym, ap, subst, Accept, Acts, Held, Body, bare, [], ◌∷◌, ◌++◌, Err, looked, has, accepted_on, acts_of}
-use Rattle.xh_place.proofs.Common.{Arrived, arrived_last, item_of}
+use Rattle.xh_place.proofs.Common.{rules, ◌≡◌, ◌<◌, ◌/◌, ◌%◌, length, refl, sym, ap, subst, Acts, Held, Body, [], ◌∷◌, ◌++◌, Err, has, acts_of}
+use Rattle.xh_place.proofs.Common.{item_of}
+use Rattle.xh_place.proofs.Words.{Accept, Arrived, accepted_on}
+use Rattle.xh_place.proofs.Seeing.{arrived_last, looked}
 use Rattle.xh_place.proofs.Gained.{lot_is}
 use Rattle.xh_place.proofs.lots.accept_block.Goals as goal
 
 pub look-requires-clause-held : goal.look-requires-clause-held
 look-requires-clause-held c =
     let t = c.in_ok-accept.ensures.accepted in let fresh = c.in_ok-accept.ensures.fresh in let seat = c.args.seat.now in
-    (t.0, has seat c.accept.new.seat c.args.r t.0 (ap bare t.1.0) fresh, lot_is seat c.accept.new.seat c.args.r t.0 (ap bare t.1.0) fresh t.2, t.3)
+    (t.0, has seat c.accept.new.seat c.args.r t.0 t.1.0 fresh, lot_is seat c.accept.new.seat c.args.r t.0 t.1.0 fresh t.2, t.3)
 
 pub returns-clause-here : goal.returns-clause-here
 returns-clause-here c =
     let t = c.in_ok-accept.ensures.accepted in let fresh = c.in_ok-accept.ensures.fresh in let seat = c.args.seat.now in let mid = c.accept.new.seat in
-    let at = has seat mid c.args.r t.0 (ap bare t.1.0) fresh in
+    let at = has seat mid c.args.r t.0 t.1.0 fresh in
     let own = c.requires.own in (
       t.0,
       fresh,

@@ -1,5 +1,5 @@
 use Rattle.xh_place.proofs.Common.{◌≡◌, ℕ, ◌<◌, ◌%◌, length, [], ◌∷◌, ◌++◌, append_assoc, inl, sym, ap, ◌∙◌, subst, Among, keys, value_at, among_back, among_front, keys_push, IsRecord, IsLotOf}
-use Rattle.xh_place.proofs.Common.{Acts, Body, List, LotOf, acts_twice, bare, claim_acts, claimed, full_after, full_now, has, vacate_acts}
+use Rattle.xh_place.proofs.Common.{Acts, Body, List, LotOf, acts_twice, claim_acts, claimed, full_after, full_now, has, vacate_acts}
 use Rattle.xh_place.proofs.opening.claim_two.Goals.{In-Ok}
 use Rattle.xh_place.proofs.opening.claim_two.Goals as goal
 
@@ -12,7 +12,7 @@ exists g c = (
 pub vacate-requires-clause-held : goal.vacate-requires-clause-held
 vacate-requires-clause-held g c =
     let t = c.in-Ok.ensures.claimed in let seat = c.args.seat.now in
-    (t.0, ap (λ h. value_at c.in-Ok.r h.lots) c.in_default-claim.ensures.missed.0 ∙ has seat c.claim.new.seat c.in-Ok.r t.0 (ap bare t.1.0) c.in-Ok.ensures.fresh, t.3)
+    (t.0, ap (λ h. value_at c.in-Ok.r h.lots) c.in_default-claim.ensures.missed.0 ∙ has seat c.claim.new.seat c.in-Ok.r t.0 t.1.0 c.in-Ok.ensures.fresh, t.3)
 
 pub returns-in_default-clause-claimed : goal.returns-in_default-clause-claimed
 returns-in_default-clause-claimed g c = full_now c.args.arena 1 _ c.args.seat.now c.claim.new.seat c.in_default.ensures.seen c.in_default.ensures.missed
@@ -20,7 +20,7 @@ returns-in_default-clause-claimed g c = full_now c.args.arena 1 _ c.args.seat.no
 pub returns-in_default-claim-clause-claimed : goal.returns-in_default-claim-clause-claimed
 returns-in_default-claim-clause-claimed g c =
     let t = c.in-Ok.ensures.claimed in let seat = c.args.seat.now in let mid = c.claim.new.seat in let late = c.claim-2.new.seat in let last = c.vacate.new.seat in let r : ℕ = c.in-Ok.r in
-    let at = ap (λ h. value_at r h.lots) c.in_default-claim.ensures.missed.0 ∙ has seat mid r t.0 (ap bare t.1.0) c.in-Ok.ensures.fresh in
+    let at = ap (λ h. value_at r h.lots) c.in_default-claim.ensures.missed.0 ∙ has seat mid r t.0 t.1.0 c.in-Ok.ensures.fresh in
     full_after c.args.arena _ seat mid late last r t.0 c.in-Ok.ensures.record.0 (claim_acts seat mid seat.process r t) c.in-Ok.ensures.fresh
     c.in_default-claim.ensures.seen c.in_default-claim.ensures.missed (vacate_acts late last late.process r t.0 at t.3 c.vacate.ensures.vacated)
 

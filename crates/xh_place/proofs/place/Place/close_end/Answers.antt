@@ -1,44 +1,71 @@
-use Rattle.xh_place.proofs.Common.{arith, ◌≡◌, ℕ, ◌+◌, ◌-◌, length, length-append, refl, subst, ap, ◌∙◌, ◌++◌, reclaimed, end_tests, MAX_BUDGET, value_at, without, IsSwept, alone, last}
-use Rattle.xh_place.proofs.Common.{[], Did, IsClosed, PlaceOf, did_more, did_starts, rules, with_blocks, with_list, found_at, IsSeen, start, seen_wide, same_since, starts_same, swept_as}
-use Rattle.xh_place.proofs.Common.{unrefused}
+use Rattle.xh_place.proofs.Common.{arith, rules, ◌≡◌, ℕ, ◌-◌, ◌+◌, length, length-append, refl, sym, subst, ap, ◌∙◌, ◌++◌, [], ◌∷◌, Acts, Becomes, Did, IsClosed, IsSeen, IsSwept, Held, MAX_BUDGET}
+use Rattle.xh_place.proofs.Common.{Body, LotOf, Some, end_tests, found}
+use Rattle.xh_place.proofs.Common.{PlaceSeen, List, Event, Item, becomes, did_starts, is_over, item_of, less, less_shown, now_is, reclaimed, seen_wide, shown, shown_append, shown_long, start}
+use Rattle.xh_place.proofs.Common.{starts_same, swept_as}
+use Rattle.xh_place.proofs.Common.{Sweeps, item_in, unrefused, value_at, with_lots, without}
+use Rattle.xh_place.proofs.Words.{Status}
+use Rattle.xh_place.proofs.Events.{did_since}
 use Rattle.xh_place.proofs.Swept.{still, swept_end}
-use Rattle.xh_place.specs.Ending.{Sweeps}
+use Rattle.xh_place.specs.Calls.{Closes}
+use Rattle.xh_place.specs.Vaults.{BringsBack}
 use Rattle.xh_place.proofs.place.Place.close_end.Goals as goal
+
+-- a sweep of the endpoint, which stood last, once the place had looked
+closed : (e from bytes : ℕ) (seat mid : Held Body) (list : List ℕ) (state : Status) (l : LotOf Body) (log : List (Event × Item)) (new : PlaceSeen) → Acts [] seat.lots seat mid
+    → value_at e seat.lots ≡ Some l
+    → from ≡ length (less e list ++ e ∷ []) - 1 → IsSwept (IsSeen mid new.seat) mid.process from MAX_BUDGET (shown mid.lots (less e list ++ e ∷ [])) (shown new.seat.lots new.list) bytes log
+    → Becomes new.seat.lots new.list log (record { seat = mid; list = less e list ++ e ∷ []; state = state }) new
+    → (left : List (ℕ × Item)) × Sweeps (IsSeen seat new.seat) seat.process MAX_BUDGET ((e, item_of l) ∷ []) left bytes log × (shown new.seat.lots new.list ≡ without e (shown seat.lots list) ++ left)
+    × Becomes new.seat.lots new.list log (record { seat = seat; list = list; state = state }) new
+closed e from bytes seat mid list state l log new same at here is moved =
+    let whose = ap (λ (h : Held Body). h.process) same.0 in let others : List (ℕ × Item) = without e (shown seat.lots list) in
+    let wide = seen_wide mid new.seat seat new.seat (ap (λ (h : Held Body). h.shape) same.0) whose (did_starts seat.process [] seat.front mid.front same.1) (starts_same refl) in
+    let all : shown mid.lots (less e list ++ e ∷ []) ≡ others ++ (e, item_of l) ∷ [] = ap (λ (h : Held Body). shown h.lots (less e list ++ e ∷ [])) same.0
+    ∙ shown_append seat.lots (less e list) (e ∷ [])
+    ∙ (λ i. less_shown e seat.lots list i ++ (e, item_in (at i)) ∷ []) in
+    let ahead : from ≡ length others = omega (arith, here, length-append (less e list) (e ∷ []), shown_long seat.lots (less e list), ap length (less_shown e seat.lots list)) in
+    let swept = swept_as (IsSeen mid new.seat) (IsSeen seat new.seat) wide mid.process from MAX_BUDGET (shown mid.lots (less e list ++ e ∷ [])) (shown new.seat.lots new.list) bytes log is in
+    let end = swept_end (IsSeen seat new.seat) seat.process others ((e, item_of l) ∷ []) MAX_BUDGET bytes log (shown mid.lots (less e list ++ e ∷ [])) (shown new.seat.lots new.list) all
+    (subst (λ (z : ℕ × ℕ). IsSwept (IsSeen seat new.seat) z.0 z.1 MAX_BUDGET (shown mid.lots (less e list ++ e ∷ [])) (shown new.seat.lots new.list) bytes log) (λ i. (whose i, ahead i)) swept) in (
+      end.0,
+      end.1,
+      end.2,
+      (
+        moved.0 ∙ ap (λ (h : Held Body). record { seat = record h { lots = new.seat.lots; front = new.seat.front }; list = new.list; state = state }) same.0,
+        subst (λ (p : ℕ). Did p log seat.front new.seat.front) whose (did_since seat mid new.seat.front log same moved.1),
+      ),
+    )
 
 pub returns-clause-closed : goal.returns-clause-closed
 returns-clause-closed g c =
-    let old = c.args.self.now in let mid = c.test_end.new.self in let turned = c.move_last.new.self in let new = c.sweep-bytes.new.self in let e : ℕ = c.args.e in
-    let bytes : ℕ = c.sweep-bytes.result.0 in let same = c.in_ok-test_end.ensures.same in let tested = c.in_ok-test_end.ensures.tested in
-    let x = tested.1.1 in let from : ℕ = c.count-from.result - 1 in let ahead : ℕ = length (without e old.place.blocks) in let begun : PlaceOf = with_blocks old.place (last e old.place.blocks) in
-    let moved : turned.place ≡ begun = ap (λ s. s.place) c.move_last.ensures ∙ ap (λ p. with_blocks p (last e p.blocks)) same.0 in
-    let long : length turned.place.blocks ≡ ahead + 1 = ap (λ p. length p.blocks) moved
-    ∙ length-append (without e old.place.blocks) (alone e (value_at e old.place.blocks)) ∙ ap (λ o. ahead + length (alone e o)) tested.1.1.1 in
-    let there : from ≡ ahead = omega (arith, c.count-from.ensures.count, long) in
-    let p : ℕ = old.place.process in let whose : turned.place.process ≡ p = ap (λ p. p.process) moved in
-    let quiet = same_since old mid turned.front same (ap (λ s. s.front) c.move_last.ensures) in let t = c.sweep-bytes.ensures.swept in
-    let wide = swept_as (IsSeen turned new) (IsSeen old new)
-    (seen_wide turned new old new (ap (λ p. p.shape) moved) whose (did_starts p [] old.front turned.front quiet) (starts_same refl))
-    from MAX_BUDGET turned.place new.place bytes t.0 t.1 in
-    let swept = subst (λ p. IsSwept (IsSeen old new) from MAX_BUDGET p new.place bytes t.0) moved wide in
-    let k = swept_end (IsSeen old new) (without e old.place.blocks) (alone e (value_at e old.place.blocks)) MAX_BUDGET bytes t.0 begun new.place refl
-    (subst (λ n. IsSwept (IsSeen old new) n MAX_BUDGET begun new.place bytes t.0) there swept) in
-    let many : length new.place.blocks ≡ ahead + length k.0 = ap length k.2 ∙ length-append (without e old.place.blocks) k.0 in
-    let after : c.sweep-bytes.result.1 ≡ length k.0 = c.sweep-bytes.ensures.left ∙ omega (arith, there, many) in (
+    let seat = c.self.inside.seat in let mid = c.test_end.new.seat in let list = c.self.inside.list.items in let state = c.self.inside.state in let new = c.sweep-bytes.new.self in let e = c.args.e in
+    let bytes : ℕ = c.sweep-bytes.result.0 in let from : ℕ = c.count-from.result - 1 in let same = c.in_ok-test_end.ensures.same in let l = c.in_ok-test_end.ensures.tested.1.1 in
+    let turned = c.move_last.ensures in let t = c.sweep-bytes.ensures.swept in
+    let is = subst (λ (p : PlaceSeen). IsSwept (IsSeen p.seat new.seat) p.seat.process from MAX_BUDGET (shown p.seat.lots p.list) (shown new.seat.lots new.list) bytes t.0) turned t.1 in
+    let moved = subst (λ (p : PlaceSeen). Becomes new.seat.lots new.list t.0 p new) turned t.2 in
+    let here : from ≡ length (less e list ++ e ∷ []) - 1 = ap (λ n. n - 1) (c.count-from.ensures.count ∙ ap (λ (p : PlaceSeen). length p.list) turned) in
+    let k = closed e from bytes seat mid list state l.0 t.0 new same l.1 here is moved in
+    let left : c.sweep-bytes.result.1 ≡ length k.0 = c.sweep-bytes.ensures.left ∙ omega (
+      arith,
+      shown_long new.seat.lots new.list,
+      ap length k.2,
+      length-append (without e (shown seat.lots list)) k.0,
+      here,
+      length-append (less e list) (e ∷ []),
+      shown_long seat.lots (less e list),
+      ap length (less_shown e seat.lots list),
+    ) in (
       bytes,
-      unrefused (start old.place.state ++ end_tests (found_at old.place e)) c.reclaimed.result _ (IsClosed e old new bytes c.reclaimed.result) tested.0 (
-        x.0,
-        k.0,
-        t.0,
-        x.1,
-        subst (λ o. Sweeps (IsSeen old new) p MAX_BUDGET (alone e o) k.0 bytes t.0) x.1 k.1,
-        (
-          t.2.0 ∙ ap (λ p. with_list p new.place) moved ∙ ap (with_blocks old.place) k.2,
-          did_more p [] t.0 old.front turned.front new.front quiet (subst (λ n. Did n t.0 turned.front new.front) whose t.2.1),
-        ),
-        c.reclaimed.ensures ∙ ap (reclaimed bytes) after,
-      ),
+      subst (λ z. Closes z.state e bytes z new c.reclaimed.result) c.self.view_is (unrefused (start state ++ end_tests (found seat e)) c.reclaimed.result _ _ c.in_ok-test_end.ensures.tested.0
+          (l.0, k.0, t.0, l.1, k.1, k.2, k.3, c.reclaimed.ensures ∙ ap (reclaimed bytes) left)),
       c.sweep-bytes.ensures.back,
     )
 
 pub returns-in_err-test_end-clause-closed : goal.returns-in_err-test_end-clause-closed
-returns-in_err-test_end-clause-closed g c = let e = c.in_err-test_end.ensures in (0, rw e.tested (search rules, (e.same, refl)), still g.V.Vaults.changes g.V.Vaults.tallies c.args.desk.now.vaults c.args.desk.now.vaults refl)
+returns-in_err-test_end-clause-closed g c =
+    let t = c.in_err-test_end.ensures in let seat = c.self.inside.seat in let mid = c.test_end.new.seat in let state = c.self.inside.state in (
+      0,
+      subst (λ z. Closes z.state c.args.e 0 z (record { seat = mid; list = c.self.inside.list.items; state = state }) c.from_residual.result) c.self.view_is
+          (rw t.tested (search rules, (becomes seat mid _ _ t.same refl refl, refl))),
+      still g.V.Vaults.changes g.V.Vaults.tallies c.args.desk.now.vaults c.args.desk.now.vaults refl,
+    )

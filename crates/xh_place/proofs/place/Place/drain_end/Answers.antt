@@ -1,40 +1,69 @@
-use Rattle.xh_place.proofs.Common.{◌≡◌, sym, ap, ◌∙◌, subst, refl, Some, value_at, put, put_at, end_block, Clears, header_of, option_map, with_blocks, IsSeen, drains_as, seen_wide, starts_same}
-use Rattle.xh_place.proofs.Common.{[], ℕ, Did, accepted_on, did_more, did_starts, same_since}
-use Rattle.xh_place.specs.inner.Reclaiming.{toward_in}
+use Rattle.xh_place.proofs.Common.{◌≡◌, ◌∙◌, sym, ap, subst, refl, now_of, value_at, put, put_at, with_lots, Clears, IsSeatOf, changes, item_of, now_is, still_block, same_len, there, ◌+◌, [], Body}
+use Rattle.xh_place.proofs.Common.{EndDoes, IsLotOf, IsRecord, LotOf, PlaceSeen, content_of, kind_of}
 use Rattle.xh_place.proofs.Drained.{cleared, cleared_bytes}
+use Rattle.xh_channel.specs.Calls.{EndpointShuts}
+use Rattle.xh_core.specs.declared.header.Kind.TheVariants as kind
+use Rattle.xh_place.proofs.place.Place.drain_end.Goals.{After-look, After-shut_at}
 use Rattle.xh_place.proofs.place.Place.drain_end.Goals as goal
 
-pub drain-requires-clause-end : goal.drain-requires-clause-end
-drain-requires-clause-end g c =
-    let s = c.shut.ensures.shut in
-    (s.1, ap (λ p. value_at c.args.r p.blocks) s.3 ∙ put_at c.args.r (end_block s.1) (end_block s.0) c.look.new.self.place.blocks s.2)
-
-pub returns : goal.returns
-returns g c =
-    let old = c.args.self.now in let look = c.look.new.self in let shut = c.shut.new.self in let new = c.drain.new.self in let same = c.look.ensures.same in let r : ℕ = c.args.r in
-    let turned = c.shut.ensures.shut.3 ∙ ap (λ p. with_blocks p (put r (end_block c.shut.ensures.shut.1) p.blocks)) same.0 in
-    let whose : shut.place.process ≡ old.place.process = ap (λ p. p.process) turned in
-    let quiet = same_since old look shut.front same c.shut.ensures.front in
-    let wide = seen_wide shut new old new (ap (λ p. p.shape) turned) whose (did_starts old.place.process [] old.front shut.front quiet) (starts_same refl) in
-    let d = c.drain.ensures.drained in
-    let done = cleared (IsSeen old new) r d.0 look.place shut.place new.place c.shut.ensures.shut (drains_as (IsSeen shut new) (IsSeen old new) wide r d.0 shut.place new.place d.1) in
-    let way : toward_in (value_at r shut.place.blocks) ≡ toward_in (value_at r old.place.blocks) = done.1 ∙ ap (λ p. toward_in (value_at r p.blocks)) same.0 in
-    let p : ℕ = old.place.process in let es = accepted_on p (toward_in (value_at r old.place.blocks)) d.0 in
-    let did : Did p es shut.front new.front = subst (λ (z : ℕ × ℕ). Did z.0 (accepted_on z.0 z.1 d.0) shut.front new.front) (λ i. (whose i, way i)) d.2 in record {
-      cleared = (
-        d.0,
-        subst (λ p. Clears (IsSeen old new) r d.0 p new.place) same.0 done.0,
-        did_more p [] es old.front shut.front new.front quiet did,
-      );
-    }
+pub look-requires : goal.look-requires
+look-requires g c =
+    let seat = c.self.inside.seat in let q = c.requires.held in let own = subst (λ p. IsSeatOf c.args.desk.now.records.now p.seat) (sym c.self.view_is) c.requires.own in
+    let t = there c.args.desk.now.records.now seat seat refl own c.self.invariant.whole c.args.r (ap (λ p. value_at c.args.r p.seat.lots) c.self.view_is ∙ q.1) in record { own = t.0; held = t.1 }
 
 pub returns-in-Data : goal.returns-in-Data
 returns-in-Data g c =
-    let q = c.requires.listed in
-    let both : Some c.look.result ≡ Some (header_of q.0) = c.look.ensures.header ∙ ap (option_map header_of) q.1 in let one : c.look.result ≡ header_of q.0 = cc in record {
+    let q = c.requires.held in let at = ap (λ p. value_at c.args.r p.seat.lots) c.self.view_is ∙ q.1 in
+    let last : PlaceSeen = record { seat = c.look.new.seat; list = c.self.inside.list.items; state = c.self.inside.state } in
+    record {
       cleared = (
+        q.0,
+        q.0,
         [],
-        cleared_bytes (IsSeen c.args.self.now c.look.new.self) c.args.r q.0 c.args.self.now.place c.look.new.self.place q.1 (sym (ap (λ h. h.kind) one) ∙ c.in-Data.is) c.look.ensures.same.0,
-        c.look.ensures.same.1,
+        subst (λ p. Clears c.args.r q.0 q.0 [] p last) c.self.view_is
+            (cleared_bytes c.args.r q.0 (record { seat = c.self.inside.seat; list = c.self.inside.list.items; state = c.self.inside.state }) last at
+            (sym (ap (λ h. h.kind) (c.look.ensures.header q.0 at)) ∙ c.in-Data.is) (λ i. record { seat = c.look.ensures.same i; list = c.self.inside.list.items; state = c.self.inside.state })),
+      );
+    }
+
+pub shut_at-requires : goal.shut_at-requires
+shut_at-requires g c =
+    let q = c.requires.held in let at = ap (λ p. value_at c.args.r p.seat.lots) c.self.view_is ∙ q.1 in let block = c.self.invariant.whole c.args.r q.0 at in
+    let same = c.look.ensures.same in let all = c.args.desk.now.records.now in let own = subst (λ p. IsSeatOf all p.seat) (sym c.self.view_is) c.requires.own in record {
+      own = ((ap (λ h. h.table) same ∙ own.0, ap (λ h. h.shape) same ∙ own.1), subst (λ s. IsRecord s c.args.r) own.1 block.exists);
+      held = (q.0, ap (λ h. value_at c.args.r h.lots) same ∙ at, subst (λ h. IsLotOf h.shape c.args.r q.0) (sym same) block.lot, sym (ap (λ h. h.kind) (c.look.ensures.header q.0 at)) ∙ c.in-End.is);
+    }
+
+-- the lot of the endpoint that was shut
+shut : (g : _) (c : After-shut_at g) → let q = c.requires.held in (m : LotOf Body) × EndDoes EndpointShuts q.0 m
+    × (c.shut_at.new.seat ≡ with_lots c.self.inside.seat (put c.args.r m c.self.inside.seat.lots))
+shut g c =
+    let q = c.requires.held in let at = ap (λ p. value_at c.args.r p.seat.lots) c.self.view_is ∙ q.1 in let same = c.look.ensures.same in
+    let t = c.shut_at.ensures q.0 (ap (λ h. value_at c.args.r h.lots) same ∙ at) in (t.0, t.1, t.2 ∙ ap (λ h. with_lots h (put c.args.r t.0 h.lots)) same)
+
+pub invariant_of-self-2 : goal.invariant_of-self-2
+invariant_of-self-2 g c =
+    let q = c.requires.held in let at = ap (λ p. value_at c.args.r p.seat.lots) c.self.view_is ∙ q.1 in let block = c.self.invariant.whole c.args.r q.0 at in
+    let t = shut g (goal.at.invariant_of-self-2 g c).After-shut_at in
+    now_is c.self.inside.seat c.shut_at.new.seat (now_of c.self.inside.seat c.shut_at.new.seat (put c.args.r t.0 c.self.inside.seat.lots) t.2)
+    (changes c.self.invariant at (still_block EndpointShuts block t.1) (ap (λ n. c.self.inside.total + n) (sym (same_len EndpointShuts block t.1))))
+
+pub drain-requires-clause-end : goal.drain-requires-clause-end
+drain-requires-clause-end g c =
+    let q = c.requires.held in let at = ap (λ p. value_at c.args.r p.seat.lots) c.self.view_is ∙ q.1 in let t = shut g (goal.at.drain-requires-clause-end g c).After-shut_at in
+    (t.0, ap (λ h. value_at c.args.r h.lots) t.2 ∙ put_at c.args.r t.0 q.0 c.self.inside.seat.lots at, ap (λ z. kind_of (content_of z.body)) t.1.becomes)
+
+pub returns : goal.returns
+returns g c =
+    let q = c.requires.held in let at = ap (λ p. value_at c.args.r p.seat.lots) c.self.view_is ∙ q.1 in let t = shut g (goal.at.returns g c).After-shut_at in let d = c.drain.ensures.drained in
+    let old : PlaceSeen = record { seat = c.self.inside.seat; list = c.self.inside.list.items; state = c.self.inside.state } in
+    let mid : PlaceSeen = record { seat = c.shut_at.new.seat; list = c.self.inside.list.items; state = c.self.inside.state } in
+    record {
+      cleared = (
+        q.0,
+        d.1.1,
+        d.1.2,
+        subst (λ p. Clears c.args.r q.0 d.1.1 d.1.2 p c.drain.new.self) c.self.view_is
+            (cleared c.args.r q.0 t.0 d.0 old mid c.drain.new.self at t.1 (λ i. record { seat = t.2 i; list = c.self.inside.list.items; state = c.self.inside.state }) d.1),
       );
     }

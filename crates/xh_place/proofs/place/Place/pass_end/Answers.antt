@@ -1,46 +1,31 @@
-use Rattle.xh_place.proofs.Common.{arith, value_at, end_listed, [], ◌∷◌, ◌≡◌, ℕ, Some, ap, ◌∙◌, sym, subst, Did, LotOf, Body, Item, alone, found, own_record, enough, item_of}
-use Rattle.xh_place.proofs.Common.{list_distinct, lost, passed_on, place_did, placed}
+use Rattle.xh_place.proofs.Common.{arith, value_at, [], ◌∷◌, ◌≡◌, Some, None, Option, ap, ◌∙◌, sym, subst, true, refl, ◌-◌, IsSeatOf, Acts, Becomes, LotOf, Body, becomes, enough, end_held, item_in}
+use Rattle.xh_place.proofs.Common.{item_of, less, loses, now_as, now_is, passed_on, shown, there, without}
 use Rattle.xh_place.proofs.place.Place.pass_end.Goals.{After-pass_block-len}
 use Rattle.xh_place.proofs.place.Place.pass_end.Goals as goal
 
 pub pass_block-len-requires : goal.pass_block-len-requires
 pass_block-len-requires c =
-    let q = end_listed (value_at c.args.r c.args.self.now.place.blocks) c.requires.end in let v = placed c.self.view_is in let f = found c.self.invariant v c.args.r q.1 in
-    let own = own_record c.self.invariant v c.args.records.now c.requires.own.0 c.args.r q.1 in
-    record { own = (own.0, own.1, c.requires.own.1); held = (f.lot, f.held, f.block.lot, f.block.full) }
-
--- the lot that was passed is the block's
-same_item : (x : Item) (l m : LotOf Body) → Some l ≡ Some m → item_of m ≡ x → item_of l ≡ x
-same_item x l m e is = let one : l ≡ m = cc in ap item_of one ∙ is
-
-item : (c : After-pass_block-len) → let q = end_listed (value_at c.args.r c.args.self.now.place.blocks) c.requires.end in item_of c.pass_block-len.ensures.0 ≡ q.0
-item c =
-    let q = end_listed (value_at c.args.r c.args.self.now.place.blocks) c.requires.end in let f = found c.self.invariant (placed c.self.view_is) c.args.r q.1 in
-    same_item q.0 c.pass_block-len.ensures.0 f.lot (sym c.pass_block-len.ensures.1 ∙ f.held) f.same
+    let seat = c.self.inside.seat in let q = end_held (value_at c.args.r c.args.self.now.seat.lots) c.requires.end in
+    let own = subst (λ p. IsSeatOf c.args.records.now p.seat) (sym c.self.view_is) c.requires.own.0 in
+    let t = there c.args.records.now seat seat refl own c.self.invariant.whole c.args.r (ap (λ p. value_at c.args.r p.seat.lots) c.self.view_is ∙ q.1) in
+    record { own = (t.0.0, t.0.1, c.requires.own.1); held = (t.1.0, t.1.1, t.1.3) }
 
 pub remove-requires : goal.remove-requires
-remove-requires c = list_distinct c.self.inside.list.items c.self.invariant
+remove-requires c = c.self.invariant.distinct
 
 pub overflow_sub-self : goal.overflow_sub-self
-overflow_sub-self c =
-    let q = end_listed (value_at c.args.r c.args.self.now.place.blocks) c.requires.end in let f = found c.self.invariant (placed c.self.view_is) c.args.r q.1 in
-    omega (arith, c.from.ensures, c.pass_block-len.ensures.3, ap (λ z. z.len) (item (goal.at.overflow_sub-self c).After-pass_block-len), enough c.self.invariant c.args.r q.0 f.entry)
+overflow_sub-self c = omega (arith, c.from.ensures, c.pass_block-len.ensures.3, enough c.self.invariant c.args.r c.pass_block-len.ensures.1)
 
 pub invariant_of-self : goal.invariant_of-self
-invariant_of-self c =
-    let q = end_listed (value_at c.args.r c.args.self.now.place.blocks) c.requires.end in let f = found c.self.invariant (placed c.self.view_is) c.args.r q.1 in
-    (lost c.self.inside.list.items c.self.invariant c.pass_block-len.new.seat c.args.r f.entry c.pass_block-len.ensures.2.0
-    c.remove.ensures.items c.remove.ensures.room (c.from.ensures ∙ c.pass_block-len.ensures.3 ∙ ap (λ z. z.len) (item (goal.at.invariant_of-self c).After-pass_block-len))).0
+invariant_of-self c = now_as (now_is c.self.inside.seat c.pass_block-len.new.seat c.pass_block-len.ensures.2.0 (loses c.self.invariant c.args.r c.pass_block-len.ensures.1))
+    c.remove.ensures.items c.remove.ensures.room (ap (λ n. c.self.inside.total - n) (c.from.ensures ∙ c.pass_block-len.ensures.3))
 
 pub returns : goal.returns
 returns c =
-    let q = end_listed (value_at c.args.r c.args.self.now.place.blocks) c.requires.end in let f = found c.self.invariant (placed c.self.view_is) c.args.r q.1 in
-    let old = c.args.self.now in let last = c.pass_block-len.new.seat in let d : ℕ = c.args.direction in let r : ℕ = c.args.r in
-    let is = item (goal.at.returns c).After-pass_block-len in
-    let both = lost c.self.inside.list.items c.self.invariant last r f.entry c.pass_block-len.ensures.2.0
-    c.remove.ensures.items c.remove.ensures.room (c.from.ensures ∙ c.pass_block-len.ensures.3 ∙ ap (λ z. z.len) is) in
-    let did = place_did c.self.inside.seat c.self.view_is last (λ p. passed_on p d ((r, item_of c.pass_block-len.ensures.0) ∷ [])) c.pass_block-len.ensures.2.1 in (
-      both.1 old.place (placed c.self.view_is),
-      subst (λ o. Did old.place.process (passed_on old.place.process d (alone r o)) old.front last.front) (sym q.1)
-          (subst (λ x. Did old.place.process (passed_on old.place.process d ((r, x) ∷ [])) old.front last.front) is did),
+    let seat = c.self.inside.seat in let last = c.pass_block-len.new.seat in let r = c.args.r in let t = c.pass_block-len.ensures in (
+      t.0,
+      sym (ap (λ p. value_at r p.seat.lots) c.self.view_is) ∙ t.1,
+      subst (λ z. Becomes (without r z.seat.lots) (less r z.list) (passed_on z.seat.process c.args.direction ((r, item_of t.0) ∷ [])) z
+          (record { seat = last; list = c.remove.new.list.items; state = c.self.inside.state })) c.self.view_is
+          (becomes seat last _ _ t.2 c.remove.ensures.items refl),
     )

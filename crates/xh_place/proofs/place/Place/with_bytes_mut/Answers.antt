@@ -1,38 +1,40 @@
-use Rattle.xh_place.proofs.Common.{Some, [], ap, did_starts, found, fronted, header_of, on_err_weaker, option_map, own_record, placed, same_place, same_since, with_blocks, ◌∙◌}
-use Rattle.xh_place.proofs.Lent.{lent}
-use Rattle.xh_place.proofs.Parted.{tested_range}
-use Rattle.xh_place.proofs.Common.{rules, stays_same}
+use Rattle.xh_place.proofs.Common.{becomes, content_of, rules, [], ap, ◌∙◌, refl, sym, subst, Acts, Some, acts_none, acts_then, item_of, lent, now_is, on_err_weaker, option_map, put, tested_range}
+use Rattle.xh_place.proofs.Common.{there, value_at, IsSeatOf}
+use Rattle.xh_place.specs.Calls.{LendsMut, bytes_in}
 use Rattle.xh_place.proofs.place.Place.with_bytes_mut.Goals as goal
 
 pub lend_lot-requires : goal.lend_lot-requires
 lend_lot-requires g c =
-    let q = c.in_ok-test_block.ensures.tested.1 in let v = placed c.self.view_is ∙ c.in_ok-test_block.ensures.same.0 in let f = found c.self.invariant v c.args.r q.1 in
-    record { own = own_record c.self.invariant v c.args.records.now c.requires.own c.args.r q.1; held = (f.lot, f.held, f.block.lot, f.block.full); callable = c.requires.callable }
+    let own : IsSeatOf c.args.records.now c.self.inside.seat = search rules in
+    let t = there c.args.records.now c.self.inside.seat c.test_block.new.seat c.in_ok-test_block.ensures.same.0 own c.self.invariant.whole c.args.r c.in_ok-test_block.ensures.tested.1.1 in
+    record { own = t.0; held = t.1; callable = c.requires.callable }
 
-pub invariant_of-self : goal.invariant_of-self
-invariant_of-self g c =
-    let q = c.in_ok-test_block.ensures.tested.1 in let f = found c.self.invariant (placed c.self.view_is ∙ c.in_ok-test_block.ensures.same.0) c.args.r q.1 in
-    let w = lent g.F.FnMut c.args.f.now c.lend_lot.new.f c.lend_lot.new.seat c.self.inside.list.items c.lend_lot.result c.self.invariant f.held f.block f.same (c.lend_lot.ensures.lent f.lot f.held)
-    (on_err_weaker c.lend_lot.result (λ e. e.0) c.lend_lot.ensures.refused) in
-    w.1.0
+pub invariant_of-self-2 : goal.invariant_of-self-2
+invariant_of-self-2 g c =
+    let q = c.in_ok-test_block.ensures.tested.1 in let same = c.in_ok-test_block.ensures.same in let at = ap (λ h. value_at c.args.r h.lots) same.0 ∙ q.1 in
+    (lent g.F.FnMut c.args.f.now c.lend_lot.new.f c.lend_lot.result c.test_block.new.seat c.lend_lot.new.seat c.args.r (now_is c.self.inside.seat c.test_block.new.seat same.0 c.self.invariant) at
+    (c.lend_lot.ensures.lent q.0 at) (on_err_weaker c.lend_lot.result (λ e. e.0) c.lend_lot.ensures.refused)).0
 
 pub returns : goal.returns
 returns g c =
-    let q = c.in_ok-test_block.ensures.tested.1 in let v = placed c.self.view_is ∙ c.in_ok-test_block.ensures.same.0 in let f = found c.self.invariant v c.args.r q.1 in
-    let w = lent g.F.FnMut c.args.f.now c.lend_lot.new.f c.lend_lot.new.seat c.self.inside.list.items c.lend_lot.result c.self.invariant f.held f.block f.same (c.lend_lot.ensures.lent f.lot f.held)
-    (on_err_weaker c.lend_lot.result (λ e. e.0) c.lend_lot.ensures.refused) in
-    let p = c.args.self.now.place in let e = w.1.1 p v in
-    let quiet = same_since c.args.self.now c.test_block.new.self c.lend_lot.new.seat.front c.in_ok-test_block.ensures.same (w.4 ∙ fronted c.self.view_is) in
-    record {
-      place = same_place c.args.self.now _ _ e (did_starts p.process [] c.args.self.now.front c.lend_lot.new.seat.front quiet);
-      quiet = quiet;
-      lent = tested_range p.state _ _ 0 0 c.lend_lot.result c.in_ok-test_block.ensures.tested.0 (ap (option_map header_of) q.1) f.same w.2
-          (λ a is. (is.0, is.1, q.1 ∙ ap Some is.2, is.3, is.4, e ∙ ap (λ h. with_blocks p (h p.blocks)) is.5));
-      refused = on_err_weaker c.lend_lot.result (λ g. e ∙ ap (λ h. with_blocks p (h p.blocks)) g) w.3;
+    let seat = c.self.inside.seat in let mid = c.test_block.new.seat in let last = c.lend_lot.new.seat in
+    let q = c.in_ok-test_block.ensures.tested.1 in let same = c.in_ok-test_block.ensures.same in let at = ap (λ h. value_at c.args.r h.lots) same.0 ∙ q.1 in
+    let tests = (lent g.F.FnMut c.args.f.now c.lend_lot.new.f c.lend_lot.result mid last c.args.r (now_is seat mid same.0 c.self.invariant) at (c.lend_lot.ensures.lent q.0 at)
+    (on_err_weaker c.lend_lot.result (λ e. e.0) c.lend_lot.ensures.refused)).1 in
+    subst (λ z. LendsMut g.F.FnMut z.state c.args.r c.args.f.now c.lend_lot.new.f z (record { seat = last; list = c.self.inside.list.items; state = c.self.inside.state }) c.lend_lot.result)
+    c.self.view_is (record {
+      lent = tested_range c.self.inside.state seat c.args.r 0 0 c.lend_lot.result c.in_ok-test_block.ensures.tested.0 q.1 tests
+          (λ a h. (
+            h.0,
+            bytes_in (content_of h.1.body),
+            h.1,
+            ap (option_map item_of) q.1 ∙ ap (λ x. Some x) h.2,
+            h.3,
+            sym (ap (λ x. x.len) h.4)
+                ∙ h.5,
+            h.4,
+            becomes seat last _ _ (acts_then (λ p. []) (put c.args.r h.1) seat mid last same (acts_none (put c.args.r h.1 mid.lots) mid last h.6)) refl refl,
+          ));
+      refused = on_err_weaker c.lend_lot.result (λ e. becomes seat last _ _ (subst (λ h. Acts [] seat.lots seat h) (sym e.0) same) refl refl) c.lend_lot.ensures.refused;
       uncalled = on_err_weaker c.lend_lot.result (λ e. e.1) c.lend_lot.ensures.refused;
-    }
-
-pub returns-in_err-test_block : goal.returns-in_err-test_block
-returns-in_err-test_block g c =
-    let old = c.args.self.now in let mid = c.test_block.new.self in let same = c.in_err-test_block.ensures.same in
-    record { place = stays_same old mid same; quiet = same.1; lent = search rules; refused = search rules; uncalled = search rules }
+    })
