@@ -20,10 +20,8 @@ module _ {V : Type 0} (old new : V) (front : V → FrontOf VaultOf) (parts : Par
   abbrev changes : V → V → ℕ → VaultOf → VaultOf → Type 0
   changes x y = Leaves parts (front x) (front y)
 
-  pub lacks : (e : Refused) → IsNoPair changes old new a (2 * END_BYTES) full parts.size e → IsNoChannel parts same full a e × AsksVault parts a (2 * END_BYTES) (front old) (front new) e
-  lacks refused.NoSpace h = ⊎_elim
-      (λ (s : (parts.size < 2 * END_BYTES) × (new ≡ old)). (inl s.0, inl (s.0, ap front s.1)))
-      (λ (r : IsRefusedAt changes old new a (2 * END_BYTES) arena.NoSpace). (inr (r.0, r.1.0, r.2, r.3), inr r)) h
+  pub lacks : (e : Refused) → IsNoPair changes old new a (2 * END_BYTES) full e → IsNoChannel parts same full a e × AsksVault parts a (2 * END_BYTES) (front old) (front new) e
+  lacks refused.NoSpace h = ((h.0, h.1.0, h.2, h.3), inr h)
   lacks refused.NoRecord h = (h.1, ap front h.0)
   lacks refused.Worn h = ((h.0, h.1.0, h.2, h.3), h)
   lacks e h = absurd h

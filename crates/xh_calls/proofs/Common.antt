@@ -8,7 +8,7 @@ pub use Rattle.std.specs.{Prelude.option_map, Vec.Iter.into_iter_items, Vec.Iter
 pub use Rattle.xh_arena.specs.{Views.AreLots, Views.LotOf, Views.TallyOf, Views.VaultOf}
 pub use Rattle.xh_calls.specs.{Parts.IsNew, Parts.IsOpen, Parts.IsVaultOf, Parts.PartsOf, Parts.vault_names, Places.status_at, Several.AnswersAt, Several.FindNone, Several.HaveNone}
 pub use Rattle.xh_calls.specs.{Several.peer_closed, Several.each_end, Several.several_tests, Tallies.fresh_tally, Vaults.EndsIn, Vaults.Enters, Vaults.IsKeptVault}
-pub use Rattle.xh_calls.specs.{Vaults.IsRefusedBy, Vaults.Leaves, Wires.ClosesAgain, Wires.HasLow, Wires.ReceivesOr, Wires.toward_high, inner.Looking.AreEndsOf}
+pub use Rattle.xh_calls.specs.{Vaults.IsRefusedBy, Vaults.Leaves, Wires.ClosesAgain, Wires.HasLow, Wires.ReceivesOr, Wires.toward_high, inner.Looking.AreEnds}
 pub use Rattle.xh_calls.specs.{inner.Looking.AreReady, inner.Looking.HaveLooked, inner.Making.AreBundles, inner.Making.AreFreshTallies, inner.Making.AreMakings}
 pub use Rattle.xh_calls.specs.{inner.Making.IsBundle}
 pub use Rattle.xh_channel.specs.{Endpoint.EndpointOf}
@@ -21,7 +21,7 @@ pub use Rattle.xh_history.specs.{Histories.FrontOf, Histories.HasSeen, Histories
 pub use Rattle.xh_model.specs.{declared.limits.TheConstants.END_BYTES, declared.limits.TheConstants.MAX_RECORDS}
 pub use Rattle.xh_place.proofs.{Counted.none_back, Events.stays_itself, Seeing.did_starts}
 pub use Rattle.xh_place.specs.{Bodies.Content, Bodies.IsEndAt, Bodies.bytes, Bodies.endpoint, Bodies.fits_in, Bodies.kind_of, Calls.Closes, Calls.IsLack}
-pub use Rattle.xh_place.specs.{Calls.SpaceOf, Ending.HasGivenBack, Ending.IsClosed, Ends.Accepts, Ends.EndDoes, Ends.RefusedOr}
-pub use Rattle.xh_place.specs.{Messages.IsUntaken, Messages.TakesAt, Places.alone, Places.AreBlocks, Places.FitsLength, Places.Item, Places.PlaceOf}
-pub use Rattle.xh_place.specs.{Places.found, Places.header_of, Seen.Becomes, Seen.FindsFull, Seen.IsSamePlace, Seen.IsSeen, Seen.PlaceSeen, Seen.Stays}
+pub use Rattle.xh_place.specs.{Calls.SpaceOf, Ending.HasGivenBack, Ending.IsClosed, Endpoints.EndDoes, Ends.Accepts, Ends.RefusedOr}
+pub use Rattle.xh_place.specs.{Messages.IsUntaken, Messages.TakesAt, Places.PlaceSeen}
+pub use Rattle.xh_place.specs.{Places.found, Places.header_of, Seen.Becomes, Seen.FindsFull, Seen.IsSamePlace, Seen.IsSeen, Seen.Stays}
 pub use Rattle.xh_place.specs.{Tallies.gave, Tallies.ids_of, declared.body.Body.Body}

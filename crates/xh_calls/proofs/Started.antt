@@ -1,16 +1,15 @@
 -- A call whose first tests refused: it did nothing. And a start, which does nothing to records.
-use Rattle.xh_calls.proofs.Common.{Becomes, Block, Err, List, Ok, OnErr, PlaceSeen, RefusedOr, Refused, Result, Some, SpaceOf, Status, Tests, [], alloc_tests, ap, arith}
-use Rattle.xh_calls.proofs.Common.{first_append, first_refusal, length, start, stays_itself, ℕ, ◌++◌, ◌≡◌, ◌≤◌}
-use Rattle.xh_place.proofs.Events.{lets_none}
-use Rattle.xh_place.proofs.Seeing.{did_none}
+use Rattle.xh_calls.proofs.Common.{Block, Err, List, Ok, OnErr, PlaceSeen, RefusedOr, Refused, Result, Some, SpaceOf, Stays, Status, Tests, [], alloc_tests, ap, arith}
+use Rattle.xh_calls.proofs.Common.{first_append, first_refusal, refl, start, subst, sym, stays_itself, ℕ, ◌++◌, ◌≡◌}
+use Rattle.xh_place.proofs.Events.{acts_itself}
 use Rattle.xh_place.specs.Calls.{Makes}
 use Rattle.xh_place.specs.Places.{started}
-use Rattle.xh_place.specs.Seen.{LetsGo}
+use Rattle.xh_place.specs.Seen.{LeavesIt}
 
 -- it claimed nothing
-pub unclaimed : {A : Type 0} (result : Result A Refused) (also : List ℕ → Type 0) (arena : ℕ) (p : PlaceSeen) → also [] → OnErr result (LetsGo also arena p p)
-unclaimed (Ok a) also arena p h = tt
-unclaimed (Err e) also arena p h = lets_none also arena p p h (stays_itself p)
+pub unclaimed : {A : Type 0} (result : Result A Refused) (most arena : ℕ) (p : PlaceSeen) → OnErr result (LeavesIt most arena p p)
+unclaimed (Ok a) most arena p = tt
+unclaimed (Err e) most arena p = (([], omega arith, (λ r a. absurd a), acts_itself p.seat), refl, refl)
 
 -- and answers the first of them that does, whatever more are behind
 module _ {A : Type 0} (first more : Tests) (result : Result A Refused) (e : Refused) (refuses : first_refusal first ≡ Some e) (is : result ≡ Err e) where
@@ -24,10 +23,10 @@ module _ (status : Status) where
   unmade space n xs arena p result e refuses is = record {
     made = rw is tt;
     block = rw is tt;
-    refused = unclaimed result (λ cs. length cs ≤ 1) arena p (omega arith);
+    refused = unclaimed result 1 arena p;
     why = stopped_first (start status) (alloc_tests arena space.arenas n space.size) result e refuses is _ (stays_itself p);
   }
 
 -- the place's next process runs
-pub starts : (old new : PlaceSeen) → new ≡ record old { place = started old.place } → Becomes (started old.place) [] old new
-starts old new e = (ap (λ (p : PlaceSeen). p.place) e, did_none old.place.process old.front new.front (ap (λ (p : PlaceSeen). p.front) e))
+pub starts : (old new : PlaceSeen) → new ≡ started old → Stays (started old) new
+starts old new e = subst (Stays (started old)) (sym e) (stays_itself (started old))

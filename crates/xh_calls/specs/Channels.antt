@@ -12,7 +12,8 @@ use Rattle.xh_model.specs.declared.limits.TheConstants.{END_BYTES}
 use Rattle.xh_model.specs.declared.row.Row.{Row}
 use Rattle.xh_model.specs.Rows.{row_at}
 use Rattle.xh_place.specs.Ends.{HasBoth, IsEndIn}
-use Rattle.xh_place.specs.Seen.{FindsFull, LetsGo, PlaceSeen, Stays}
+use Rattle.xh_place.specs.Places.{PlaceSeen}
+use Rattle.xh_place.specs.Seen.{FindsFull, LeavesIt, Stays}
 use Rattle.xh_calls.specs.Calls.{space_of}
 use Rattle.xh_calls.specs.Parts.{PartsOf}
 use Rattle.xh_calls.specs.Places.{status_at}
@@ -24,7 +25,7 @@ abbrev pub IsNoChannel : PartsOf → Type 0 → Type 0 → ℕ → Refused → T
 IsNoChannel parts same full a NoChannel = same
 IsNoChannel parts same full a OutOfMemory = (parts.comes_back ≡ true) × same
 IsNoChannel parts same full a NoRecord = full
-IsNoChannel parts same full a NoSpace = (parts.size < 2 * END_BYTES) ⊎ (space_of parts).refuses a (2 * END_BYTES) arena.NoSpace
+IsNoChannel parts same full a NoSpace = (space_of parts).refuses a (2 * END_BYTES) arena.NoSpace
 IsNoChannel parts same full a Worn = (space_of parts).refuses a (2 * END_BYTES) arena.Worn
 IsNoChannel parts same full a _ = ⊥
 
@@ -39,6 +40,6 @@ GoesBy (Some rows) end = (end.contract ≡ Some rows) × (end.state ≡ (row_at 
 pub record OpensChannel (parts : PartsOf) (p arena : ℕ) (contract : Option (List Row)) (old new : PlaceSeen) (result : Result (Block × Block) Refused) : Type 0 where
   pub opened : IfOk result (λ ends. (low : EndpointOf) × (high : EndpointOf) × IsPair low high × (low.depth ≡ parts.depth) × GoesBy contract low × HasBoth low high ends old new)
   pub blocks : IfOk result (λ ends. IsEndIn arena ends.0 × IsEndIn arena ends.1)
-  pub refused : OnErr result (LetsGo (λ claims. length claims ≤ 2) arena old new)
-  pub why : MatchOption (first_refusal (start (status_at p old.place) ++ arena_tests arena (length parts.records.shape.names)))
-      (IfErr result (IsNoChannel parts (Stays old new) (FindsFull 1 old new arena) arena)) (λ refused. (result ≡ Err refused) × Stays old new)
+  pub refused : OnErr result (LeavesIt 2 arena old new)
+  pub why : MatchOption (first_refusal (start (status_at p old) ++ arena_tests arena (length parts.records.shape.names)))
+      (IfErr result (IsNoChannel parts (Stays old new) (FindsFull 1 old.seat new.seat arena) arena)) (λ refused. (result ≡ Err refused) × Stays old new)

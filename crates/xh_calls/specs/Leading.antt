@@ -2,7 +2,7 @@
 use Rattle.std.specs.Prelude.{ℕ}
 use Rattle.xh_calls.specs.declared.call.Entry.{Entry}
 use Rattle.xh_history.specs.Histories.{History}
-use Rattle.xh_place.specs.Seen.{PlaceSeen}
+use Rattle.xh_place.specs.Places.{PlaceSeen}
 
 abbrev pub Leading : Type 1
 Leading = ℕ → History Entry → PlaceSeen → Type 0

@@ -7,10 +7,11 @@ use Rattle.xh_core.specs.declared.status.Status.TheVariants.{Ended}
 use Rattle.xh_core.specs.Statuses.{status_of}
 use Rattle.xh_model.specs.Words.{generation_of}
 use Rattle.xh_place.specs.Ending.{HasGivenBack}
-use Rattle.xh_place.specs.Places.{IsPlaceOf, PlaceOf}
-use Rattle.xh_place.specs.Seen.{PlaceSeen, Stays}
+use Rattle.xh_place.specs.Places.{PlaceSeen}
+use Rattle.xh_place.specs.Seen.{Stays}
 use Rattle.xh_place.specs.Tallies.{ids_of}
 use Rattle.xh_records.specs.History.{StartsWith}
+use Rattle.xh_records.specs.Seats.{IsSeatOf}
 use Rattle.xh_calls.specs.declared.heap.Till.{Till}
 use Rattle.xh_calls.specs.Parts.{PartsOf}
 use Rattle.xh_calls.specs.Vaults.{EntersSome}
@@ -33,12 +34,12 @@ TalliesBecome does old new result = MatchResult result (λ a. new.tallies.items 
 
 -- the place's words were looked at, and then this was done
 abbrev pub AfterLooks : PlaceSeen → PlaceSeen → (PlaceSeen → Type 0) → Type 0
-AfterLooks old new does = (from : PlaceSeen) × Stays old from × StartsWith new.front from.front × does from
+AfterLooks old new does = (from : PlaceSeen) × Stays old from × StartsWith new.seat.front from.seat.front × does from
 
 -- the place is of these parts, and so is the till
-abbrev pub IsServed : PartsOf → PlaceOf → Till → Type 0
-IsServed parts p t = IsPlaceOf parts.records p × IsTillOf parts t
+abbrev pub IsServed : PartsOf → PlaceSeen → Till → Type 0
+IsServed parts p t = IsSeatOf parts.records p.seat × IsTillOf parts t
 
 -- how far the process of this number has come, of which the place knows its latest alone: Vacant where there is no such process yet
-abbrev pub status_at : ℕ → PlaceOf → Status
-status_at process p = status_of process (generation_of p.process) (cond (p.process == process) p.state Ended)
+abbrev pub status_at : ℕ → PlaceSeen → Status
+status_at process p = status_of process (generation_of p.seat.process) (cond (p.seat.process == process) p.state Ended)

@@ -15,6 +15,7 @@ use crate::kept::Kept;
 use crate::names::Names;
 use crossbeam_utils::CachePadded;
 use std::alloc::{AllocError, Global};
+use std::hint;
 use std::sync::{Mutex, MutexGuard, Wait};
 use xh_arena::{Lot, Refused, Vault};
 use xh_core::ArenaLine;
@@ -34,6 +35,9 @@ pub fn vault_line(vault: &Vault) -> ArenaLine
         back: taken - u64::from(out),
     }
 }
+
+// How often an arena's lock is tried before a call sleeps for it.
+const TRIES: u16 = 30;
 
 /// One lock for each arena, on cache lines of its own, how many bytes each arena has, and the histories of the arenas.
 #[derive(Drop)]
@@ -83,12 +87,22 @@ impl<N: Names> Arenas<N> {
         self.locks.len() as u8
     }
 
-    // What lies behind the lock of the arena, which knows its number.
+    // What lies behind the lock of the arena, which knows its number. It is tried for a while first: others have it for some hundred
+    // nanoseconds, and whoever once waits for it by `lock` leaves it so that each unlock calls the system.
     #[inline(always)]
     fn kept<R: Wait>(&self, rt: &R, arena: u8) -> MutexGuard<'_, Kept<N>>
         requires { (id : TableId) × (slice_get N.parts.records.shape.names arena ≡ Some id) }
         ensures { (mutex_guard_value result).pen.number ≡ arena }
     {
+        let lock = &self.locks[usize::from(arena)];
+        for _ in 0..TRIES {
+            if let Some(kept) = lock.try_lock() {
+                if kept.number() == arena {
+                    return kept;
+                }
+            }
+            hint::spin_loop();
+        }
         for _ in rt.forever() {
             let kept = self.locks[usize::from(arena)].lock(rt);
             if kept.number() == arena {

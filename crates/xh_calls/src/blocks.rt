@@ -2,7 +2,7 @@
 ghost use Rattle.std.specs.Prelude.{◌≡◌, ◌/◌, ◌<◌, ◌∷◌, [], IfErr, MatchResult, OnErr, OnOk, length};
 ghost use Rattle.xh_core.specs.Space.{rounded};
 ghost use Rattle.xh_model.specs.declared.limits.TheConstants.{MAX_RECORDS};
-ghost use Rattle.xh_place.specs.Places.{IsPlaceOf};
+ghost use Rattle.xh_records.specs.Seats.{IsSeatOf};
 ghost use Rattle.xh_place.specs.Calls.{Allocates, FreesBlock, Lends, LendsMut, Reads, Splits, Writes};
 ghost use Rattle.xh_place.specs.Seen.{IsSamePlace};
 ghost use Rattle.xh_place.specs.Tallies.{gave, took};
@@ -33,10 +33,10 @@ impl<N: Names> Heap<N> {
         till: &mut Till,
         gate: &G,
     ) -> Result<Block, Refused>
-        requires { IsServed N.parts place.old.place till.old }
+        requires { IsServed N.parts place.old till.old }
         ensures same { IsSamePlace place.old place.new × IsTillOf N.parts till.new }
         ensures tallies { TalliesBecome (λ b. took arena b.len) till.old till.new result }
-        ensures made { Allocates (status_at p place.old.place) (space_of N.parts) n arena place.old place.new result }
+        ensures made { Allocates (status_at p place.old) (space_of N.parts) n arena place.old place.new result }
         ensures asked { OnOk result (Entered (arena ∷ []) till.old.seen till.new.seen) }
         ensures refused { IfErr result (AsksVault N.parts arena (rounded n) till.old.seen till.new.seen) }
     {
@@ -61,11 +61,11 @@ impl<N: Names> Heap<N> {
         till: &mut Till,
         gate: &G,
     ) -> Result<(Block, Block), Refused>
-        requires { IsServed N.parts place.old.place till.old }
+        requires { IsServed N.parts place.old till.old }
         ensures same { IsSamePlace place.old place.new × IsTillOf N.parts till.new }
         ensures tallies { till.new.tallies.items ≡ till.old.tallies.items }
         ensures asked { MatchResult result (λ _. Entered (r / MAX_RECORDS ∷ []) till.old.seen till.new.seen) (λ _. till.new.seen ≡ till.old.seen) }
-        ensures cut { Splits (status_at p place.old.place) r k place.old place.new result }
+        ensures cut { Splits (status_at p place.old) r k place.old place.new result }
     {
         check_number(place, p)?;
         let mut desk = self.lend(rt, till, gate);
@@ -85,8 +85,8 @@ impl<N: Names> Heap<N> {
         at: u32,
         out: &mut [u8],
     ) -> Result<(), Refused>
-        requires { IsPlaceOf N.parts.records place.old.place }
-        ensures read { Reads (status_at p place.old.place) r at out.new place.old place.new result }
+        requires { IsSeatOf N.parts.records place.old.seat }
+        ensures read { Reads (status_at p place.old) r at out.new place.old place.new result }
         ensures refused { OnErr result (out.new ≡ out.old) }
     {
         check_number(place, p)?;
@@ -103,8 +103,8 @@ impl<N: Names> Heap<N> {
         at: u32,
         bytes: &[u8],
     ) -> Result<(), Refused>
-        requires { IsPlaceOf N.parts.records place.old.place }
-        ensures { Writes (status_at p place.old.place) r at bytes.now place.old place.new result }
+        requires { IsSeatOf N.parts.records place.old.seat }
+        ensures { Writes (status_at p place.old) r at bytes.now place.old place.new result }
     {
         check_number(place, p)?;
         place.write(&self.records, r, at, bytes)
@@ -119,9 +119,9 @@ impl<N: Names> Heap<N> {
         r: u16,
         f: &mut F,
     ) -> Result<A, Refused>
-        requires place { IsPlaceOf N.parts.records place.old.place }
+        requires place { IsSeatOf N.parts.records place.old.seat }
         requires callable { F.IsAlwaysCallable f.old }
-        ensures { Lends F.FnMut (status_at p place.old.place) r f.old f.new place.old place.new result }
+        ensures { Lends F.FnMut (status_at p place.old) r f.old f.new place.old place.new result }
     {
         check_number(place, p)?;
         place.with_bytes(&self.records, r, f)
@@ -136,9 +136,9 @@ impl<N: Names> Heap<N> {
         r: u16,
         f: &mut F,
     ) -> Result<A, Refused>
-        requires place { IsPlaceOf N.parts.records place.old.place }
+        requires place { IsSeatOf N.parts.records place.old.seat }
         requires callable { F.IsAlwaysCallable f.old }
-        ensures { LendsMut F.FnMut (status_at p place.old.place) r f.old f.new place.old place.new result }
+        ensures { LendsMut F.FnMut (status_at p place.old) r f.old f.new place.old place.new result }
     {
         check_number(place, p)?;
         place.with_bytes_mut(&self.records, r, f)
@@ -155,12 +155,12 @@ impl<N: Names> Heap<N> {
         till: &mut Till,
         gate: &G,
     ) -> Result<u32, Refused>
-        requires { IsServed N.parts place.old.place till.old }
+        requires { IsServed N.parts place.old till.old }
         ensures same { IsSamePlace place.old place.new × IsTillOf N.parts till.new }
         ensures tallies { TalliesBecome (gave (r / MAX_RECORDS)) till.old till.new result }
         ensures asked { MatchResult result (λ _. Entered (r / MAX_RECORDS ∷ []) till.old.seen till.new.seen) (λ _. till.new.seen ≡ till.old.seen) }
         ensures arena { OnOk result (r / MAX_RECORDS < length N.parts.records.shape.names) }
-        ensures freed { FreesBlock (status_at p place.old.place) r place.old place.new result }
+        ensures freed { FreesBlock (status_at p place.old) r place.old place.new result }
     {
         check_number(place, p)?;
         let mut desk = self.lend(rt, till, gate);

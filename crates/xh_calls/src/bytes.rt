@@ -29,10 +29,10 @@ impl<N: Names> Heap<N> {
         till: &mut Till,
         gate: &G,
     ) -> Result<Block, Refused>
-        requires { IsServed N.parts place.old.place till.old }
+        requires { IsServed N.parts place.old till.old }
         ensures same { IsSamePlace place.old place.new × IsTillOf N.parts till.new }
         ensures tallies { TalliesBecome (λ b. took arena b.len) till.old till.new result }
-        ensures made { Makes (status_at p place.old.place) (space_of N.parts) (length bytes.old.items) bytes.old.items arena place.old place.new result }
+        ensures made { Makes (status_at p place.old) (space_of N.parts) (length bytes.old.items) bytes.old.items arena place.old place.new result }
         ensures bytes { MatchResult result (λ _. bytes.new.items ≡ []) (λ _. bytes.new.items ≡ bytes.old.items) }
         ensures asked { OnOk result (Entered (arena ∷ []) till.old.seen till.new.seen) }
         ensures refused { IfErr result (AsksVault N.parts arena (rounded (length bytes.old.items)) till.old.seen till.new.seen) }
@@ -56,12 +56,12 @@ impl<N: Names> Heap<N> {
         till: &mut Till,
         gate: &G,
     ) -> Result<Vec<u8>, Refused>
-        requires { IsServed N.parts place.old.place till.old }
+        requires { IsServed N.parts place.old till.old }
         ensures same { IsSamePlace place.old place.new × IsTillOf N.parts till.new }
         ensures tallies { TalliesBecome (λ v. gave (r / MAX_RECORDS) (length v.items)) till.old till.new result }
         ensures arena { OnOk result (r / MAX_RECORDS < length N.parts.records.shape.names) }
         ensures asked { MatchResult result (λ _. Entered (r / MAX_RECORDS ∷ []) till.old.seen till.new.seen) (λ _. till.new.seen ≡ till.old.seen) }
-        ensures freed { GivesUp (λ v. HasBytes r place.old.place v.items) (status_at p place.old.place) r place.old place.new result }
+        ensures freed { GivesUp (λ v. HasBytes r place.old.seat v.items) (status_at p place.old) r place.old place.new result }
     {
         check_number(place, p)?;
         let mut desk = self.lend(rt, till, gate);

@@ -7,7 +7,7 @@ ghost use Rattle.xh_core.specs.Calls.{arena_tests, start};
 ghost use Rattle.xh_core.specs.Refusing.{Tested};
 ghost use Rattle.xh_model.specs.declared.limits.TheConstants.{CHANNELS, END_BYTES};
 ghost use Rattle.xh_place.specs.Ends.{AreListed};
-ghost use Rattle.xh_place.specs.Places.{IsPlaceOf};
+ghost use Rattle.xh_records.specs.Seats.{IsSeatOf};
 ghost use Rattle.xh_place.specs.Seen.{IsSamePlace, Stays};
 ghost use Rattle.xh_place.specs.Tallies.{took};
 ghost use Rattle.xh_records.specs.Seats.{IsRecord};
@@ -45,8 +45,8 @@ fn open_channel<N: Names, R: Wait>(
 impl<N: Names> Heap<N> {
     // The tests of an open that come before the channel's.
     fn test_open(&self, place: &Place, p: u16, arena: u32) -> Result<(), Refused>
-        ensures tested { Tested (start (status_at p place.now.place) ++ arena_tests arena (length N.parts.records.shape.names)) result (λ _. Unit {0}) }
-        ensures running { OnOk result (place.now.place.state ≡ status.Running) }
+        ensures tested { Tested (start (status_at p place.now) ++ arena_tests arena (length N.parts.records.shape.names)) result (λ _. Unit {0}) }
+        ensures running { OnOk result (place.now.state ≡ status.Running) }
         ensures there { OnOk result (arena < length N.parts.records.shape.names) }
     {
         check_start(place, p)?;
@@ -68,14 +68,14 @@ impl<N: Names> Heap<N> {
         till: &mut Till,
         gate: &G,
     ) -> Result<(Block, Block), Refused>
-        requires { IsServed N.parts place.old.place till.old }
+        requires { IsServed N.parts place.old till.old }
         ensures same { IsSamePlace place.old place.new × IsTillOf N.parts till.new }
         ensures tallies { TalliesBecome (λ _. took arena (2 * END_BYTES)) till.old till.new result }
         ensures opened { OpensChannel N.parts p arena contract place.old place.new result }
         ensures asked { OnOk result (Entered (arena ∷ arena ∷ []) till.old.seen till.new.seen) }
         ensures refused { IfErr result (AsksVault N.parts arena (2 * END_BYTES) till.old.seen till.new.seen) }
-        ensures running { OnOk result (place.new.place.state ≡ status.Running) }
-        ensures ends { IfOk result (λ ends. (low : EndpointOf) × (high : EndpointOf) × IsPair low high × AreListed low high place.new.place ends) }
+        ensures running { OnOk result (place.new.state ≡ status.Running) }
+        ensures ends { IfOk result (λ ends. (low : EndpointOf) × (high : EndpointOf) × IsPair low high × AreListed low high place.new.seat ends) }
     {
         self.test_open(place, p, arena)?;
         let (low, high) = open_channel(rt, self, contract)?;
@@ -103,7 +103,7 @@ impl<N: Names> Heap<N> {
         till: &mut Till,
         gate: &G,
     ) -> Result<Wired, Refused>
-        requires { IsServed N.parts place.old.place till.old }
+        requires { IsServed N.parts place.old till.old }
         ensures same { IsSamePlace place.old place.new × IsTillOf N.parts till.new }
         ensures tallies { TalliesBecome (λ _. took arena (2 * END_BYTES)) till.old till.new result }
         ensures opened { OpensToward N.parts p arena contract place.old place.new result }
@@ -138,7 +138,7 @@ impl<N: Names> Heap<N> {
         till: &mut Till,
         gate: &G,
     ) -> Result<Block, Refused>
-        requires served { IsServed N.parts place.old.place till.old }
+        requires served { IsServed N.parts place.old till.old }
         requires there { IsRecord N.parts.records.shape r × (channel < CHANNELS) }
         ensures same { IsSamePlace place.old place.new × IsTillOf N.parts till.new }
         ensures received { ComesBack till.old till.new (λ bytes. ReceivesOr q (toward_high channel) r bytes place.old place.new result) }
@@ -153,10 +153,10 @@ impl<N: Names> Heap<N> {
 
     // Whether the record is side 0 of the channel.
     fn has_low(&self, place: &mut Place, r: u16, channel: u8) -> bool
-        requires { IsPlaceOf N.parts.records place.old.place }
+        requires { IsSeatOf N.parts.records place.old.seat }
         ensures same { Stays place.old place.new }
-        ensures yes { result ≡ true → HasLow channel r place.old.place }
-        ensures no { result ≡ false → HasLow channel r place.old.place → ⊥ }
+        ensures yes { result ≡ true → HasLow channel r place.old }
+        ensures no { result ≡ false → HasLow channel r place.old → ⊥ }
     {
         match place.spot(&self.records, r) {
             Some(spot) => spot.channel == channel && spot.side == 0,
@@ -175,7 +175,7 @@ impl<N: Names> Heap<N> {
         till: &mut Till,
         gate: &G,
     )
-        requires { IsServed N.parts place.old.place till.old }
+        requires { IsServed N.parts place.old till.old }
         ensures same { IsSamePlace place.old place.new × IsTillOf N.parts till.new }
         ensures closed { AfterLooks place.old place.new (λ from. ComesBack till.old till.new (ClosesAgain p wired.now.channel wired.now.low.rec from place.new)) }
     {

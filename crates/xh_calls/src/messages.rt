@@ -1,8 +1,8 @@
 //! Messages of a process, and the ends of its endpoints and of itself.
 ghost use Rattle.std.specs.Prelude.{◌≡◌, IfErr};
 ghost use Rattle.xh_place.specs.Calls.{Closes, Stops};
-ghost use Rattle.xh_place.specs.Places.{IsPlaceOf};
-ghost use Rattle.xh_place.specs.Seen.{IsSamePlace};
+ghost use Rattle.xh_records.specs.Seats.{IsSeatOf};
+ghost use Rattle.xh_place.specs.Seen.{IsSamePlace, Stays};
 ghost use Rattle.xh_place.specs.Messages.{Gives, TakesAt};
 ghost use Rattle.xh_calls.specs.Places.{ComesBack, IsServed, IsTillOf, status_at};
 
@@ -26,9 +26,9 @@ impl<N: Names> Heap<N> {
         blocks: &[u16],
         gate: &G,
     ) -> Result<u64, Refused>
-        requires { IsPlaceOf N.parts.records place.old.place }
+        requires { IsSeatOf N.parts.records place.old.seat }
         ensures same { IsSamePlace place.old place.new }
-        ensures given { Gives (status_at p place.old.place) e tag blocks.now place.old place.new result }
+        ensures given { Gives (status_at p place.old) e tag blocks.now place.old place.new result }
     {
         check_number(place, p)?;
         place.give(&self.desk(rt, (), gate), e, tag, blocks)
@@ -44,10 +44,10 @@ impl<N: Names> Heap<N> {
         e: u16,
         gate: &G,
     ) -> Result<Taken, Refused>
-        requires { IsPlaceOf N.parts.records place.old.place }
+        requires { IsSeatOf N.parts.records place.old.seat }
         ensures same { IsSamePlace place.old place.new }
-        ensures taken { TakesAt (status_at p place.old.place) e place.old place.new result }
-        ensures empty { IfErr result (λ why. why ≡ Refused.Empty → place.new.place ≡ place.old.place) }
+        ensures taken { TakesAt (status_at p place.old) e place.old place.new result }
+        ensures empty { IfErr result (λ why. why ≡ Refused.Empty → Stays place.old place.new) }
     {
         check_number(place, p)?;
         place.take(&self.desk(rt, (), gate), e)
@@ -64,9 +64,9 @@ impl<N: Names> Heap<N> {
         till: &mut Till,
         gate: &G,
     ) -> Result<u64, Refused>
-        requires { IsServed N.parts place.old.place till.old }
+        requires { IsServed N.parts place.old till.old }
         ensures same { IsSamePlace place.old place.new × IsTillOf N.parts till.new }
-        ensures closed { ComesBack till.old till.new (λ bytes. Closes (status_at p place.old.place) e bytes place.old place.new result) }
+        ensures closed { ComesBack till.old till.new (λ bytes. Closes (status_at p place.old) e bytes place.old place.new result) }
     {
         check_number(place, p)?;
         let mut desk = self.lend(rt, till, gate);
@@ -87,9 +87,9 @@ impl<N: Names> Heap<N> {
         till: &mut Till,
         gate: &G,
     ) -> Result<u64, Refused>
-        requires { IsServed N.parts place.old.place till.old }
+        requires { IsServed N.parts place.old till.old }
         ensures same { IsSamePlace place.old place.new × IsTillOf N.parts till.new }
-        ensures stopped { ComesBack till.old till.new (λ bytes. Stops (status_at p place.old.place) budget bytes place.old place.new result) }
+        ensures stopped { ComesBack till.old till.new (λ bytes. Stops (status_at p place.old) budget bytes place.old place.new result) }
     {
         check_number(place, p)?;
         let mut desk = self.lend(rt, till, gate);

@@ -1,10 +1,11 @@
 //! A take at any of several endpoints of a process.
 ghost use Rattle.xh_core.specs.declared.refused.Refused.TheVariants as refused;
 ghost use Rattle.xh_core.specs.Refusing.{Tested};
-ghost use Rattle.xh_place.specs.Places.{IsPlaceOf};
+ghost use Rattle.xh_records.specs.Seats.{IsSeatOf};
 ghost use Rattle.xh_place.specs.Seen.{IsSamePlace, Stays};
 ghost use Rattle.xh_calls.specs.Places.{AfterLooks};
-ghost use Rattle.xh_calls.specs.inner.Looking.{AreEndsOf, AreReady};
+ghost use Rattle.xh_calls.specs.inner.Looking.{AreEnds, AreReady};
+ghost use Rattle.xh_place.specs.Places.{found};
 ghost use Rattle.xh_calls.specs.Several.{TakesAny, TakesFirst, each_end, several_tests};
 
 use crate::heap::Heap;
@@ -28,9 +29,9 @@ pub struct AnsweredAt {
 // Each is an endpoint of the process.
 #[tactic(auto, using(xh_place::proofs::Events::stays_itself))]
 fn test_each(records: &Records<Body>, place: &mut Place, ends: &[u16]) -> Result<(), Refused>
-    requires { IsPlaceOf records.now place.old.place }
+    requires { IsSeatOf records.now place.old.seat }
     ensures same { Stays place.old place.new }
-    ensures tested { Tested (each_end place.old.place ends.now) result (λ _. AreEndsOf place.old.place ends.now) }
+    ensures tested { Tested (each_end (found place.old.seat) ends.now) result (λ _. AreEnds (found place.old.seat) ends.now) }
 {
     let Some((e, rest)) = ends.split_first() else {
         return Ok(());
@@ -52,9 +53,9 @@ fn test_several(
     p: u16,
     ends: &[u16],
 ) -> Result<(), Refused>
-    requires { IsPlaceOf records.now place.old.place }
+    requires { IsSeatOf records.now place.old.seat }
     ensures same { Stays place.old place.new }
-    ensures tested { Tested (several_tests p place.old.place ends.now) result (λ _. AreReady p place.old.place ends.now) }
+    ensures tested { Tested (several_tests p place.old ends.now) result (λ _. AreReady p place.old ends.now) }
 {
     check_start(place, p)?;
     if ends.len() > MAX_ENDS {
@@ -77,8 +78,8 @@ impl<N: Names> Heap<N> {
         ends: &[u16],
         gate: &G,
     ) -> Result<AnsweredAt, Refused>
-        requires own { IsPlaceOf N.parts.records place.old.place }
-        requires ready { AreReady p place.old.place ends.now }
+        requires own { IsSeatOf N.parts.records place.old.seat }
+        requires ready { AreReady p place.old ends.now }
         ensures same { IsSamePlace place.old place.new }
         ensures taken { TakesFirst p ends.now place.old place.new result }
     {
@@ -116,7 +117,7 @@ impl<N: Names> Heap<N> {
         ends: &[u16],
         gate: &G,
     ) -> Result<AnsweredAt, Refused>
-        requires { IsPlaceOf N.parts.records place.old.place }
+        requires { IsSeatOf N.parts.records place.old.seat }
         ensures same { IsSamePlace place.old place.new }
         ensures taken { AfterLooks place.old place.new (λ from. TakesAny p ends.now from place.new result) }
     {

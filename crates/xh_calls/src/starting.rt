@@ -4,7 +4,7 @@ ghost use Rattle.xh_core.specs.declared.status.Status.TheVariants as status;
 ghost use Rattle.xh_core.specs.Calls.{start, stop};
 ghost use Rattle.xh_core.specs.Refusing.{Tested, first_refusal};
 ghost use Rattle.xh_model.specs.Words.{place_of};
-ghost use Rattle.xh_place.specs.Places.{IsPlaceOf};
+ghost use Rattle.xh_records.specs.Seats.{IsSeatOf};
 ghost use Rattle.xh_records.specs.History.{StartsWith};
 ghost use Rattle.xh_calls.specs.Calls.{Spawns};
 ghost use Rattle.xh_calls.specs.Places.{status_at};
@@ -17,9 +17,9 @@ use xh_place::Place;
 
 // The process is the place's latest, whose state the place's calls test. NoProcess, and Ended of one before it.
 pub(crate) fn check_number(place: &Place, p: u16) -> Result<(), Refused>
-    ensures latest { OnOk result (status_at p place.now.place ≡ place.now.place.state) }
-    ensures unstarted { IfErr result (λ e. first_refusal (start (status_at p place.now.place)) ≡ Some e) }
-    ensures unstopped { IfErr result (λ e. first_refusal (stop (status_at p place.now.place)) ≡ Some e) }
+    ensures latest { OnOk result (status_at p place.now ≡ place.now.state) }
+    ensures unstarted { IfErr result (λ e. first_refusal (start (status_at p place.now)) ≡ Some e) }
+    ensures unstopped { IfErr result (λ e. first_refusal (stop (status_at p place.now)) ≡ Some e) }
 {
     let latest = place.process();
     if latest == p && p < PROCESSES {
@@ -33,7 +33,7 @@ pub(crate) fn check_number(place: &Place, p: u16) -> Result<(), Refused>
 
 /// The tests of a call by the process: it is the latest of the place, and runs. NoProcess, Ended.
 pub fn check_start(place: &Place, p: u16) -> Result<(), Refused>
-    ensures { Tested (start (status_at p place.now.place)) result (λ _. place.now.place.state ≡ status.Running) }
+    ensures { Tested (start (status_at p place.now)) result (λ _. place.now.state ≡ status.Running) }
 {
     check_number(place, p)?;
     place.state().check_start()
@@ -44,10 +44,10 @@ impl<N: Names> Heap<N> {
     /// was used as often as a place is.
     #[tactic(auto, using(crate::proofs::Started::starts, xh_place::proofs::Events::stays_itself))]
     pub fn spawn(&self, place: &mut Place) -> Option<u16>
-        requires { IsPlaceOf N.parts.records place.old.place }
-        ensures own { IsPlaceOf N.parts.records place.new.place }
-        ensures longer { StartsWith place.new.front place.old.front }
-        ensures same { place_of place.new.place.process ≡ place_of place.old.place.process }
+        requires { IsSeatOf N.parts.records place.old.seat }
+        ensures own { IsSeatOf N.parts.records place.new.seat }
+        ensures longer { StartsWith place.new.seat.front place.old.seat.front }
+        ensures same { place_of place.new.seat.process ≡ place_of place.old.seat.process }
         ensures spawns { Spawns N.parts.generations place.old place.new result }
     {
         let again = place.process() / u16::from(PLACES) + 1 < self.generations;

@@ -3,21 +3,21 @@ use Rattle.std.specs.Prelude.{◌≡◌, ℕ, true, List, [], ◌∷◌, Option,
 use Rattle.xh_core.specs.Calls.{start}
 use Rattle.xh_core.specs.Headers.{has_end}
 use Rattle.xh_core.specs.Refusing.{first_refusal}
+use Rattle.xh_core.specs.declared.header.Header.{Header}
 use Rattle.xh_core.specs.declared.refused.Refused.{Refused}
 use Rattle.xh_calls.specs.declared.several.AnsweredAt.{AnsweredAt}
 use Rattle.xh_calls.specs.Places.{status_at}
 use Rattle.xh_calls.specs.Several.{AnswersAt, FindNone, HaveNone, peer_closed}
-use Rattle.xh_place.specs.Places.{PlaceOf, found}
-use Rattle.xh_place.specs.Seen.{PlaceSeen}
+use Rattle.xh_place.specs.Places.{PlaceSeen, found}
 
--- each is an endpoint of the place
-abbrev pub AreEndsOf : PlaceOf → List ℕ → Type 0
-AreEndsOf place [] = Unit {0}
-AreEndsOf place (e ∷ es) = (has_end (found place e) ≡ true) × AreEndsOf place es
+-- each is an endpoint, by what was found
+abbrev pub AreEnds : (ℕ → Option Header) → List ℕ → Type 0
+AreEnds found [] = Unit {0}
+AreEnds found (e ∷ es) = (has_end (found e) ≡ true) × AreEnds found es
 
--- and its process runs
-abbrev pub AreReady : ℕ → PlaceOf → List ℕ → Type 0
-AreReady p place ends = (first_refusal (start (status_at p place)) ≡ None) × AreEndsOf place ends
+-- each is one of the place, whose process runs
+abbrev pub AreReady : ℕ → PlaceSeen → List ℕ → Type 0
+AreReady p place ends = (first_refusal (start (status_at p place)) ≡ None) × AreEnds (found place.seat) ends
 
 -- the index of the first of those endpoints whose peer is closed, with its answer, or all of them are empty
 abbrev pub HasAnswer : ℕ → List ℕ → PlaceSeen → PlaceSeen → Option (ℕ × Refused) → Type 0

@@ -8,7 +8,7 @@ use Rattle.xh_calls.proofs.heap.Heap.alloc.Goals as goal
 pub returns-in_err-check_number-clause-made : goal.returns-in_err-check_number-clause-made
 returns-in_err-check_number-clause-made g c =
     let place = c.args.place.now in
-    unmade (status_at c.args.p place.place) (space_of g.N.Names.parts) c.args.n [] c.args.arena place c.from_residual.result _ c.in_err-check_number.ensures.unstarted (search rules)
+    unmade (status_at c.args.p place) (space_of g.N.Names.parts) c.args.n [] c.args.arena place c.from_residual.result _ c.in_err-check_number.ensures.unstarted (search rules)
 
 pub returns-clause-refused : goal.returns-clause-refused
 returns-clause-refused g c =

@@ -6,5 +6,5 @@ use Rattle.xh_calls.proofs.heap.Heap.give.Goals as goal
 
 pub returns-in_err-check_number-clause-given : goal.returns-in_err-check_number-clause-given
 returns-in_err-check_number-clause-given g c =
-    let place = c.args.place.now.place in let more = end_tests (found place c.args.e) ++ given_tests (λ r. is_some (value_at r place.blocks)) c.args.e c.args.blocks.now in
+    let place = c.args.place.now in let more = end_tests (found place.seat c.args.e) ++ given_tests (λ r. is_some (value_at r place.seat.lots)) c.args.e c.args.blocks.now in
     stopped_first (start (status_at c.args.p place)) more c.from_residual.result _ c.in_err-check_number.ensures.unstarted (search rules) _ (stays_itself c.args.place.now)

@@ -9,7 +9,7 @@ returns-in_err-test_open-clause-opened g c =
     let place = c.args.place.now in record {
       opened = search rules;
       blocks = search rules;
-      refused = unclaimed c.from_residual.result (λ cs. length cs ≤ 2) c.args.arena place (omega arith);
+      refused = unclaimed c.from_residual.result 2 c.args.arena place;
       why = rw c.in_err-test_open.ensures.tested (search rules, stays_itself place);
     }
 
@@ -18,7 +18,7 @@ returns-in_err-low-clause-opened g c =
     let place = c.args.place.now in let e = c.in_err-low.field-0.0 in let is : c.from_residual-in_err-low.result ≡ Err e = search rules in record {
       opened = search rules;
       blocks = search rules;
-      refused = unclaimed c.from_residual-in_err-low.result (λ cs. length cs ≤ 2) c.args.arena place (omega arith);
+      refused = unclaimed c.from_residual-in_err-low.result 2 c.args.arena place;
       why = rw (c.in_ok-test_open.ensures.tested.0, is) (none_had g.N.Names.parts _ _ c.args.arena e c.in_err-low.ensures.err (stays_itself place));
     }
 
@@ -39,12 +39,12 @@ pub returns-in-Ok-clause-ends : goal.returns-in-Ok-clause-ends
 returns-in-Ok-clause-ends g c = let end = c.in_ok-low in (end.low, end.high, end.ensures.ok.0, c.in-Ok.ensures.opened.4)
 
 pub returns-in-Ok-clause-running : goal.returns-in-Ok-clause-running
-returns-in-Ok-clause-running g c = ap (λ p. p.state) c.in-Ok.ensures.opened.0.0 ∙ c.in_ok-test_open.ensures.running
+returns-in-Ok-clause-running g c = ap (λ p. p.state) c.in-Ok.ensures.opened.0.4.0 ∙ c.in_ok-test_open.ensures.running
 
 pub returns-in-Err-clause-opened : goal.returns-in-Err-clause-opened
 returns-in-Err-clause-opened g c =
-    let place = c.args.place.now in let to = c.open-answer.new in let full = FindsFull 1 place to.self c.args.arena in let test = c.in_ok-test_open.ensures in
-    let passed = passes place.place.state c.args.arena place.place.shape test.running c.requires.0.1 test.there in record {
+    let place = c.args.place.now in let to = c.open-answer.new in let full = FindsFull 1 place.seat to.self.seat c.args.arena in let test = c.in_ok-test_open.ensures in
+    let passed = passes place.state c.args.arena place.seat.shape test.running c.requires.0.1 test.there in record {
       opened = tt;
       blocks = tt;
       refused = c.in-Err.ensures.opened.2;
@@ -54,7 +54,7 @@ returns-in-Err-clause-opened g c =
 
 pub returns-in-Err-clause-refused : goal.returns-in-Err-clause-refused
 returns-in-Err-clause-refused g c =
-    let place = c.args.place.now in let to = c.open-answer.new in let full = FindsFull 1 place to.self c.args.arena in let test = c.in_ok-test_open.ensures in
-    let passed = passes place.place.state c.args.arena place.place.shape test.running c.requires.0.1 test.there in
+    let place = c.args.place.now in let to = c.open-answer.new in let full = FindsFull 1 place.seat to.self.seat c.args.arena in let test = c.in_ok-test_open.ensures in
+    let passed = passes place.state c.args.arena place.seat.shape test.running c.requires.0.1 test.there in
     rw (ap (λ t. t.seen) c.end.ensures.0) (rw (sym (ap (λ t. t.seen) c.lend-desk.ensures.1))
     (lacks c.lend-desk.result.vaults to.desk.vaults (λ l. l.till.seen) g.N.Names.parts c.args.arena (Stays place to.self) full _ (rw passed at c.in-Err.ensures.why)).1)

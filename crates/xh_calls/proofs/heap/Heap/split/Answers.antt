@@ -6,6 +6,6 @@ pub returns-in_err-check_number-clause-cut : goal.returns-in_err-check_number-cl
 returns-in_err-check_number-clause-cut g c =
     let place = c.args.place.now in record {
       cut = search rules;
-      refused = unclaimed c.from_residual.result (λ cs. length cs ≤ 1) (c.args.r / MAX_RECORDS) place (omega arith);
+      refused = unclaimed c.from_residual.result 1 (c.args.r / MAX_RECORDS) place;
       why = let same = stays_itself place in grind (arith, same);
     }
