@@ -1,22 +1,50 @@
 """What ./gate tries of proved programs, and ./test of checked ones: each script, the examples of
-docs/SCRIPT.md, the rows of tools/endings.txt, and the example programs."""
+docs/SCRIPT.md, the rows of tools/endings.txt, and the example programs; and ./xheap, ./prove and
+./test in copies of the repository."""
 from __future__ import annotations
 
 import collections
 import itertools
+import os
 import pathlib
+import re
+import shutil
+import tempfile
 from typing import Any, Callable, Container, Iterator
 
 import judging
 import script_examples
-import wrappers
-from judging import ROOM, claim, claim_same, lines_of, run
+from judging import ROOM, TOP, claim, claim_same, lines_of, run, write
 
 # Where they stand, {} being the name.
 PROVED, CHECKED = "crates/{}/out", ".checked"
 EXAMPLES = "xh_server", "xh_pipeline", "xh_hello"
 # What it is one of in tools/counts.txt, if of anything; a judge and its arguments.
 Check = tuple[Any, ...]
+
+# Copies of the repository: in IN_PROVED ./prove has built the program, in IN_KEPT ./xheap its
+# checked build, in UNPROVED nothing can be kept. There rt is a small one: a proof it takes for done,
+# and a build is the program that stands here.
+KIT, IN_PROVED, IN_KEPT, UNPROVED = (ROOM / it for it in ("kit", "proved", "kept", "unproved"))
+BUILDING = b"xheap: building it unproved, 1 to 4 minutes\n"
+IS_CHECKED = b"xheap: unproved, but checked as it runs; ./prove proves it once for all\n"
+READING = b"xheap: reads a script from the terminal, to its end (Ctrl-D)\n"
+RT = r"""#!/usr/bin/env bash
+program="TOP/crates/${PWD##*/}/out/${PWD##*/}" it="$TMPDIR/rt-try/it"
+case "$1" in
+    run) cp "$program" out ;;
+    try) mkdir -p "$it" && cp "$program" "$it/program" && sleep 0.2 && rm -r "$it" ;;
+esac
+"""
+LEAVES_NONE = r"""#!/usr/bin/env bash
+for it in "${@: -1}"/*; do echo "case=${it##*/} run=ended status=STATUS runners=1" >&2; done
+"""
+# A script that comes slowly, and one that is typed.
+SLOW = '(echo process a; sleep 4; echo a alloc x 40 0) | "$@"'
+TYPED = r"""python3 -c 'import os, pty, subprocess, sys
+ours, its = pty.openpty()
+os.write(ours, b"process a\na alloc x 40 0\n\4")
+sys.exit(subprocess.run(sys.argv[1:], stdin=its).returncode)' "$@" """
 
 
 def program(name: str, where: str = PROVED) -> pathlib.Path:
@@ -89,7 +117,7 @@ def endings(where: str) -> Iterator[Check]:
             how = f'"$@" <"{source}" >"{to}"'
             yield what, judging.ends, program("xheap", where), source, to, status, *wanted, *given
             yield what, judging.ends, "./xheap_picture", source, to, status, *first, *given
-            yield "runs each way", wrappers.answers_each_way, how, *given
+            yield "runs each way", answers_each_way, how, *given
 
 
 def of_script(where: str, script: pathlib.Path) -> Iterator[Check]:
@@ -109,3 +137,127 @@ def of_script(where: str, script: pathlib.Path) -> Iterator[Check]:
     first = itertools.dropwhile(lambda word: not word.startswith("--"), ways[0])
     drawn = "drawn and compared" if judging.picture_of(script) else "drawn"
     yield f"{folder}/: {drawn}", judging.is_drawn, "./xheap_picture", script, *first
+
+
+def ran(program: pathlib.Path, *words: Any, how: str = '"$@"', kit: pathlib.Path = KIT) -> Any:
+    """The answer of a text of bash, in which "$@" is the program with its words."""
+    path = f"PATH={kit}/bin:{os.environ['PATH']}"
+    return run(["env", path, "bash", "-c", how, "-", program, *words])
+
+
+def copied(source: pathlib.Path, copy: pathlib.Path) -> pathlib.Path:
+    shutil.copytree(source, copy, ignore=shutil.ignore_patterns("out", ".checked", ".git"))
+    return copy
+
+
+def make_copies(top: pathlib.Path = TOP) -> None:
+    """The program is the one that stands below top."""
+    write(KIT / "KIT-ID", "a kit\n")
+    write(KIT / "bin/rt", RT.replace("TOP", str(top)))
+    write(copied(TOP, UNPROVED) / ".checked", "no folder\n")
+    copied(TOP, IN_PROVED)
+    answer = ran(IN_PROVED / "prove")
+    claim(answer.status == 0 and b": proved and built, " in answer.err, str(answer))
+    answer = ran(copied(TOP, IN_KEPT) / "xheap", "-V", "-V")
+    claim(answer.err == BUILDING + IS_CHECKED, str(answer))
+
+
+def answers_each_way(how: str, *words: Any) -> None:
+    """As the program does, but that unproved it says so, that it builds, and that it reads a
+    terminal; or nothing, for words of which it has the answer."""
+    status, out, err = ran(TOP / "crates/xheap/out/xheap", *words, how=how)[:3]
+    claim_same(ran(IN_PROVED / "xheap", *words, how=how), (status, out, err))
+    is_told = words in ((b"--help",), (b"-h",), (b"--version",), (b"-V",))
+    said = b"" if is_told or "2>&-" in how else IS_CHECKED + (how == TYPED) * READING
+    claim_same(ran(IN_KEPT / "xheap", *words, how=how), (status, out, said + err))
+    said = bool(said) * BUILDING + said
+    claim_same(ran(UNPROVED / "xheap", *words, how=how), (status, out, said + err))
+
+
+def knows_what_it_runs() -> None:
+    """What was proved stays so in a copy, also where a source is a link, which is seen by 0.1
+    seconds of a processor; but not with a part changed, be it older, or by another kit: then it is
+    built anew, and kept. Without its list nothing is proved, and where rt says nothing there is no
+    answer."""
+    room = pathlib.Path(tempfile.mkdtemp(dir=ROOM))
+    copy, kit, linked = room / "copy", room / "kit", room / "linked.rt"
+    run(["cp", "-r", IN_PROVED, copy])
+    run(["cp", "-r", KIT, kit])
+    source = copy / "crates/xh_core/src/lib.rt"
+    source.rename(linked)
+    source.symlink_to(linked)
+    how = "TIMEFORMAT='%U %S'; time \"$@\""
+    times = [sum(map(float, ran(copy / "xheap", "-V", how=how).err.split())) for _ in range(5)]
+    claim(min(times) <= 0.1, f"seconds: {times}")
+    parts = [copy / "crates.txt", copy / "crates/xheap/out/xheap", kit / "KIT-ID", linked]
+    parts += [next(copy.glob(f"crates/xh_core/{it}/**/*.*t")) for it in ("src", "specs", "proofs")]
+    for part in parts:
+        text = part.read_bytes()
+        for change, wanted in ((b"#", [BUILDING + IS_CHECKED, IS_CHECKED]), (b"", [b""])):
+            part.write_bytes(text + change)
+            os.utime(part, (0, 0))
+            said = [ran(copy / "xheap", "-V", "-V", kit=kit).err for _ in wanted]
+            claim(said == wanted, f"{part} {change!r}: {said}")
+    (copy / "crates.txt").unlink()
+    answer = ran(copy / "prove")
+    claim(answer[:2] == (1, b"") and b"crates.txt" in answer.err, str(answer))
+    answer = ran(copy / "xheap", how='rt() { :; }; export -f rt; "$@"')
+    claim(answer[:2] == (70, b"") and b"\nxheap: no answer: " in answer.err, str(answer))
+
+
+def runs_without_room() -> None:
+    """Where no temporary file can be made the program runs, and ./prove says so."""
+    how = 'TMPDIR=/nothing "$@"'
+    claim_same(ran(IN_PROVED / "xheap", "-V", how=how), (0, b"xheap 1.0\n", b""))
+    answer = ran(IN_PROVED / "prove", how=how)
+    claim(answer.status == 1 and b"no folder can be made in /nothing" in answer.err, str(answer))
+
+
+def proves_once() -> None:
+    """Of two ./prove at once one waits for the other, and finds all proved."""
+    copy = copied(IN_PROVED, ROOM / "twice")
+    answer = ran(copy / "prove", how='"$@" & "$@" && wait "$!"')
+    claim(answer.status == 0 and b"waits for another ./prove" in answer.err, str(answer))
+
+
+def test_tells() -> None:
+    """./test passes a script, and not with another output written of it, and knows its words. By a
+    kit that leaves no program rt try judges the script, by its status here."""
+    copy, kit = copied(IN_PROVED, ROOM / "tested"), ROOM / "kit_that_leaves_none"
+
+    def answers(status: int, text: bytes, word: str = "scarce", by: pathlib.Path = KIT) -> None:
+        answer = ran(copy / "test", word, kit=by)
+        is_so = answer.status == status and re.search(text, answer.out + answer.err)
+        claim(is_so, str(answer))
+
+    answers(0, rb"\ntest: 3 passed, 0 failed\n\Z")
+    answers(2, rb"nothing is called scarcely\n\Z", "scarcely")
+    write(kit / "KIT-ID", "another kit\n")
+    for status in (0, 1):
+        write(kit / "bin/rt", LEAVES_NONE.replace("STATUS", str(status)))
+        answers(status, rb"\ntest: %d passed, %d failed\n\Z" % (2 - status, status), by=kit)
+    with (copy / "examples/scarce.out").open("a") as out:
+        out.write("another\n")
+    answers(1, rb"(?s)\n-another\n.*\ntest: 1 passed, 2 failed\n\Z")
+
+
+def does_not_compile(crate: str, error: str, old: str, new: str) -> None:
+    """With the one text in place of the other the crate's program is refused, for this error of
+    the compiler, before any proof."""
+    main = copied(TOP, ROOM / "compiled") / f"crates/{crate}/src/main.rt"
+    text = main.read_text(encoding="utf-8")
+    claim(text.count(old) == 1, f"{main} has no such text once: {old}")
+    main.write_text(text.replace(old, new), encoding="utf-8")
+    answer = run(["env", "-C", main.parent, "rt", "try"])
+    said = (answer.out + answer.err).decode(errors="replace")
+    claim(answer.status == 1 and error in said, said)
+
+
+def of_wrappers() -> Iterator[Check]:
+    for judge in (knows_what_it_runs, runs_without_room, proves_once, test_tells):
+        yield "", judge
+    for tool in ("prove", "xheap", "test"):
+        yield "", judging.ends_at_once, "rt", UNPROVED / tool
+    for how in (SLOW, TYPED, '"$@" <&-', '"$@" </dev/zero', '"$@" >/dev/full 2>&-'):
+        yield "", answers_each_way, how, "--depth", "2"
+    yield "", answers_each_way, '"$@"', "two  words\nchecked: it", ""

@@ -26,7 +26,6 @@ PROCESSORS = len(os.sched_getaffinity(0))
 ROOM = pathlib.Path(tempfile.gettempdir(), f"judging.{os.urandom(8).hex()}")
 # For so many seconds a program may run, and a tool that proves, builds, or runs many programs.
 LIMIT, LONG = 600, 43_200
-NOBODY, REFUSAL = 65534, b"a growth of memory was refused"
 ENDS = signal.SIGTERM, signal.SIGINT, signal.SIGHUP
 # It sleeps, as does what it starts, one in a session of its own.
 SLEEPER = """#!/usr/bin/env bash
@@ -130,21 +129,26 @@ def wait_for(is_so: Callable[[], object], seconds: int) -> bool:
     return bool(is_so())
 
 
-def ends_at_once(number: int, folder: pathlib.Path, *words: Word) -> None:
-    """Ended by the signal it ends what it began, which is SLEEPER in this folder, and leaves no
-    file."""
-    env, null = {**os.environ, "PATH": f"{folder}:{os.environ['PATH']}"}, subprocess.DEVNULL
-    with tempfile.NamedTemporaryFile("r") as told, tempfile.TemporaryDirectory(prefix="a ") as room:
-        words = "env", "--default-signal", f"TMPDIR={room}", f"STARTED={told.name}", *words
-        with subprocess.Popen(words, env=env, stdin=null, stdout=null, stderr=null) as ran:
-            begun = wait_for(lambda: os.path.getsize(told.name), 60)
+def ends_at_once(stand_in: str, *command: Word) -> None:
+    """Ended by each signal it ends what it began, of which what it calls by this name sleeps, and
+    leaves no file."""
+    kit, null = pathlib.Path(tempfile.mkdtemp(dir=ROOM)), subprocess.DEVNULL
+    write(kit / "KIT-ID", "a kit\n")
+    write(kit / "bin" / stand_in, SLEEPER)
+    path = f"PATH={kit}/bin:{os.environ['PATH']}"
+    for number in ENDS:
+        told, room = kit / f"told_{number}", pathlib.Path(tempfile.mkdtemp(prefix="a ", dir=kit))
+        its = path, f"TMPDIR={room}", f"STARTED={told}"
+        words = "env", "--default-signal", *its, *command
+        with subprocess.Popen(words, stdin=null, stdout=null, stderr=null) as ran:
+            begun = wait_for(lambda: told.exists() and told.read_text(), 60)
             ran.send_signal(number)
             try:
                 status = ran.wait(10)
             finally:
                 ran.kill()
         claim(begun and (status == -number or status > 128), f"{begun}, it ended with {status}")
-        started = [pathlib.Path("/proc", it) for it in told.read().split()]
+        started = [pathlib.Path("/proc", it) for it in told.read_text().split()]
         is_over = wait_for(lambda: not any(it.exists() for it in started), 5)
         claim(is_over and not os.listdir(room), f"it goes on, or files: {os.listdir(room)}")
 
@@ -221,20 +225,6 @@ def refuses_edits(tool: Word, crate: str, count: int) -> None:
     said = (ran.err + ran.out).decode(errors="replace")
     is_so = re.search(rf"^edits: {count} refused, 0 not, \d+ kept\n\Z", said, re.M)
     claim(ran.status == 0 and is_so, f"it ended with {ran.status}: {said}")
-
-
-def does_not_compile(crate: str, error: str, old: str, new: str) -> None:
-    """With the one text in place of the other the crate's program is refused, for this error of
-    the compiler, before any proof. It stands in a copy, which goes with the room."""
-    copy = ROOM / "compiled"
-    shutil.copytree(TOP, copy, ignore=shutil.ignore_patterns("out", ".checked", ".git"))
-    main = copy / f"crates/{crate}/src/main.rt"
-    text = main.read_text(encoding="utf-8")
-    claim(text.count(old) == 1, f"{main} has no such text once: {old}")
-    main.write_text(text.replace(old, new), encoding="utf-8")
-    ran = run(["env", "-C", copy / "crates" / crate, "rt", "try"])
-    said = ran.out + ran.err
-    claim(ran.status == 1 and error.encode() in said, said.decode(errors="replace"))
 
 
 def claim_same(answer: Answer | Ended, wanted: Ended) -> None:
@@ -440,28 +430,22 @@ def threads_of(user: int) -> int:
     return count
 
 
-def run_limited(limit: int, program: str, *words: str) -> subprocess.CompletedProcess[bytes]:
-    """With so many threads at most. Root is refused none, so where this runs as root the program
-    runs as nobody. It is named by its open file, since nobody may not get to its folder."""
-    user, before = os.getuid(), []
-    if user == 0:
-        user = NOBODY
-        before = ["setpriv", f"--reuid={user}", f"--regid={user}", "--clear-groups"]
-    with open(program, "rb") as it:
-        number = it.fileno()
-        before += ["prlimit", f"--nproc={threads_of(user) + limit}", f"/proc/self/fd/{number}"]
-        return subprocess.run([*before, *words], stdin=subprocess.DEVNULL, capture_output=True,
-                              pass_fds=[number], timeout=min(20, LIMIT))
-
-
 def ends_by_process_limit(program: str, *words: str) -> None:
     """At each limit, from one that lets no thread start to one that lets all, it ends in time: it
     is whole, or tells the refusal, with another status than 0 if it is no test. The first run is
-    refused, and the last whole."""
-    refused = []
-    for limit in range(1, 8):
-        ran = run_limited(limit, program, *words)
-        refused.append(REFUSAL in ran.stdout + ran.stderr)
-        is_right = ran.returncode == 0 if words else (ran.returncode != 0) == refused[-1]
-        claim(is_right, f"limit {limit}: {ran}")
+    refused, and the last whole. Root is refused none, so where this runs as root the program runs
+    as nobody. It is named by its open file, since nobody may not get to its folder."""
+    user, by, refused = os.getuid(), list[str](), list[bool]()
+    if user == 0:
+        user = 65534
+        by = ["setpriv", f"--reuid={user}", f"--regid={user}", "--clear-groups"]
+    with open(program, "rb") as it:
+        number = it.fileno()
+        for limit in range(1, 8):
+            limited = ["prlimit", f"--nproc={threads_of(user) + limit}", f"/proc/self/fd/{number}"]
+            ran = subprocess.run([*by, *limited, *words], stdin=subprocess.DEVNULL,
+                                 capture_output=True, pass_fds=[number], timeout=min(20, LIMIT))
+            refused.append(b"a growth of memory was refused" in ran.stdout + ran.stderr)
+            is_right = ran.returncode == 0 if words else (ran.returncode != 0) == refused[-1]
+            claim(is_right, f"limit {limit}: {ran}")
     claim(refused[0] and not refused[-1], f"refused at limits 1, 2, ..: {refused}")

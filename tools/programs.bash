@@ -50,20 +50,15 @@ checked() {
     while [ -e "$it" ]; do sleep 0.05; done
     { end "$build"; wait "$build"; } 2>/dev/null
     if [ -e "$room/program" ]; then
-        keep "$@" 2>/dev/null || program="$room/program"
+        {
+            mkdir -p "${program%/*}" && cp "$room/program" "$program.$$" &&
+                mv "$program.$$" "$program" && note "$1" .checked "$2"
+        } 2>/dev/null || { rm -f "$program.$$" 2>/dev/null; program="$room/program"; }
     else
         cat "$room/said" >&2
         ! grep -q "runners=1" "$room/said" || return 3
         return 1
     fi
-}
-
-# keep NAME SOURCES: what stands in room is from now on the checked program
-keep() {
-    mkdir -p "${program%/*}" && cp "$room/program" "$program.$$" && mv "$program.$$" "$program" &&
-        note "$1" .checked "$2" && return
-    rm -f "$program.$$"
-    return 1
 }
 
 # begin: makes a folder, room, for rt too; it goes with the script, as does all that it started
@@ -83,6 +78,3 @@ end() {
         kill -KILL "$process"
     done
 }
-
-# run COMMAND ..: runs it, and heeds a signal meanwhile at once
-run() { "$@" <&0 & wait "$!"; }
