@@ -1,7 +1,7 @@
 -- A refusal for want of space is that of the arena's vault.
 use Rattle.xh_calls.proofs.Common.{Block, END_BYTES, Err, FrontOf, IfErr, IsRefusedBy, Leaves, MatchOption, None, Ok, PartsOf, Refused, Result, Some}
 use Rattle.xh_calls.proofs.Common.{Bool, IsLack, Status, arith, cond, false, length, start, subst, sym, true, ◌++◌}
-use Rattle.xh_calls.proofs.Common.{VaultOf, ap, first_refusal, inl, inr, ℕ, ⊎_elim, ◌*◌, ◌<◌, ◌≡◌, ◌⊎◌}
+use Rattle.xh_calls.proofs.Common.{VaultOf, ap, first_refusal, inr, ℕ, ⊎_elim, ◌*◌, ◌<◌, ◌≡◌, ◌⊎◌}
 use Rattle.std.proofs.lemmas.Bool.Decides.{nat_tests}
 use Rattle.std.specs.Prelude.{◌≢◌}
 use Rattle.xh_arena.specs.declared.refused.Refused.{Refused as Reason}

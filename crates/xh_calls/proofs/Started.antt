@@ -1,5 +1,5 @@
 -- A call whose first tests refused: it did nothing. And a start, which does nothing to records.
-use Rattle.xh_calls.proofs.Common.{Block, Err, List, Ok, OnErr, PlaceSeen, RefusedOr, Refused, Result, Some, SpaceOf, Stays, Status, Tests, [], alloc_tests, ap, arith}
+use Rattle.xh_calls.proofs.Common.{Block, Err, List, Ok, OnErr, PlaceSeen, RefusedOr, Refused, Result, Some, SpaceOf, Stays, Status, Tests, [], alloc_tests, arith}
 use Rattle.xh_calls.proofs.Common.{first_append, first_refusal, refl, start, subst, sym, stays_itself, ℕ, ◌++◌, ◌≡◌}
 use Rattle.xh_place.proofs.Events.{acts_itself}
 use Rattle.xh_place.specs.Calls.{Makes}

@@ -1,5 +1,5 @@
 -- What a start and a look do to a place, and what the calls of a process find of space. What the other calls of a process do, the relations of xh_place say.
-use Rattle.std.specs.Prelude.{◌≡◌, ℕ, [], true, false, length, Option, Result, MatchOption}
+use Rattle.std.specs.Prelude.{◌≡◌, ℕ, true, false, length, Option, Result, MatchOption}
 use Rattle.xh_arena.specs.Refusals.{RefusesCarve}
 use Rattle.xh_arena.specs.Views.{VaultOf}
 use Rattle.xh_core.specs.Calls.{start}

@@ -1,5 +1,5 @@
 -- What opening a channel does to a place.
-use Rattle.std.specs.Prelude.{◌≡◌, ◌⊎◌, ℕ, ◌*◌, ◌<◌, ◌≤◌, List, ◌++◌, length, Option, None, Some, Result, Err, IfErr, IfOk, MatchOption, OnErr, true}
+use Rattle.std.specs.Prelude.{◌≡◌, ℕ, ◌*◌, List, ◌++◌, length, Option, None, Some, Result, Err, IfErr, IfOk, MatchOption, OnErr, true}
 use Rattle.xh_channel.specs.Pairs.{IsPair}
 use Rattle.xh_channel.specs.Endpoint.{EndpointOf}
 use Rattle.xh_arena.specs.declared.refused.Refused.TheVariants as arena

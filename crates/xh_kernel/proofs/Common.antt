@@ -21,7 +21,7 @@ pub use Rattle.xh_kernel.specs.Did.{DidGive, DidTake, DidTakeAny}
 pub use Rattle.xh_kernel.specs.Finished.{AreInOrder, tallies_of}
 pub use Rattle.xh_kernel.specs.Histories.{Does, Goes, IsHistoryOf, IsLaw, IsUnowned, Leads}
 pub use Rattle.xh_kernel.specs.Kept.{AreKept, IsKeptPlace}
-pub use Rattle.xh_kernel.specs.Places.{IsFound, last_glance, places_of}
+pub use Rattle.xh_kernel.specs.Places.{IsFound, last_glance}
 pub use Rattle.xh_kernel.specs.Waits.{Repeats, no_room}
 pub use Rattle.xh_calls.specs.declared.call.Call.{Call}
 pub use Rattle.xh_calls.specs.declared.call.Entry.{Entry}
@@ -29,8 +29,8 @@ pub use Rattle.xh_calls.specs.declared.call.Call.TheVariants.{Close, CloseAgain,
 pub use Rattle.xh_kernel.specs.inner.Making.{IsFirstSeat}
 pub use Rattle.xh_model.specs.declared.limits.TheConstants.{END_BYTES, PLACES}
 pub use Rattle.xh_place.specs.Ending.{HasGivenBack}
-pub use Rattle.xh_place.specs.Places.{IsPlaceOf, glance_of, total_of}
-pub use Rattle.xh_place.specs.Seen.{IsSamePlace, PlaceSeen, Stays}
+pub use Rattle.xh_place.specs.Places.{PlaceSeen, glance_of, total_of}
+pub use Rattle.xh_place.specs.Seen.{IsSamePlace, Stays}
 pub use Rattle.std.proofs.Math.Logic.{∥∥₁_elim, ∥∥₁_map}
 pub use Rattle.std.specs.Prelude.{Bool, None, Option, cond, option_map, unwrap_or}
 pub use Rattle.xh_core.specs.declared.refused.Refused.{Refused}

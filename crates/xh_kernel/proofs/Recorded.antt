@@ -1,7 +1,17 @@
 -- One more call of a history.
 use Rattle.xh_kernel.proofs.Common.{AccountOf, Call, Does, Entry, Glance, Goes, History, IsFound, IsHistoryOf, IsLaw, Leading, Leads, PartsOf, PlaceSeen, Refused, Repeats}
 use Rattle.xh_kernel.proofs.Common.{Result, Stays, Steps, [], glance_of, stays_again, stays_itself, subst, suc, sym, ℕ, ∥∥₁_elim, ∥∥₁_map, ◌++◌, ◌<◌, ◌∷◌, ◌≡◌}
+use Rattle.xh_kernel.proofs.Common.{Some, length, total_of, true, ◌≤◌}
+use Rattle.xh_arena.specs.Views.{LotOf}
+use Rattle.xh_core.specs.Statuses.{is_over}
+use Rattle.xh_kernel.specs.Places.{IsSoundPlace}
+use Rattle.xh_model.specs.Keyed.{Distinct, value_at}
+use Rattle.xh_model.specs.Words.{generation_of}
+use Rattle.xh_place.specs.Bodies.{fits_in}
+use Rattle.xh_place.specs.Places.{AreBlocks, Lists}
+use Rattle.xh_place.specs.declared.body.Body.{Body}
 use Rattle.xh_records.specs.History.{StartsWith}
+use Rattle.xh_records.specs.Showing.{IsFull}
 
 -- what is more of the place before the last call and after it
 pub so_too : (leads : Leading) (k : ℕ) (h : History Entry) (R S : PlaceSeen → PlaceSeen → Type 0) → ((old new : PlaceSeen) → R old new → S old new) → Steps leads k h R → Steps leads k h S
@@ -28,7 +38,7 @@ module _ (parts : PartsOf) where
 
   -- one more call: the place is what the history leads to
   pub longer : {k n : ℕ} {glance : Glance} {new : PlaceSeen} (h : History Entry) (e : Call) (from : PlaceSeen) → IsHistoryOf parts k h from → n < parts.workers → Does parts e from new
-      → IsFound parts new.place → StartsWith new.front from.front → glance ≡ glance_of new.place → IsHistoryOf parts k (h ++ (n, record { call = e; glance = glance }) ∷ []) new
+      → IsFound parts new → StartsWith new.seat.front from.seat.front → glance ≡ glance_of new → IsHistoryOf parts k (h ++ (n, record { call = e; glance = glance }) ∷ []) new
   longer {k} {n} {glance} {new} h e from was worker does found seen is =
       ∥∥₁_map was (λ l. (l.0, l.1, leads_on l.0 from new h _ l.2 (record { worker = worker; does = does; found = found; seen = seen; glance = is })))
 
@@ -48,3 +58,21 @@ InVain {A} Did IsVain old new = (n : ℕ) × Repeats (λ from to. (vain : Result
 pub in_vain : {A : Type 0} (Did : Result A Refused → AccountOf → AccountOf → Type 0) (IsVain : Result A Refused → Type 0) (answer : Result A Refused) (old mid new : AccountOf)
     → IsVain answer → InVain Did IsVain old mid → Did answer mid new → InVain Did IsVain old new
 in_vain Did IsVain answer old mid new is was now_ = (suc was.0, (mid, was.1, (answer, is, now_)))
+
+-- ---- a place that has seen more
+
+blocks_stay : (old new : PlaceSeen) → Stays old new → AreBlocks old → AreBlocks new
+blocks_stay old new same b = let is = sym same.0 in record {
+  distinct = subst (λ (p : PlaceSeen). Distinct p.list) is b.distinct;
+  lists = subst (λ (p : PlaceSeen). Lists p.seat.lots p.list) is b.lists;
+  whole = subst (λ (p : PlaceSeen). (r : ℕ) (l : LotOf Body) → value_at r p.seat.lots ≡ Some l → IsFull fits_in l) is b.whole;
+  few = subst (λ (p : PlaceSeen). length p.list ≤ 2048) is b.few;
+  sum = subst (λ (p : PlaceSeen). total_of p ≤ 274877906944) is b.sum;
+}
+
+pub sound_stays : (old new : PlaceSeen) → Stays old new → IsSoundPlace old → IsSoundPlace new
+sound_stays old new same s = let is = sym same.0 in record {
+  process = subst (λ (p : PlaceSeen). generation_of p.seat.process < 2047) is s.process;
+  blocks = ∥∥₁_map s.blocks (blocks_stay old new same);
+  none = subst (λ (p : PlaceSeen). is_over p.state ≡ true → length p.list ≡ 0) is s.none;
+}

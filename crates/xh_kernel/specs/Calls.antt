@@ -8,7 +8,7 @@ use Rattle.xh_core.specs.declared.glance.Glance.{Glance}
 use Rattle.xh_history.specs.Histories.{History, at, calls_of}
 use Rattle.xh_kernel.specs.Accounts.{AccountOf}
 use Rattle.xh_kernel.specs.Histories.{IsHistoryOf}
-use Rattle.xh_place.specs.Seen.{PlaceSeen}
+use Rattle.xh_place.specs.Places.{PlaceSeen}
 
 -- the worker of this number made the call on the place k: what it has seen of the place's history is what it had seen, then calls of others, then this one; of the others it has seen what it had
 pub record Noted (k : ℕ) (e : Call) (number : ℕ) (old new : List (History Entry)) : Type 0 where

@@ -12,7 +12,7 @@ use Rattle.xh_place.specs.Calls.{Stops}
 
 abbrev pub Exits : Leading → ℕ → ℕ → AccountOf → AccountOf → Result ℕ Refused → Type 0
 Exits leads p budget old new result = (bytes : ℕ)
-    × Calls leads (place_of p) (call.Stop p budget bytes result) (HasBack bytes) (λ from to. Stops (status_at p from.place) budget bytes from to result) old new
+    × Calls leads (place_of p) (call.Stop p budget bytes result) (HasBack bytes) (λ from to. Stops (status_at p from) budget bytes from to result) old new
 
 -- the worker looked whether the process runs; where it doesn't, the refusal is the answer, and nothing else was done
 abbrev pub LooksFirst : Leading → ℕ → AccountOf → AccountOf → {A : Type 0} → Result A Refused → (AccountOf → Type 0) → Type 0

@@ -6,13 +6,13 @@ use Rattle.xh_calls.specs.Parts.{PartsOf}
 use Rattle.xh_history.specs.Histories.{PenOf}
 use Rattle.xh_kernel.specs.Histories.{IsHistoryOf}
 use Rattle.xh_kernel.specs.Places.{IsFound, IsLastTold}
-use Rattle.xh_place.specs.Seen.{PlaceSeen}
+use Rattle.xh_place.specs.Places.{PlaceSeen}
 
 -- a lawful place of these parts, the pen of its history, and the history
 pub record IsKeptPlace (parts : PartsOf) (p : PlaceSeen) (pen : PenOf Entry) : Type 0 where
-  pub found : IsFound parts p.place
+  pub found : IsFound parts p
   pub own : pen.table ≡ parts.histories
-  pub told : IsLastTold p.place pen
+  pub told : IsLastTold p pen
   pub history : IsHistoryOf parts pen.number pen.history p
 
 -- the same of each place, and the pen beside it

@@ -14,12 +14,12 @@ use Rattle.xh_place.specs.Calls.{HasBytes, Reads, Writes}
 
 -- the worker read the whole block: these are its bytes, and no others
 abbrev pub DidReadAll : Leading → (p r : ℕ) → List ℕ → AccountOf → AccountOf → Type 0
-DidReadAll leads p r xs = Calls leads (place_of p) (call.Read p r 0 xs (Ok tt)) IsStill (λ from to. Reads (status_at p from.place) r 0 xs from to (Ok tt) × HasBytes r to.place xs)
+DidReadAll leads p r xs = Calls leads (place_of p) (call.Read p r 0 xs (Ok tt)) IsStill (λ from to. Reads (status_at p from) r 0 xs from to (Ok tt) × HasBytes r to.seat xs)
 
 -- it wrote the one over the other, which was the whole block
 abbrev pub DidWriteAll : Leading → (p r : ℕ) → List ℕ → List ℕ → AccountOf → AccountOf → Type 0
 DidWriteAll leads p r shown left = Calls leads (place_of p) (call.Write p r 0 left (Ok tt)) IsStill
-    (λ from to. HasBytes r from.place shown × Writes (status_at p from.place) r 0 left from to (Ok tt) × HasBytes r to.place left)
+    (λ from to. HasBytes r from.seat shown × Writes (status_at p from) r 0 left from to (Ok tt) × HasBytes r to.seat left)
 
 -- the worker read the whole block, and one call of the function had these bytes; or the refusal of a read of no bytes
 abbrev pub LendsAll : {F A : Type 0} → Leading → Mut F (Bor (List ℕ) × Unit {0}) A → ℕ → ℕ → F → F → AccountOf → AccountOf → Result A Refused → Type 0

@@ -1,11 +1,10 @@
 //! What lies behind a place's lock.
 ghost use Rattle.std.specs.Prelude.{◌≡◌};
 ghost use Rattle.std.proofs.Props.{props};
-ghost use Rattle.xh_kernel.specs.inner.Lawful.{Distinct-prop, Fits-prop};
 ghost use Rattle.xh_kernel.specs.Histories.{IsHistoryOf};
 ghost use Rattle.xh_kernel.specs.Kept.{IsKeptPlace};
 ghost use Rattle.xh_kernel.specs.Places.{IsSoundPlace, IsLastTold};
-ghost use Rattle.xh_place.specs.Places.{IsPlaceOf};
+ghost use Rattle.xh_records.specs.Seats.{IsSeatOf};
 
 use crate::looking::Waits;
 use crate::scribe::Scribe;
@@ -22,10 +21,10 @@ pub(crate) struct Held<N: Names> {
     pub(crate) scribe: Scribe,
     pub(crate) waits: Waits,
     pub(crate) of: PhantomData<N>,
-    ghost named: { IsPlaceOf N.parts.records place.place },
+    ghost named: { IsSeatOf N.parts.records place.seat },
     ghost own: { scribe.pen.table ≡ N.parts.histories },
-    ghost told: { IsLastTold place.place scribe.pen },
-    ghost lawful: { IsSoundPlace place.place } by { Prim.hlevel (props, Distinct-prop, Fits-prop) },
+    ghost told: { IsLastTold place scribe.pen },
+    ghost lawful: { IsSoundPlace place } by { Prim.hlevel (props) },
     ghost history: { IsHistoryOf N.parts scribe.pen.number scribe.pen.history place },
 }
 

@@ -12,11 +12,10 @@ ghost use Rattle.xh_kernel.specs.Histories.{IsLaw};
 ghost use Rattle.xh_kernel.specs.inner.Making.{AreFirstSeats, ArePens, AreUnseen, IsFirstSeat};
 ghost use Rattle.xh_kernel.specs.Kept.{AreKept};
 ghost use Rattle.xh_kernel.specs.Looks.{HasGlanced};
-ghost use Rattle.xh_kernel.specs.Places.{places_of};
 ghost use Rattle.xh_kernel.specs.Waits.{SpawnsAt};
 ghost use Rattle.xh_model.specs.declared.limits.TheConstants.{MAX_ARENAS, PLACES};
 ghost use Rattle.xh_model.specs.Words.{place_of};
-ghost use Rattle.xh_place.specs.Places.{IsPlaceOf};
+ghost use Rattle.xh_records.specs.Seats.{IsSeatOf};
 
 mod blocks;
 mod bytes;
@@ -145,7 +144,7 @@ fn unlock_places<N: Names>(
     locks: Vec<CachePadded<Mutex<Held<N>>>>,
 ) -> Result<(Vec<Place>, Vec<Pen<Entry>>), AllocError>
     ensures count { IfOk result (λ r. vec_len r.0 ≡ vec_len locks) }
-    ensures named { IfOk result (λ r. All (IsPlaceOf N.parts.records) (places_of r.0.items)) }
+    ensures named { IfOk result (λ r. All (λ p. IsSeatOf N.parts.records p.seat) r.0.items) }
     ensures kept { IfOk result (λ r. AreKept N.parts r.0.items r.1.items) }
 {
     let mut places = Vec::with_capacity(alloc, locks.len())?;
@@ -276,7 +275,7 @@ impl<N: Names> Kernel<N> {
     pub fn settle(self, alloc: Global) -> Result<Settled, Refused>
         ensures vaults { IfOk result (λ s. (vault_names s.vaults.items ≡ N.parts.records.shape.names) × All (IsOpen N.parts) s.vaults.items) }
         ensures few { IfOk result (λ s. vec_len s.vaults ≤ MAX_ARENAS) }
-        ensures places { IfOk result (λ s. All (IsPlaceOf s.records) (places_of s.places.items) × (vec_len s.places ≡ s.records.shape.places)) }
+        ensures places { IfOk result (λ s. All (λ p. IsSeatOf s.records p.seat) s.places.items × (vec_len s.places ≡ s.records.shape.places)) }
         ensures kept { IfOk result (λ s. AreKept N.parts s.places.items s.pens.items) }
         ensures tables { IfOk result (λ s. (s.records ≡ N.parts.records) × (s.histories ≡ N.parts.histories)) }
         ensures refused { IfErr result (λ e. e ≡ Refused.OutOfMemory) }

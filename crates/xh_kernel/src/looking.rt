@@ -9,6 +9,7 @@ ghost use Rattle.xh_kernel.specs.Waits.{no_room};
 ghost use Rattle.xh_model.specs.Words.{place_of};
 ghost use Rattle.xh_model.specs.declared.limits.TheConstants.{PLACES};
 ghost use Rattle.xh_place.specs.Places.{found};
+ghost use Rattle.xh_place.specs.Seen.{Stays};
 
 use crate::account::Account;
 use crate::held::Held;
@@ -68,8 +69,8 @@ impl<N: Names> Held<N> {
 
     // The spot of the endpoint, if the process has it.
     pub(crate) fn spot(&mut self, shared: &Shared<N>, e: u16) -> Option<Spot>
-        ensures same { (self.new.place.place ≡ self.old.place.place) × (self.new.scribe ≡ self.old.scribe) }
-        ensures none { IfNone result (has_end (found self.old.place.place e) ≡ false) }
+        ensures same { Stays self.old.place self.new.place × (self.new.scribe ≡ self.old.scribe) }
+        ensures none { IfNone result (has_end (found self.old.place.seat e) ≡ false) }
     {
         self.place.spot(&shared.heap.records, e)
     }
@@ -88,8 +89,8 @@ impl<N: Names> Held<N> {
     )
         requires { self.old.scribe.pen.number ≡ place_of p }
         ensures call { DidTake N.leads p e answer.new account.old account.new }
-        ensures runs { IfErr answer.new (λ why. why ≡ Refused.Empty → first_refusal (start (status_at p self.old.place.place)) ≡ None) }
-        ensures has { IfErr answer.new (λ why. why ≡ Refused.Empty → has_end (found self.old.place.place e) ≡ true) }
+        ensures runs { IfErr answer.new (λ why. why ≡ Refused.Empty → first_refusal (start (status_at p self.old.place)) ≡ None) }
+        ensures has { IfErr answer.new (λ why. why ≡ Refused.Empty → has_end (found self.old.place.seat e) ≡ true) }
     {
         *answer = shared.heap.take(rt, &mut self.place, p, e, gate);
         let about = (p, e, &*answer);
@@ -106,8 +107,8 @@ impl<N: Names> Held<N> {
         p: u16,
         e: u16,
     ) -> Option<(Spot, u64)>
-        ensures same { (self.new.place.place ≡ self.old.place.place) × (self.new.scribe ≡ self.old.scribe) }
-        ensures none { IfNone result (first_refusal (start (status_at p self.old.place.place)) ≡ None → has_end (found self.old.place.place e) ≡ false) }
+        ensures same { Stays self.old.place self.new.place × (self.new.scribe ≡ self.old.scribe) }
+        ensures none { IfNone result (first_refusal (start (status_at p self.old.place)) ≡ None → has_end (found self.old.place.seat e) ≡ false) }
     {
         check_start(&self.place, p).ok()?;
         self.waits.at = None;
@@ -154,7 +155,7 @@ impl<N: Names> Held<N> {
     ) -> Result<AnsweredAt, Refused>
         requires { self.old.scribe.pen.number ≡ place_of p }
         ensures call { DidTakeAny N.leads p ends.now result account.old account.new }
-        ensures empty { IfErr result (λ why. why ≡ Refused.Empty → first_refusal (start (status_at p self.old.place.place)) ≡ None) }
+        ensures empty { IfErr result (λ why. why ≡ Refused.Empty → first_refusal (start (status_at p self.old.place)) ≡ None) }
     {
         let answer = shared.heap.take_any(rt, &mut self.place, p, ends, gate);
         let about = (p, ends, &answer);
@@ -166,8 +167,8 @@ impl<N: Names> Held<N> {
     // The place listens at each of the endpoints; then the bell is read. Of no endpoints none is waited for, nor by a process
     // that doesn't run.
     fn listen<R: Wait>(&mut self, rt: &R, shared: &Shared<N>, p: u16, ends: &[u16]) -> Option<u64>
-        ensures same { (self.new.place.place ≡ self.old.place.place) × (self.new.scribe ≡ self.old.scribe) }
-        ensures none { IfNone result (first_refusal (start (status_at p self.old.place.place)) ≡ None → ends.now ≡ []) }
+        ensures same { Stays self.old.place self.new.place × (self.new.scribe ≡ self.old.scribe) }
+        ensures none { IfNone result (first_refusal (start (status_at p self.old.place)) ≡ None → ends.now ≡ []) }
     {
         if ends.is_empty() {
             return None;
@@ -234,7 +235,7 @@ impl<N: Names> Held<N> {
 
     // Asks that the next take of what the endpoint put rings the place's bell: the endpoint's spot, if the process has it.
     fn ask<R: Wait>(&mut self, rt: &R, shared: &Shared<N>, p: u16, e: u16) -> Option<Spot>
-        ensures { (self.new.place.place ≡ self.old.place.place) × (self.new.scribe ≡ self.old.scribe) }
+        ensures { Stays self.old.place self.new.place × (self.new.scribe ≡ self.old.scribe) }
     {
         let spot = self.spot(shared, e)?;
         shared.heap.channels.await_room(rt, spot, bell_of(p));

@@ -9,7 +9,8 @@ ghost use Rattle.xh_kernel.specs.Places.{IsSoundPlace, IsLastTold, last_glance};
 ghost use Rattle.xh_kernel.specs.Words.{IsPackable, unpacked};
 ghost use Rattle.xh_model.specs.declared.limits.TheConstants.{GENERATIONS};
 ghost use Rattle.xh_model.specs.Words.{generation_of, place_of};
-ghost use Rattle.xh_place.specs.Places.{AreBlocks, IsPlaceOf, glance_of};
+ghost use Rattle.xh_place.specs.Places.{AreBlocks, glance_of};
+ghost use Rattle.xh_records.specs.Seats.{IsSeatOf};
 
 use crate::shared::Shared;
 use crate::words::pack;
@@ -28,20 +29,20 @@ pub(crate) struct Scribe {
 
 // How many blocks a place has.
 fn count_of(place: &Place) -> u32
-    ensures count { result ≡ length place.now.place.blocks }
+    ensures count { result ≡ length place.now.list }
     ensures few { result < 2 ^ 12 }
-    ensures blocks { AreBlocks place.now.place.blocks }
-    ensures none { is_over place.now.place.state ≡ true → length place.now.place.blocks ≡ 0 }
+    ensures blocks { ∥ AreBlocks place.now ∥₁ }
+    ensures none { is_over place.now.state ≡ true → length place.now.list ≡ 0 }
 {
     place.blocks().len() as u32
 }
 
 // What a look sees of a place.
 fn shown(place: &Place) -> Glance
-    requires { generation_of place.now.place.process < GENERATIONS }
-    ensures shown { result ≡ glance_of place.now.place }
+    requires { generation_of place.now.seat.process < GENERATIONS }
+    ensures shown { result ≡ glance_of place.now }
     ensures bounds { IsPackable result }
-    ensures lawful { IsSoundPlace place.now.place }
+    ensures lawful { IsSoundPlace place.now }
 {
     Glance {
         process: place.process(),
@@ -54,10 +55,10 @@ fn shown(place: &Place) -> Glance
 impl Scribe {
     // The pen of a history of which the last glance is what the place is.
     pub(crate) fn new(pen: Pen<Entry>, place: &Place) -> Scribe
-        requires told { IsLastTold place.now.place pen }
-        requires process { generation_of place.now.place.process < GENERATIONS }
+        requires told { IsLastTold place.now pen }
+        requires process { generation_of place.now.seat.process < GENERATIONS }
         ensures same { result.pen ≡ pen }
-        ensures lawful { IsSoundPlace place.now.place }
+        ensures lawful { IsSoundPlace place.now }
     {
         let last = pack(shown(place));
         Scribe { pen, last }
@@ -78,15 +79,15 @@ impl Scribe {
         ghost call: { Call }
         requires pen { self.old.pen.table ≡ N.parts.histories }
         requires front { (front.old.table ≡ N.parts.histories) × (front.old.number < N.parts.workers) }
-        requires place { IsPlaceOf N.parts.records place.now.place }
-        requires process { (place_of place.now.place.process ≡ self.old.pen.number) × (generation_of place.now.place.process < GENERATIONS) }
+        requires place { IsSeatOf N.parts.records place.now.seat }
+        requires process { (place_of place.now.seat.process ≡ self.old.pen.number) × (generation_of place.now.seat.process < GENERATIONS) }
         requires does { ComesTo N.parts self.old.pen.number self.old.pen.history call place.now }
-        requires same { same ≡ true → IsLastTold place.now.place self.old.pen }
+        requires same { same ≡ true → IsLastTold place.now self.old.pen }
         ensures pen { (self.new.pen.table ≡ N.parts.histories) × (self.new.pen.number ≡ self.old.pen.number) }
-        ensures told { IsLastTold place.now.place self.new.pen }
-        ensures lawful { IsSoundPlace place.now.place }
+        ensures told { IsLastTold place.now self.new.pen }
+        ensures lawful { IsSoundPlace place.now }
         ensures history { IsHistoryOf N.parts self.new.pen.number self.new.pen.history place.now }
-        ensures one_more { self.new.pen.history ≡ self.old.pen.history ++ (front.old.number, record { call = call; glance = glance_of place.now.place }) ∷ [] }
+        ensures one_more { self.new.pen.history ≡ self.old.pen.history ++ (front.old.number, record { call = call; glance = glance_of place.now }) ∷ [] }
         ensures whole { at front.new.fronts self.old.pen.number ≡ self.new.pen.history }
         ensures front { (front.new.table ≡ front.old.table) × (front.new.number ≡ front.old.number) }
         ensures noted { Noted self.old.pen.number call front.old.number front.old.fronts front.new.fronts }

@@ -5,7 +5,6 @@ use Rattle.xh_core.specs.Headers.{has_end}
 use Rattle.xh_core.specs.Refusing.{first_refusal}
 use Rattle.xh_core.specs.declared.header.Header.{Header}
 use Rattle.xh_core.specs.declared.refused.Refused.{Refused}
-use Rattle.xh_calls.specs.declared.several.AnsweredAt.{AnsweredAt}
 use Rattle.xh_calls.specs.Places.{status_at}
 use Rattle.xh_calls.specs.Several.{AnswersAt, FindNone, HaveNone, peer_closed}
 use Rattle.xh_place.specs.Places.{PlaceSeen, found}

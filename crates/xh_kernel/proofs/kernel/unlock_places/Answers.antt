@@ -1,11 +1,12 @@
 use Rattle.std.proofs.lemmas.Slice.Zip.{all_zipped_more}
-use Rattle.xh_kernel.proofs.Common.{All, All-cons, AreKept, Entry, IsPlaceOf, List, PartsOf, PenOf, PlaceSeen, [], arith, places_of, rules, ◌∷◌}
+use Rattle.xh_kernel.proofs.Common.{All, All-cons, AreKept, Entry, List, PartsOf, PenOf, PlaceSeen, [], arith, rules, ◌∷◌}
+use Rattle.xh_records.specs.Seats.{IsSeatOf}
 use Rattle.xh_kernel.proofs.kernel.unlock_places.Goals as goal
 
-kept_named : (parts : PartsOf) (ps : List PlaceSeen) (all : List (PenOf Entry)) → AreKept parts ps all → All (IsPlaceOf parts.records) (places_of ps)
+kept_named : (parts : PartsOf) (ps : List PlaceSeen) (all : List (PenOf Entry)) → AreKept parts ps all → All (λ p. IsSeatOf parts.records p.seat) ps
 kept_named parts [] all are = λ k d below. absurd (omega (arith, below))
 kept_named parts (p ∷ ps) [] are = absurd are
-kept_named parts (p ∷ ps) (pen ∷ all) are = All-cons (IsPlaceOf parts.records) p.place (places_of ps) are.0.found.0 (kept_named parts ps all are.1)
+kept_named parts (p ∷ ps) (pen ∷ all) are = All-cons (λ (q : PlaceSeen). IsSeatOf parts.records q.seat) p ps are.0.found.0 (kept_named parts ps all are.1)
 
 pub loop-lock-preserved : goal.loop-lock-preserved
 loop-lock-preserved g c =

@@ -1,4 +1,4 @@
-use Rattle.xh_calls.proofs.Common.{Err, FindsFull, Stays, [], ap, arith, length, rules, stays_itself, sym, ◌∙◌, ◌∷◌, ◌≡◌, ◌≤◌}
+use Rattle.xh_calls.proofs.Common.{Err, FindsFull, Stays, [], ap, rules, stays_itself, sym, ◌∙◌, ◌∷◌, ◌≡◌}
 use Rattle.xh_calls.proofs.Asking.{lacks, none_had, passes}
 use Rattle.xh_calls.proofs.Moved.{entered}
 use Rattle.xh_calls.proofs.Started.{unclaimed}

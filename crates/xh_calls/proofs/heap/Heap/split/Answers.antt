@@ -1,4 +1,4 @@
-use Rattle.xh_calls.proofs.Common.{MAX_RECORDS, arith, length, rules, stays_itself, ◌/◌, ◌≤◌}
+use Rattle.xh_calls.proofs.Common.{MAX_RECORDS, arith, rules, stays_itself, ◌/◌}
 use Rattle.xh_calls.proofs.Started.{unclaimed}
 use Rattle.xh_calls.proofs.heap.Heap.split.Goals as goal
 

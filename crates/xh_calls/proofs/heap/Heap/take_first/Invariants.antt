@@ -1,4 +1,4 @@
-use Rattle.xh_calls.proofs.Common.{AreReady, HaveLooked, IsSamePlace, drop, take, ◌≡◌}
+use Rattle.xh_calls.proofs.Common.{AreReady, HaveLooked, IsSamePlace, drop, take}
 use Rattle.xh_calls.proofs.heap.Heap.take_first.Given as goal
 
 abbrev pub invariant-loop-at : goal.invariant-loop-at

@@ -6,7 +6,7 @@ use Rattle.xh_kernel.proofs.kernel.Kernel.into_bytes.Goals as goal
 pub note-requires : goal.note-requires
 note-requires g c κs within =
     let held = c.deref_mut-held.result.now in let e = c.into_bytes-answer.ensures in
-    let done = gives_up c.into_bytes-answer.result (λ v. v.items) (HasBytes c.args.r held.place.place) e.freed in
+    let done = gives_up c.into_bytes-answer.result (λ v. v.items) (HasBytes c.args.r held.place.seat) e.freed in
     (search rules, (search (rules, lives, within) depth 24 fits 20000, (search rules, (search rules, (search rules, (search rules, ((held.place, held.history, done, e.same.0.3), search rules)))))))
 
 pub returns : goal.returns

@@ -1,12 +1,13 @@
 use Rattle.xh_kernel.proofs.Common.{AccountOf, IsHistoryOf, lives, place_of, rules, subst, ◌≡◌}
-use Rattle.xh_kernel.proofs.Lent.{did_write, lends_mut}
+use Rattle.xh_kernel.proofs.Lent.{did_write, lends_mut, lent_starts}
 use Rattle.xh_kernel.proofs.kernel.Kernel.with_bytes_mut.Goals as goal
 
 pub note-requires : goal.note-requires
 note-requires g c κs within =
     let held = c.deref_mut-held.result.now in let e = c.with_bytes_mut-answer.ensures in
     let done = did_write g.F.FnMut g.N.Names.parts c.args.p c.args.r c.args.f.now c.with_bytes_mut-answer.new.f held.place c.with_bytes_mut-answer.new.place c.with_bytes_mut-answer.result e in
-    (search rules, (search (rules, lives, within) depth 24 fits 20000, (search rules, (search rules, (search rules, (search rules, ((held.place, held.history, done, e.place.3), search rules)))))))
+    let starts = lent_starts g.F.FnMut g.N.Names.parts c.args.p c.args.r c.args.f.now c.with_bytes_mut-answer.new.f held.place c.with_bytes_mut-answer.new.place c.with_bytes_mut-answer.result e in
+    (search rules, (search (rules, lives, within) depth 24 fits 20000, (search rules, (search rules, (search rules, (search rules, ((held.place, held.history, done, starts), search rules)))))))
 
 pub returns : goal.returns
 returns g c =
