@@ -1,8 +1,9 @@
 -- The lines of what is in flight: what they add up to.
 use Rattle.xh_books.proofs.Common.{All, All-cons, All-filter, All-map, All-nil, All-tail, AreFlightLines, DIRECTIONS, Direction, FlightLine, Holder, IsHolder, IsSomeAnd, List, None, Option}
-use Rattle.xh_books.proofs.Common.{PlaceOf, Process, Some, Stands, [], ap, arith, bytes_in_flight, common_steps, cond, count_by, filter, filter_passes, flight_line, flight_lines, get_or}
+use Rattle.xh_books.proofs.Common.{PlaceSeen, Process, Some, Stands, [], ap, arith, bytes_in_flight, common_steps, cond, count_by, filter, filter_passes, flight_line, flight_lines, get_or}
 use Rattle.xh_books.proofs.Common.{is_listed, is_some, length, list_any_at, ltb-true, map, nat_lt, nat_tests, number_of, picked, range_with_len, refl, slice_get, suc, sum_by, sum_by-cons}
 use Rattle.xh_books.proofs.Common.{sum_add, sum_same, sum_zero, sym, true, value_at, word_of, zip, ℕ, ◌*◌, ◌+◌, ◌<◌, ◌==◌, ◌∙◌, ◌∷◌, ◌≡◌, ◌≤◌}
+use Rattle.xh_books.proofs.Common.{blocks_of}
 use Rattle.std.proofs.lemmas.List.{FromFn.get_or-map-range_with_len, FromFn.get_or-range_with_len, FromFn.length-map-range_with_len, FromFn.length-range_with_len, Kept.AllPairs-filter}
 
 -- ---- what the lines add up to
@@ -64,7 +65,7 @@ there_is None P h = absurd h
 there_is (Some x) P h = (x, refl, h)
 
 -- a record in flight has bytes, and is one of those in no list
-one_flying : (ps : List PlaceOf) (r m : ℕ) (h : Option Holder) → IsHolder h → Stands ps r m h
+one_flying : (ps : List PlaceSeen) (r m : ℕ) (h : Option Holder) → IsHolder h → Stands ps r m h
     → IsFull (word_of h, m) × (sum_by (on (word_of h, m)) (range_with_len 0 DIRECTIONS) ≡ cond (is_listed r ps) 0 m)
 one_flying ps r m None holder is =
     ((λ d e. absurd (omega arith)), sum_same (on (0, m)) (λ d. 0) (range_with_len 0 DIRECTIONS) (λ d. grind (arith, nat_tests)) ∙ sum_zero (range_with_len 0 DIRECTIONS) ∙ rw (is.1, is.0) refl)
@@ -74,11 +75,11 @@ one_flying ps r m (Some (Direction d)) holder is = (
 )
 one_flying ps r m (Some (Process p)) holder is =
     let q = is.1 in
-    let listed : is_listed r ps ≡ true = list_any_at (λ x. is_some (value_at r x.blocks)) ps q.0 q.1 q.2 (ap (λ (x : PlaceOf). is_some (value_at r x.blocks)) q.3
-    ∙ ap is_some (there_is (value_at r q.1.blocks) (λ b. b.len ≡ m) q.4.1).1) in
+    let listed : is_listed r ps ≡ true = list_any_at (λ x. is_some (value_at r (blocks_of x))) ps q.0 q.1 q.2 (ap (λ (x : PlaceSeen). is_some (value_at r (blocks_of x))) q.3
+    ∙ ap is_some (there_is (value_at r (blocks_of q.1)) (λ b. b.len ≡ m) q.4.1).1) in
     ((λ _ _. is.0), sum_same (on (1 + 4 * p, m)) (λ d. 0) (range_with_len 0 DIRECTIONS) (λ d. grind (arith, nat_tests)) ∙ sum_zero (range_with_len 0 DIRECTIONS) ∙ rw listed refl)
 
-pub all_flying : (ps : List PlaceOf) (n k : ℕ) (owners : List (Option Holder)) (lens : List ℕ) → length owners ≡ length lens
+pub all_flying : (ps : List PlaceSeen) (n k : ℕ) (owners : List (Option Holder)) (lens : List ℕ) → length owners ≡ length lens
     → ((i j m : ℕ) (h : Option Holder) → j ≡ k + i → slice_get lens i ≡ Some m → slice_get owners i ≡ Some h → IsHolder h × Stands ps (number_of n j) m h)
     → All IsFull (zip (map word_of owners) lens) × (sum_by (λ r. sum_by (on r) (range_with_len 0 DIRECTIONS)) (zip (map word_of owners) lens) ≡ bytes_in_flight ps n k lens)
 all_flying ps n k [] [] e each = (All-nil IsFull, refl)

@@ -1,16 +1,16 @@
 -- What the lines of a ledger have in common.
-use Rattle.xh_books.proofs.Common.{All, All-cons, All-head, All-nil, All-tail, ArenaLine, IsOpen, List, PLACES, PartsOf, PlaceLine, PlaceOf, Status, Vacant, VaultOf, [], ap}
+use Rattle.xh_books.proofs.Common.{All, All-cons, All-head, All-nil, All-tail, ArenaLine, IsOpen, List, PLACES, PartsOf, PlaceLine, PlaceSeen, Status, Vacant, VaultOf, [], ap}
 use Rattle.xh_books.proofs.Common.{TallyOf, arena_lines, arith, cons_option, length, place_line, line_in, place_lines, refl, suc, vault_names, ℕ, ◌<◌, ◌∷◌, ◌≡◌}
 
 abbrev IsWithin : PlaceLine → Type 0
 IsWithin l = l.place < PLACES
 
-line_within : (s : Status) (p : PlaceOf) (lines : List PlaceLine) → All IsWithin lines → All IsWithin (cons_option (line_in s (place_line p)) lines)
+line_within : (s : Status) (p : PlaceSeen) (lines : List PlaceLine) → All IsWithin lines → All IsWithin (cons_option (line_in s (place_line p)) lines)
 line_within Vacant p lines h = h
 line_within s p lines h = All-cons IsWithin (place_line p) lines (omega arith) h
 
 -- the lines of the places are those of the first 32
-pub lines_within : (places : List PlaceOf) → All (λ l. l.place < PLACES) (place_lines places)
+pub lines_within : (places : List PlaceSeen) → All (λ l. l.place < PLACES) (place_lines places)
 lines_within [] = All-nil IsWithin
 lines_within (p ∷ places) = line_within p.state p (place_lines places) (lines_within places)
 

@@ -9,8 +9,7 @@ use Rattle.xh_history.specs.Histories.{LookOf, PenOf}
 use Rattle.xh_kernel.specs.Accounts.{AccountOf}
 use Rattle.xh_kernel.specs.Finished.{HaveSeen, tallies_of}
 use Rattle.xh_kernel.specs.Kept.{AreKept}
-use Rattle.xh_kernel.specs.Places.{places_of}
-use Rattle.xh_place.specs.Seen.{PlaceSeen}
+use Rattle.xh_place.specs.Places.{PlaceSeen}
 use Rattle.xh_books.specs.Flight.{IsInFlight}
 use Rattle.xh_books.specs.Ledgers.{IsBalanced, all_lengths, arena_lines, bytes_in_flight, bytes_owned, place_lines}
 
@@ -26,9 +25,9 @@ pub record AreClosed (parts : PartsOf) (accounts : List AccountOf) (looks : List
   pub seen : HaveSeen accounts looks pens
   pub open_vaults : (vault_names vaults ≡ parts.records.shape.names) × All (IsOpen parts) vaults
   pub arenas : l.arenas.items ≡ arena_lines (tallies_of accounts) 0 vaults
-  pub lines : l.places.items ≡ place_lines (places_of places)
-  pub owned : l.owned ≡ bytes_owned (places_of places)
-  pub flight : l.flight ≡ bytes_in_flight (places_of places) parts.records.shape.records 0 (all_lengths vaults)
+  pub lines : l.places.items ≡ place_lines places
+  pub owned : l.owned ≡ bytes_owned places
+  pub flight : l.flight ≡ bytes_in_flight places parts.records.shape.records 0 (all_lengths vaults)
   pub balanced : IsBalanced l
   pub in_flight : IsInFlight parts.records.shape places (all_lengths vaults) directions
 

@@ -9,7 +9,7 @@ use Rattle.xh_core.specs.declared.ledger.PlaceLine.{PlaceLine}
 use Rattle.xh_model.specs.Arena.{lengths_of}
 use Rattle.xh_model.specs.Keyed.{value_at}
 use Rattle.xh_model.specs.Words.{number_of}
-use Rattle.xh_place.specs.Places.{PlaceOf, place_line, line_in, total_of}
+use Rattle.xh_place.specs.Places.{Item, PlaceSeen, place_line, line_in, shown, total_of}
 
 -- ---- arenas
 
@@ -28,21 +28,25 @@ all_lengths = flat_map (λ v. lengths_of v.arena)
 -- ---- places
 
 -- the lines of the places, in their order; one that nobody has had has none
-abbrev pub place_lines : List PlaceOf → List PlaceLine
+abbrev pub place_lines : List PlaceSeen → List PlaceLine
 place_lines = filter_map (λ p. line_in p.state (place_line p))
 
 -- the sum of the places' totals
-abbrev pub bytes_owned : List PlaceOf → ℕ
-bytes_owned = sum_by (λ p. total_of p.blocks)
+abbrev pub bytes_owned : List PlaceSeen → ℕ
+bytes_owned = sum_by total_of
+
+-- the blocks of a place's list
+abbrev pub blocks_of : PlaceSeen → List (ℕ × Item)
+blocks_of p = shown p.seat.lots p.list
 
 -- whether the record stands in some place's list
-abbrev pub is_listed : ℕ → List PlaceOf → Bool
-is_listed r = list_any (λ p. is_some (value_at r p.blocks))
+abbrev pub is_listed : ℕ → List PlaceSeen → Bool
+is_listed r = list_any (λ p. is_some (value_at r (blocks_of p)))
 
 -- ---- what is in flight
 
 -- the bytes of the records that stand in no place's list, of these lengths from the index k on, with n records in each arena
-abbrev pub bytes_in_flight : List PlaceOf → ℕ → ℕ → List ℕ → ℕ
+abbrev pub bytes_in_flight : List PlaceSeen → ℕ → ℕ → List ℕ → ℕ
 bytes_in_flight places n k [] = 0
 bytes_in_flight places n k (x ∷ xs) = cond (is_listed (number_of n k) places) 0 x + bytes_in_flight places n (k + 1) xs
 

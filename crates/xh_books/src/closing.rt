@@ -3,9 +3,8 @@ ghost use Rattle.std.specs.Prelude.{◌≡◌, ◌⊎◌, ◌+◌, ◌<◌, ◌�
 ghost use Rattle.std.specs.List.{sum_by};
 ghost use Rattle.xh_calls.specs.Parts.{IsOpen, vault_names};
 ghost use Rattle.xh_kernel.specs.Finished.{tallies_of};
-ghost use Rattle.xh_kernel.specs.Places.{places_of};
 ghost use Rattle.xh_model.specs.declared.limits.TheConstants.{MAX_ARENAS, PLACES};
-ghost use Rattle.xh_place.specs.Places.{IsPlaceOf};
+ghost use Rattle.xh_records.specs.Seats.{IsSeatOf};
 ghost use Rattle.xh_books.specs.Closing.{AreClosed, HasArenasOf};
 ghost use Rattle.xh_core.specs.Flight.{AreFlightLines};
 ghost use Rattle.xh_books.specs.Flight.{IsInFlight};
@@ -48,10 +47,10 @@ fn close_table(
 ) -> Result<Left, Refused>
     requires few { length records.shape.names ≤ MAX_ARENAS }
     requires vaults { (vault_names vaults.old ≡ records.shape.names) × All (λ v. v.arena.records ≡ records.shape.records) vaults.old }
-    requires places { All (IsPlaceOf records) (places_of places.items) × (vec_len places ≡ records.shape.places) }
+    requires places { All (λ p. IsSeatOf records p.seat) places.items × (vec_len places ≡ records.shape.places) }
     ensures flight { IfOk result (λ r. TellFlight records.shape places.items (all_lengths vaults.old) r.0.items) }
-    ensures lines { IfOk result (λ r. r.1.items ≡ place_lines (places_of places.items)) }
-    ensures owned { IfOk result (λ r. sum_by (λ l. l.bytes) r.1.items ≡ bytes_owned (places_of places.items)) }
+    ensures lines { IfOk result (λ r. r.1.items ≡ place_lines places.items) }
+    ensures owned { IfOk result (λ r. sum_by (λ l. l.bytes) r.1.items ≡ bytes_owned places.items) }
     ensures refused { IfErr result (λ e. e ≡ Refused.OutOfMemory) }
 {
     let each = usize::from(records.per_arena());
@@ -106,13 +105,13 @@ pub fn close_books<N: Names>(
 ) -> Result<Books, Refused>
     requires vaults { (vault_names vaults.items ≡ N.parts.records.shape.names) × All (IsOpen N.parts) vaults.items }
     requires few { vec_len vaults ≤ MAX_ARENAS }
-    requires places { All (IsPlaceOf records) (places_of places.items) × (vec_len places ≡ records.shape.places) }
+    requires places { All (λ p. IsSeatOf records p.seat) places.items × (vec_len places ≡ records.shape.places) }
     requires records { records ≡ N.parts.records }
     requires accounts { vec_len accounts ≡ N.parts.workers }
     ensures arenas { IfOk result (λ b. b.ledger.arenas.items ≡ arena_lines (tallies_of accounts.items) 0 vaults.items) }
-    ensures places { IfOk result (λ b. b.ledger.places.items ≡ place_lines (places_of places.items)) }
-    ensures owned { IfOk result (λ b. b.ledger.owned ≡ bytes_owned (places_of places.items)) }
-    ensures flight { IfOk result (λ b. b.ledger.flight ≡ bytes_in_flight (places_of places.items) records.shape.records 0 (all_lengths vaults.items)) }
+    ensures places { IfOk result (λ b. b.ledger.places.items ≡ place_lines places.items) }
+    ensures owned { IfOk result (λ b. b.ledger.owned ≡ bytes_owned places.items) }
+    ensures flight { IfOk result (λ b. b.ledger.flight ≡ bytes_in_flight places.items records.shape.records 0 (all_lengths vaults.items)) }
     ensures balanced { IfOk result (λ b. IsBalanced b.ledger) }
     ensures in_flight { IfOk result (λ b. IsInFlight records.shape places.items (all_lengths vaults.items) b.flight.items) }
     ensures lines { IfOk result (λ b. AreFlightLines b.ledger.flight b.flight.items) }

@@ -1,11 +1,10 @@
 // The lines of a ledger.
-ghost use Rattle.std.specs.Prelude.{◌≡◌, ◌+◌, ◌<◌, ◌≤◌, ◌++◌, [], All, IfOk, length, map, sum, vec_len};
+ghost use Rattle.std.specs.Prelude.{◌≡◌, ◌+◌, ◌<◌, ◌≤◌, ◌++◌, [], All, IfOk, OnOk, length, map, sum, vec_len};
 ghost use Rattle.std.specs.List.{cons_option, sum_by};
 ghost use Rattle.arrayvec.specs.ArrayVec.{array_vec_len};
 ghost use Rattle.xh_model.specs.declared.limits.TheConstants.{MAX_ARENAS, PLACES};
-ghost use Rattle.xh_kernel.specs.Places.{places_of};
 ghost use Rattle.xh_model.specs.Arena.{lengths_of};
-ghost use Rattle.xh_books.specs.inner.Steps.{AreSeats, closed_line};
+ghost use Rattle.xh_books.specs.inner.Steps.{IsListed, closed_line};
 ghost use Rattle.xh_books.specs.Ledgers.{all_lengths, bytes_owned, place_lines};
 
 use arrayvec::ArrayVec;
@@ -59,14 +58,15 @@ pub(crate) fn end_places(
     places: Vec<Place>,
 ) -> Result<(Vec<Seat<Body>>, ArrayVec<PlaceLine, PLACE_LINES>), AllocError>
     requires { vec_len places ≤ PLACES }
-    ensures seats { IfOk result (λ r. AreSeats r.0.items places.items) }
-    ensures lines { IfOk result (λ r. r.1.items ≡ place_lines (places_of places.items)) }
-    ensures owned { IfOk result (λ r. sum_by (λ l. l.bytes) r.1.items ≡ bytes_owned (places_of places.items)) }
+    ensures seats { IfOk result (λ r. r.0.items ≡ map (λ p. p.seat) places.items) }
+    ensures whole { OnOk result (All IsListed places.items) }
+    ensures lines { IfOk result (λ r. r.1.items ≡ place_lines places.items) }
+    ensures owned { IfOk result (λ r. sum_by (λ l. l.bytes) r.1.items ≡ bytes_owned places.items) }
 {
     let mut seats = Vec::with_capacity(alloc, places.len())?;
     let mut lines = ArrayVec::new();
     for place in places {
-        // A look at a place shows that each of its blocks has bytes.
+        // A look at a place shows that each record stands once in its list.
         let _bytes = place.total();
         let (seat, line) = place.end();
         seats.push(seat)?;

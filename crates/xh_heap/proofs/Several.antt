@@ -14,7 +14,8 @@ use Rattle.xh_heap.specs.declared.values.Answered.{Answered}
 use Rattle.xh_heap.specs.declared.values.End.{End}
 use Rattle.xh_kernel.specs.Accounts.{AccountOf}
 use Rattle.xh_kernel.specs.Did.{DidTakeAny}
-use Rattle.xh_place.specs.Seen.{PlaceSeen, Stays}
+use Rattle.xh_place.specs.Places.{PlaceSeen}
+use Rattle.xh_place.specs.Seen.{Stays}
 
 module _ (p : ℕ) (recs : List ℕ) (old new : PlaceSeen) (a : AnsweredAt) where
   at_taken : (o : Option Refused) → MatchOption o (TakesFirst p recs old new (Ok a)) (λ why. (Result.Ok a ≡ Err why) × Stays old new) → a.at < length recs
@@ -27,5 +28,5 @@ module _ (leads : Leading) (p : ℕ) {E : Type 0} (shows : E → End) (ends : Li
   at_of result (Err why) is h = subst (λ r. IfOk r (λ a. a.at < length ends)) (sym is) tt
   at_of result (Ok a) is h =
       let few : length recs ≤ length ends = rw (are, length-map, length-take) (omega arith) in
-      let fits : a.at < length recs = ∥∥₁_elim h.3 le_prop (λ s. at_taken p recs s.2 s.3 a (first_refusal (several_tests p s.2.place recs)) s.7) in
+      let fits : a.at < length recs = ∥∥₁_elim h.3 le_prop (λ s. at_taken p recs s.2 s.3 a (first_refusal (several_tests p s.2 recs)) s.7) in
       subst (λ r. IfOk r (λ a. a.at < length ends)) (sym is) (omega (arith, few, fits))

@@ -1,18 +1,15 @@
 -- What the steps of closing say: taking the accounts in, ending the places, closing the table, auditing.
-use Rattle.std.specs.Prelude.{◌≡◌, ℕ, suc, ◌+◌, ◌/◌, ◌%◌, ◌<◌, List, [], ◌∷◌, All, length, map, slice_get, slice_index, Some, sum}
-use Rattle.std.specs.List.{AllZip, sum_by}
+use Rattle.std.specs.Prelude.{◌≡◌, ℕ, suc, ◌+◌, ◌/◌, ◌%◌, List, [], ◌∷◌, All, length, map, slice_get, slice_index, Some, sum}
+use Rattle.std.specs.List.{sum_by}
 use Rattle.atomic_table.specs.Seated.{TableId}
 use Rattle.xh_arena.specs.Views.{LotOf, Move, TallyOf, VaultOf}
 use Rattle.xh_core.specs.ArenaLines.{arena_line}
 use Rattle.xh_core.specs.declared.flight.FlightLine.{FlightLine}
 use Rattle.xh_core.specs.declared.ledger.ArenaLine.{ArenaLine}
 use Rattle.xh_calls.specs.Parts.{vault_names}
-use Rattle.xh_kernel.specs.Places.{places_of}
-use Rattle.xh_model.specs.Keyed.{value_at}
 use Rattle.xh_place.specs.declared.body.Body.{Body}
-use Rattle.xh_place.specs.Places.{Item, Lists, PlaceOf}
-use Rattle.xh_place.specs.Seen.{PlaceSeen}
-use Rattle.xh_records.specs.Seats.{Held}
+use Rattle.xh_model.specs.Keyed.{Distinct}
+use Rattle.xh_place.specs.Places.{AreWhole, Lists, PlaceSeen}
 use Rattle.xh_records.specs.declared.shape.Shape.{Shape}
 use Rattle.xh_core.specs.Flight.{AreFlightLines}
 use Rattle.xh_books.specs.Flight.{IsInFlight}
@@ -48,15 +45,11 @@ pub record AreGathered (records : ℕ) (all : List (List TallyOf)) (a : ℕ) (ol
 
 -- ---- the places
 
--- the seat that a place gave at its end: the place's blocks are its lots, and each has bytes
-pub record IsSeatOfPlace (x : Held Body) (p : PlaceOf) : Type 0 where
-  pub same : (x.table ≡ p.table) × (x.shape ≡ p.shape) × (x.process ≡ p.process)
-  pub lists : Lists x p.blocks
-  pub whole : (r : ℕ) (b : Item) → value_at r p.blocks ≡ Some b → 0 < b.len
-
--- those of all places, in their order, each of which had seen what its place had
-abbrev pub AreSeats : List (Held Body) → List PlaceSeen → Type 0
-AreSeats = AllZip (λ x p. IsSeatOfPlace x p.place × (x.front ≡ p.front))
+-- each block of its seat stands once in its list, which has no others, and is whole
+pub record IsListed (p : PlaceSeen) : Type 0 where
+  pub distinct : Distinct p.list
+  pub lists : Lists p.seat.lots p.list
+  pub whole : AreWhole p.seat.shape p.seat.lots
 
 -- ---- the table
 
@@ -69,5 +62,5 @@ AreAt n names ls = (k : ℕ) (l : LotOf Body) → slice_get ls k ≡ Some l → 
 
 -- the lines are what is in flight, of records of these lengths, and their sum is that of the lengths of the records in no place's list; the other lengths are those that the places own
 unfoldable pub TellFlight : Shape → List PlaceSeen → List ℕ → List FlightLine → Type 0
-TellFlight s places lens lines = IsInFlight s places lens lines × AreFlightLines (bytes_in_flight (places_of places) s.records 0 lens) lines
-    × (sum lens ≡ bytes_owned (places_of places) + bytes_in_flight (places_of places) s.records 0 lens)
+TellFlight s places lens lines = IsInFlight s places lens lines × AreFlightLines (bytes_in_flight places s.records 0 lens) lines
+    × (sum lens ≡ bytes_owned places + bytes_in_flight places s.records 0 lens)

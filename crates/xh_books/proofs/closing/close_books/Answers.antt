@@ -1,4 +1,4 @@
-use Rattle.xh_books.proofs.Common.{AreFlightLines, ArenaLine, ArrayVec, IsInFlight, List, PlaceLine, TellFlight, all_lengths, ap, arith, bytes_in_flight, closed_line, map, places_of, subst, sum}
+use Rattle.xh_books.proofs.Common.{AreFlightLines, ArenaLine, ArrayVec, IsInFlight, List, PlaceLine, TellFlight, all_lengths, ap, arith, bytes_in_flight, closed_line, map, subst, sum}
 use Rattle.xh_books.proofs.Common.{sum_by, sym, ℕ, ◌∙◌, ◌≡◌}
 use Rattle.xh_books.proofs.closing.close_books.Goals as goal
 
@@ -15,11 +15,11 @@ returns g c =
     let out = arenas.out ∙ ap (λ vs. sum (all_lengths vs)) (c.as_slice.ensures.value ∙ sym c.as_mut_slice.ensures.value) in
     let lens = ap all_lengths c.as_mut_slice.ensures.value ∙ c.gather-vaults.ensures.lengths in
     let own = told.owned in let sums = told.flight.2 in let all = l.all in let a = l.owned in let b = l.out in
-    let flight : c.ledger-ledger.result.flight ≡ bytes_in_flight (places_of c.args.places.items) c.args.records.shape.records 0 (all_lengths c.as_mut_slice.result.now) = omega arith in record {
+    let flight : c.ledger-ledger.result.flight ≡ bytes_in_flight c.args.places.items c.args.records.shape.records 0 (all_lengths c.as_mut_slice.result.now) = omega arith in record {
       arenas = ap (λ (ls : ArrayVec ArenaLine). ls.items) l.lines.0 ∙ arenas.lines ∙ ap (map closed_line) c.as_slice.ensures.value ∙ c.gather-vaults.ensures.lines;
       places = ap (λ (ls : ArrayVec PlaceLine). ls.items) l.lines.1 ∙ told.lines;
       owned = a ∙ own;
-      flight = flight ∙ ap (bytes_in_flight (places_of c.args.places.items) c.args.records.shape.records 0) lens;
+      flight = flight ∙ ap (bytes_in_flight c.args.places.items c.args.records.shape.records 0) lens;
       balanced = record {
         arenas = rw l.lines.0 arenas.balanced;
         owned = a ∙ ap (λ (ls : ArrayVec PlaceLine). sum_by (λ p. p.bytes) ls.items) (sym l.lines.1);

@@ -1,4 +1,4 @@
-use Rattle.xh_books.proofs.Common.{All, ArenaLine, IsInFlight, List, PLACES, PlaceLine, RecordsOf, TallyOf, all_lengths, ap, arena_lines, bytes_in_flight, length, places_of, refl, rules, subst, sym}
+use Rattle.xh_books.proofs.Common.{All, ArenaLine, IsInFlight, List, PLACES, PlaceLine, RecordsOf, TallyOf, all_lengths, ap, arena_lines, bytes_in_flight, length, refl, rules, subst, sym}
 use Rattle.xh_books.proofs.{Common.tallies_of, Common.◌<◌, Common.◌∙◌, Common.◌≡◌, LedgerLines.lines_are_of, LedgerLines.lines_within}
 use Rattle.xh_kernel.proofs.Compared.{kept_own}
 use Rattle.xh_books.proofs.closing.close_kernel.Goals as goal
@@ -25,7 +25,7 @@ returns-in-Ok-close_books-clause-closed g c =
         arenas = closed.arenas ∙ ap (λ (ts : List (List TallyOf)). arena_lines ts 0 s.vaults.items) saw.same;
         lines = closed.places;
         owned = closed.owned;
-        flight = closed.flight ∙ ap (λ (x : RecordsOf). bytes_in_flight (places_of s.places.items) x.shape.records 0 (all_lengths s.vaults.items)) done.tables.0;
+        flight = closed.flight ∙ ap (λ (x : RecordsOf). bytes_in_flight s.places.items x.shape.records 0 (all_lengths s.vaults.items)) done.tables.0;
         balanced = closed.balanced;
         in_flight = subst (λ (x : RecordsOf). IsInFlight x.shape s.places.items (all_lengths s.vaults.items) c.in-Ok-close_books.books.flight.items) done.tables.0 closed.in_flight;
       },
@@ -39,4 +39,4 @@ returns-in-Ok-close_books-clause-arenas g c =
 
 pub returns-in-Ok-close_books-clause-places : goal.returns-in-Ok-close_books-clause-places
 returns-in-Ok-close_books-clause-places g c =
-    subst (λ (ls : List PlaceLine). All (λ l. l.place < PLACES) ls) (sym c.in-Ok-close_books.ensures.places) (lines_within (places_of c.in-Ok-settle.settled.places.items))
+    subst (λ (ls : List PlaceLine). All (λ l. l.place < PLACES) ls) (sym c.in-Ok-close_books.ensures.places) (lines_within c.in-Ok-settle.settled.places.items)
