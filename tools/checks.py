@@ -23,8 +23,8 @@ EXAMPLES = "xh_server", "xh_pipeline", "xh_hello"
 Check = tuple[Any, ...]
 
 # Copies of the repository: in IN_PROVED ./prove has built the program, in IN_KEPT ./xheap its
-# checked build, in UNPROVED nothing can be kept. There rt is a small one: a proof it takes for done,
-# and a build is the program that stands here.
+# checked build, in UNPROVED nothing can be kept. There rt is a small one: a proof it takes for
+# done, and a build is the program that stands here.
 KIT, IN_PROVED, IN_KEPT, UNPROVED = (ROOM / it for it in ("kit", "proved", "kept", "unproved"))
 BUILDING = b"xheap: building it unproved, 1 to 4 minutes\n"
 IS_CHECKED = b"xheap: unproved, but checked as it runs; ./prove proves it once for all\n"
