@@ -248,7 +248,7 @@ def does_not_compile(crate: str, error: str, old: str, new: str) -> None:
     text = main.read_text(encoding="utf-8")
     claim(text.count(old) == 1, f"{main} has no such text once: {old}")
     main.write_text(text.replace(old, new), encoding="utf-8")
-    answer = run(["env", "-C", main.parent, "rt", "try"])
+    answer = run(["env", "-C", main.parents[1], "rt", "try"])
     said = (answer.out + answer.err).decode(errors="replace")
     claim(answer.status == 1 and error in said, said)
 
