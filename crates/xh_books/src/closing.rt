@@ -63,7 +63,8 @@ fn close_table(
     Ok((flight, lines))
 }
 
-// The ledger of these lines.
+// The ledger of these lines. What is in flight is computed by the law that it is what is out and not owned, and
+// proved to be the sum over the records in no list.
 pub(crate) fn ledger(
     arenas: ArrayVec<ArenaLine, ARENA_LINES>,
     places: ArrayVec<PlaceLine, PLACE_LINES>,

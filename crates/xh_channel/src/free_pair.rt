@@ -4,7 +4,8 @@ ghost use Rattle.xh_channel.specs.Pairs.{IsPair};
 
 use crate::channel_end::ChannelEnd;
 
-/// Both ends of a channel whose number is free.
+/// Both ends of a channel whose number is free, without the lock of the free numbers: no type that leads back to
+/// itself may have a ghost field.
 #[derive(Drop)]
 pub struct FreePair {
     pub low: ChannelEnd,

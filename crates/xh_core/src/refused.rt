@@ -133,6 +133,7 @@ fn write_limits<W: fmt::Write>(f: &mut fmt::Formatter<W>) -> fmt::Result {
     )
 }
 
+// By hand: the proof of a derived one takes as long as that of any call.
 impl fmt::Display for Refused {
     fn fmt<W: fmt::Write>(&self, f: &mut fmt::Formatter<W>) -> fmt::Result {
         let text = match self {

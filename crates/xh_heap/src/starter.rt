@@ -1,4 +1,6 @@
-//! How a worker has a thread started: it asks the run's own thread, which waits for that.
+//! How a worker has a thread started: it asks the run's own thread, which waits for that. It can't start one itself:
+//! it is generic over its process, and what a thread is sent would rest on a bound that is known of the run's own
+//! thread alone.
 ghost use Rattle.std.specs.Prelude.{◌≡◌, IfErr};
 ghost use Rattle.xh_core.specs.declared.refused.Refused.TheVariants as refused;
 

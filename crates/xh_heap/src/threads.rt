@@ -19,7 +19,8 @@ use xh_model::limits::MAX_WORKERS;
 // always a slot left.
 type Slots = [Option<JoinHandle<()>>; MAX_WORKERS as usize];
 
-// What a worker's thread promises: its answer came of a work by a process of such a kernel.
+// What a worker's thread promises: its answer came of a work by a process of such a kernel. So that is known once it was
+// joined.
 #[derive(Drop)]
 struct Answering<P, J> {
     process: PhantomData<P>,

@@ -10,7 +10,8 @@ use xh_core::{Block as Named, Kind, Refused};
 use xh_kernel::{AnsweredAt, Got, MAX_ENDS, Taken};
 use xh_model::limits::MAX_BLOCKS;
 
-/// The number of a record that no arena has.
+/// The number of a record that no arena has: what a value names at another's handle, so that the kernel's own test
+/// refuses it, in its order.
 pub(crate) const NO_RECORD: u16 = 65_535;
 
 /// More endpoints than a take looks at.

@@ -98,7 +98,8 @@ impl<E, S: Shows<E>> Histories<E, S> {
     }
 
     // The worker adds these calls, and sees the place's history to its end. The place's word becomes this one, or
-    // stays.
+    // stays. What seats know changes by a step on a word alone: so the pen's seat takes in the worker's, and one
+    // store, or a load where the word stays, sees both.
     #[inline(always)]
     #[tactic(auto, using(crate::proofs::Keeping::joins, crate::proofs::Keeping::splits))]
     fn step<C: Says<E>>(&self, pen: &mut Pen<E>, front: &mut Front<E>, word: Option<u64>)

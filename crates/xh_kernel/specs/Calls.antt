@@ -18,6 +18,7 @@ pub record Noted (k : ℕ) (e : Call) (number : ℕ) (old new : List (History En
   pub seen : new ≡ slice_set old k ((at old k ++ others) ++ (number, record { call = e; glance = glance }) ∷ [])
 
 -- by the last call of the place's history, which leads to it, the place became what it was after the call; and so much is true of what it was before and after
+-- (truncated, since a ghost field has one proof at most, and several lists of places may fit the entries)
 abbrev pub Steps : Leading → ℕ → History Entry → (PlaceSeen → PlaceSeen → Type 0) → Type 0
 Steps leads k h R = ∥ ((earlier : History Entry) × (c : ℕ × Entry) × (old : PlaceSeen) × (new : PlaceSeen) × (h ≡ earlier ++ c ∷ []) × leads k earlier old × leads k h new × R old new) ∥₁
 

@@ -46,9 +46,9 @@ use xh_model::limits::PLACES;
 use xh_place::{Body, Gate, Place};
 use xh_records::{Records, Seat};
 
-/// An exchange heap for many threads: a lock for each place, each arena and each line. Each call takes
-/// the lock of its place, then that of a line or of an arena, and never those of two places. No two
-/// locks share a cache line.
+/// An exchange heap for many threads: a lock for each place, each arena, each line and the free numbers of
+/// channels. A call on a place takes the lock of the place, then one of the others, and never those of two
+/// places; a glance takes none, an overview those of the arenas. No two locks share a cache line.
 #[derive(Drop)]
 pub struct Kernel<N: Names> {
     pub(crate) shared: Shared<N>,
@@ -239,9 +239,10 @@ impl<N: Names> Kernel<N> {
         answer
     }
 
-    /// What a place was at one moment of the call: its latest process, how far that had come, how many
-    /// blocks it had and of how many bytes. It is not older than what the look had seen of the place. The
-    /// look is one of this kernel's own. NoProcess for a place of 32 or more.
+    /// What a place was after the latest call that it tells of: its latest process, how far that had come, how
+    /// many blocks it had and of how many bytes. It is not older than what the look had seen of the place; while
+    /// another call is under way the place may have changed already. The look is one of this kernel's own.
+    /// NoProcess for a place of 32 or more.
     pub fn glance(&self, place: u8, look: &mut Look) -> Result<Glance, Refused>
         requires { look.old.table ≡ N.parts.histories }
         ensures same { look.new.table ≡ look.old.table }

@@ -20,7 +20,8 @@ pub record RecordsOf : Type 0 where
   pub shape : Shape
 
 -- a seat: its table, its number there, the process that it stands for, the lots of the records that the process owns, each beside its record's number, in the order gained, and its front: the
--- beginning of the one log of all deeds that it has seen, with all deeds of its own place
+-- beginning of the one log of all deeds that it has seen, with all deeds of its own place. (That each step is its event rests on this list: a step's own rule doesn't see the whole state,
+-- so a clause over every state in which the rule holds would bind no step.)
 pub record Held (B : Type 0) : Type 0 where
   pub table : TableId
   pub id : ℕ

@@ -116,6 +116,7 @@ impl<B: Fits + Drop> Records<B> {
         let i = self.slot_of(first);
         let j = self.slot_of(second);
         let order = seat.order.as_slice();
+        // The kit's table lends one slot at a time.
         let mut also = swap_slot(board, &mut seat.token, order, j, None).unwrap();
         let k = turn_to(&mut seat.token, order, i);
         let Some(left) = seat.token.slot_mut(board, usize::from(i)) else {

@@ -72,7 +72,8 @@ impl<B> Split<View<B>> for Notes {
     ghost right = { note_of };
 }
 
-/// A plain load, by a seat that was told what another had seen.
+/// A plain load, by a seat that was told what another had seen: part of the other's view, which stands for no
+/// place, was joined into its own. Here it sees that the rule holds of both.
 pub(crate) struct Compares;
 
 impl<B> Play<Option<Lot<B>>, View<B>> for Compares {

@@ -1,5 +1,5 @@
 -- A run of a script by the workers of a kernel, and what it leaves.
-use Rattle.std.specs.Prelude.{◌≡◌, ◌<◌, ℕ, All, Bool, List, length, map}
+use Rattle.std.specs.Prelude.{◌≡◌, ◌<◌, ℕ, All, Bool, List, false, length, map}
 use Rattle.xh_books.specs.Closing.{AreClosed}
 use Rattle.xh_books.specs.Ledgers.{IsBalanced}
 use Rattle.xh_calls.specs.Leading.{Leading}
@@ -41,10 +41,11 @@ pub record HasPlayed (parts : PartsOf) (leads : Leading) (script : Listing) (ans
   pub accounts_are : accounts_of left ≡ accounts
   pub looks_are : looks_of left ≡ looks
 
--- A report tells a run of a script by a kernel of these parts: it was made by the configuration, its workers played the script's lines with the report's replies, in histories that lead
--- so; and the report's ledger and its lines of what is in flight are those with which the books of this kernel were closed, over what these workers left.
+-- A report tells a run of a script by a kernel of these parts: it was made by the configuration, each of its channels is opened once, its workers played the script's lines with the
+-- report's replies, in histories that lead so; and the report's ledger and its lines of what is in flight are those with which the books of this kernel were closed, over what these workers left.
 pub record RanOn (parts : PartsOf) (leads : Leading) (config : Config) (script : Listing) (report : Report) : Type 0 where
   pub made : AreMadeBy config MAX_WORKERS USUAL_GENERATIONS parts
+  pub once : parts.comes_back ≡ false
   pub accounts : List AccountOf
   pub looks : List (LookOf Entry)
   pub played : HasPlayed parts leads script report.answers.items accounts looks

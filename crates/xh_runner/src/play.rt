@@ -64,7 +64,8 @@ fn names_renewed(lines: &[Line], line: &Line) -> bool
         && is_renewed(lines, other)
 }
 
-// By which number the process goes by now that the line's command names, where another worker may start it again.
+// By which number the process goes by now that the line's command names, where another worker may start it again. That this
+// is the latest no clause says: it would need a token for each start, kept to the end beside what was read.
 fn hear<R: Wait, G>(rt: &R, crew: &Crew<'_, G>, names: &mut Bindings, line: &Line)
     ensures { Hears crew.now.lines.now line.now names.old names.new }
 {

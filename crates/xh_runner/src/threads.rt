@@ -1,5 +1,5 @@
 //! A run of a script on threads, over a kernel that is made, used and settled here; and from bytes to bytes.
-ghost use Rattle.std.specs.Prelude.{◌≡◌, ◌+◌, ◌⊎◌, All, Err, IfErr, IfOk, OnOk, vec_len};
+ghost use Rattle.std.specs.Prelude.{◌≡◌, ◌+◌, ◌⊎◌, All, Err, IfErr, IfOk, OnOk, false, vec_len};
 ghost use Rattle.xh_calls.specs.Parts.{AreMadeBy};
 ghost use Rattle.xh_runner.specs.Plays.{MayStop};
 ghost use Rattle.xh_history.specs.Histories.{fresh_look};
@@ -64,6 +64,7 @@ fn run_named<N: Names + Send + Sync, R: Threads + Wait + Sync, G: Gate + Sync>(
 ) -> Result<Report, Fault>
     requires names { parts ≡ N.parts }
     requires made { AreMadeBy config MAX_WORKERS USUAL_GENERATIONS parts }
+    requires once { parts.comes_back ≡ false }
     requires law { IsLaw N.parts N.leads }
     ensures run { IfOk result (RanOn N.parts N.leads config (listing_of script.now)) }
     ensures answers { IfOk result (λ r. AnswersScript (listing_of script.now) r.answers.items r.names.items) }

@@ -17,7 +17,8 @@ impl<N: Names> Kernel<N> {
     /// Both ends of a new channel come to the process: side 0 and side 1, each of 32 bytes, the halves of
     /// one first fit of 64 bytes of the arena.
     ///
-    /// NoProcess, Ended, NoArena, NoChannel where each channel is taken, NoRecord, NoSpace, Worn.
+    /// NoProcess, Ended, NoArena, NoChannel where each channel is taken, OutOfMemory where channels come back and a
+    /// growth for this one was refused, NoRecord, NoSpace, Worn.
     pub fn open<R: Wait, G: Gate>(
         &self,
         rt: &R,

@@ -1,4 +1,4 @@
-use Rattle.std.proofs.Common.{◌≡◌, ◌∙◌, All, IfOk, subst, sym}
+use Rattle.std.proofs.Common.{◌≡◌, ◌∙◌, All, IfOk, false, subst, sym}
 use Rattle.xh_calls.specs.Parts.{AreMadeBy}
 use Rattle.xh_core.specs.declared.ledger.ArenaLine.{ArenaLine}
 use Rattle.xh_model.specs.declared.limits.TheConstants.{MAX_WORKERS, USUAL_GENERATIONS}
@@ -13,6 +13,7 @@ returns-clause-run g c =
     let script = listing_of c.args.script.now in
     let (done, is, same, closed) = c.in_ok-answers.ensures.closed in record {
       made = subst (AreMadeBy c.args.config MAX_WORKERS USUAL_GENERATIONS) c.requires.names c.requires.made;
+      once = subst (λ p. p.comes_back ≡ false) c.requires.names c.requires.once;
       accounts = done.1.items;
       looks = done.2.items;
       played = subst (λ x. HasPlayed parts leads script x.0.items done.1.items done.2.items) (sym same)
