@@ -126,7 +126,7 @@ pub fn close_books<N: Names>(
 }
 
 /// Ends a kernel by what was done on it: takes it apart, compares what its workers have seen with the histories of its
-/// places, and closes its books. What was done is an answer, with the accounts and the looks of all workers; or it
+/// places and arenas, and closes its books. What was done is an answer, with the accounts and the looks of all workers; or it
 /// failed, and the kernel is let go. Answers with the books what was done.
 ///
 /// The error of what was done, and that of a refused growth where one was refused here.
@@ -149,8 +149,10 @@ pub fn close_kernel<N: Names, A: Drop, E: From<AllocError>>(
             let Ok(settled) = kernel.settle(alloc) else {
                 return Err(E::from(AllocError));
             };
-            let histories = settled.histories;
-            let Ok(accounts) = compare(&histories, settled.pens, accounts, looks) else {
+            let (histories, arenas) = (settled.histories, settled.vault_histories);
+            let (pens, vault_pens) = (settled.pens, settled.vault_pens);
+            let compared = compare(&histories, pens, &arenas, vault_pens, accounts, looks);
+            let Ok(accounts) = compared else {
                 return Err(E::from(AllocError));
             };
             let (vaults, places) = (settled.vaults, settled.places);

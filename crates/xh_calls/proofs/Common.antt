@@ -6,8 +6,8 @@ pub use Rattle.std.proofs.Common.{◌*◌, ◌++◌, ◌+◌, ◌/◌, ◌<◌, 
 pub use Rattle.std.proofs.{lemmas.List.length-replicate, lemmas.List.map_push, lemmas.List.append_assoc, lemmas.List.Elements.All-push}
 pub use Rattle.std.specs.{Prelude.option_map, Vec.Iter.into_iter_items, Vec.Iter.into_iter_len}
 pub use Rattle.xh_arena.specs.{Views.AreLots, Views.LotOf, Views.TallyOf, Views.VaultOf}
-pub use Rattle.xh_calls.specs.{Parts.IsNew, Parts.IsOpen, Parts.IsVaultOf, Parts.PartsOf, Parts.vault_names, Places.status_at, Several.AnswersAt, Several.FindNone, Several.HaveNone}
-pub use Rattle.xh_calls.specs.{Several.peer_closed, Several.each_end, Several.several_tests, Tallies.fresh_tally, Vaults.EndsIn, Vaults.Enters, Vaults.IsKeptVault}
+pub use Rattle.xh_calls.specs.{Parts.IsNew, Parts.IsOpen, Parts.IsUnused, Parts.IsVaultOf, Parts.PartsOf, Parts.vault_names, Places.status_at, Several.AnswersAt, Several.FindNone, Several.HaveNone}
+pub use Rattle.xh_calls.specs.{Several.peer_closed, Several.each_end, Several.several_tests, Tallies.fresh_tally, Vaults.AreTheirs, Vaults.EndsIn, Vaults.Enters, Vaults.IsKeptVault}
 pub use Rattle.xh_calls.specs.{Vaults.IsRefusedBy, Vaults.Leaves, Wires.ClosesAgain, Wires.HasLow, Wires.ReceivesOr, Wires.toward_high, inner.Looking.AreEnds}
 pub use Rattle.xh_calls.specs.{inner.Looking.AreReady, inner.Looking.HaveLooked, inner.Making.AreBundles, inner.Making.AreFreshTallies, inner.Making.AreMakings}
 pub use Rattle.xh_calls.specs.{inner.Making.IsBundle}

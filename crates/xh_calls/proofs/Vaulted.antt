@@ -1,6 +1,6 @@
 -- The vault of an arena's lock stays one of that arena under each call, and its history ends in it.
-use Rattle.xh_calls.proofs.Common.{EndsIn, Enters, Err, FrontOf, HasSeen, History, IfErr, IfOk, IsKeptVault, IsVaultOf, Leaves, LotOf, Ok, PartsOf, PenOf, Result}
-use Rattle.xh_calls.proofs.Common.{TallyOf, VaultOf, [], ap, at, length, refl, slice_set, subst, sym, ℕ, ◌++◌, ◌∙◌, ◌∷◌, ◌≡◌}
+use Rattle.xh_calls.proofs.Common.{All-push, AreTheirs, EndsIn, Enters, Err, FrontOf, HasSeen, History, IfErr, IfOk, IsKeptVault, IsVaultOf, Leaves, LotOf, Ok, PartsOf, PenOf, Result}
+use Rattle.xh_calls.proofs.Common.{TallyOf, VaultOf, [], ap, at, length, refl, slice_set, subst, sym, ℕ, ◌++◌, ◌<◌, ◌∙◌, ◌∷◌, ◌≡◌}
 use Rattle.xh_arena.specs.declared.refused.Refused.{Refused}
 use Rattle.xh_arena.specs.Refusals.{RefusesCarve}
 use Rattle.xh_arena.specs.Sharing.{IsVaultCarved, IsVaultCut, IsVaultGivenBack}
@@ -21,11 +21,16 @@ entry v w pen pen' front front' pen_is front_is seen was = (
   record { others = seen.0; not_its_own = seen.2; found = subst (EndsIn v) seen.1 was; seen = (let history = seen.1 in cc) },
 )
 
+-- and this is of a worker too
+pub theirs : (p : PartsOf) (w : VaultOf) (n : ℕ) (pen pen' : PenOf VaultOf) → pen' ≡ record pen { history = pen.history ++ (n, w) ∷ [] } → n < p.workers → AreTheirs p pen.history
+    → AreTheirs p pen'.history
+theirs p w n pen pen' is own all = subst (λ (z : PenOf VaultOf). AreTheirs p z.history) (sym is) (All-push (λ (c : ℕ × VaultOf). c.0 < p.workers) pen.history (n, w) all own)
+
 -- once the worker entered what the vault is now
-module _ (p : PartsOf) (v : VaultOf) {w : VaultOf} (pen pen' : PenOf VaultOf) {front front' : FrontOf VaultOf} {X : Type 0} (was : IsKeptVault p (record { vault = v; pen = pen }))
+module _ (p : PartsOf) (v : VaultOf) {w : VaultOf} (pen pen' : PenOf VaultOf) {front front' : FrontOf VaultOf} {X : Type 0} (was : IsKeptVault p v pen)
     (same : (pen'.table ≡ pen.table) × (pen'.number ≡ pen.number) × X) (entered : (z : VaultOf) → EndsIn z pen.history → EndsIn w pen'.history × Enters pen.number z w front front') where
-  pub keeps : IsVaultOf p pen.number w → IsKeptVault p (record { vault = w; pen = pen' })
-  keeps is = (same.0 ∙ was.0, subst (λ (a : ℕ). IsVaultOf p a w) (sym same.1) is, (entered v was.2).0)
+  pub keeps : (AreTheirs p pen.history → AreTheirs p pen'.history) → IsVaultOf p pen.number w → IsKeptVault p w pen'
+  keeps theirs is = (same.0 ∙ was.0, subst (λ (a : ℕ). IsVaultOf p a w) (sym same.1) is, (entered v was.2).0, theirs was.3)
 
   pub leaves : {a : ℕ} → pen.number ≡ a → Leaves p front front' a v w
   leaves number = subst (λ (a : ℕ). Leaves p front front' a v w) number (was.1, (entered v was.2).1)

@@ -1,5 +1,5 @@
 -- What the parts of a kernel have in common.
-use Rattle.std.specs.Prelude.{◌≡◌, ℕ, ◌<◌, ◌≤◌, Bool, false, List, [], length, map, slice_get, Some}
+use Rattle.std.specs.Prelude.{◌≡◌, ℕ, ◌<◌, ◌≤◌, Bool, false, List, [], length, map, replicate, slice_get, None, Some}
 use Rattle.atomic_table.specs.Seated.{TableId}
 use Rattle.xh_arena.specs.Views.{VaultOf}
 use Rattle.xh_history.specs.Histories.{no_table}
@@ -58,6 +58,10 @@ vault_names = map (λ v. v.id)
 -- out so many
 abbrev pub IsNew : ℕ → ℕ → ℕ → ℕ → VaultOf → Type 0
 IsNew workers records size wear v = (v.workers ≡ workers) × (v.collected ≡ []) × (0 < workers) × (v.arena.records ≡ records) × (length v.arena.cover ≡ size) × (v.arena.limit ≡ wear)
+
+-- nothing of it was ever handed out, or came back
+abbrev pub IsUnused : VaultOf → Type 0
+IsUnused v = (v.arena.cover ≡ replicate (length v.arena.cover) None) × (v.arena.wear ≡ 0) × (v.back ≡ 0)
 
 -- such a vault of these parts
 abbrev pub IsOpen : PartsOf → VaultOf → Type 0

@@ -14,11 +14,11 @@ use Rattle.xh_records.specs.History.{StartsWith}
 use Rattle.xh_records.specs.Seats.{IsSeatOf}
 use Rattle.xh_calls.specs.declared.heap.Till.{Till}
 use Rattle.xh_calls.specs.Parts.{PartsOf}
-use Rattle.xh_calls.specs.Vaults.{EntersSome}
+use Rattle.xh_calls.specs.Vaults.{EntersSome, IsSeenOf}
 
--- the tallies of the till are of the vaults of these parts, and it has seen the histories of their arenas
+-- the tallies of the till are of the vaults of these parts, and a worker of theirs has seen what it has of the histories of the arenas
 abbrev pub IsTillOf : PartsOf → Till → Type 0
-IsTillOf parts t = (ids_of t.tallies.items ≡ parts.records.shape.names) × (t.seen.table ≡ parts.vaults)
+IsTillOf parts t = (ids_of t.tallies.items ≡ parts.records.shape.names) × IsSeenOf parts t.seen
 
 -- so many bytes were given back by the tallies of the till, and no arena was asked more often than that
 abbrev pub GivesBack : ℕ → Till → Till → Type 0

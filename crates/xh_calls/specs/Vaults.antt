@@ -1,5 +1,6 @@
 -- The history of each arena: what its vault was at the end of each call under its lock, beside the number of the worker that made the call.
-use Rattle.std.specs.Prelude.{◌≡◌, ◌⊎◌, ◌<◌, ◌≤◌, ℕ, List, [], ◌∷◌, ◌++◌, length, slice_set}
+use Rattle.std.specs.Prelude.{◌≡◌, ◌⊎◌, ◌<◌, ◌≤◌, ℕ, List, [], ◌∷◌, ◌++◌, All, length, slice_index_or, slice_set}
+use Rattle.std.specs.List.{AllZip}
 use Rattle.xh_arena.specs.declared.refused.Refused.{Refused as Reason}
 use Rattle.xh_arena.specs.declared.refused.Refused.TheVariants as arena
 use Rattle.xh_arena.specs.Refusals.{RefusesCarve}
@@ -10,13 +11,13 @@ use Rattle.xh_core.specs.declared.refused.Refused.{Refused}
 use Rattle.xh_core.specs.declared.refused.Refused.TheVariants.{NoSpace, Worn}
 use Rattle.xh_history.specs.Histories.{FrontOf, History, PenOf, at, calls_of}
 use Rattle.xh_model.specs.Arena.{IsLawfulArena}
-use Rattle.xh_calls.specs.Parts.{PartsOf, IsVaultOf}
+use Rattle.xh_calls.specs.Parts.{PartsOf, IsUnused, IsVaultOf, vault_names}
 
 -- ---- behind the lock of an arena
 
--- the last entry of the history, where it has one, is what the vault is
+-- the last entry of the history is what the vault is; where it has none, the vault was never used
 abbrev pub EndsIn : VaultOf → History VaultOf → Type 0
-EndsIn v [] = Unit {0}
+EndsIn v [] = IsUnused v
 EndsIn v (c ∷ []) = c.1 ≡ v
 EndsIn v (c ∷ d ∷ cs) = EndsIn v (d ∷ cs)
 
@@ -25,11 +26,29 @@ pub record KeptOf : Type 0 where
   pub vault : VaultOf
   pub pen : PenOf VaultOf
 
--- the pen writes a history of these parts, the vault is that of the pen's arena, and the history ends in it
-abbrev pub IsKeptVault : PartsOf → KeptOf → Type 0
-IsKeptVault parts k = (k.pen.table ≡ parts.vaults) × IsVaultOf parts k.pen.number k.vault × EndsIn k.vault k.pen.history
+-- each entry of the history is a worker's of these parts
+abbrev pub AreTheirs : PartsOf → History VaultOf → Type 0
+AreTheirs parts = All (λ c. c.0 < parts.workers)
+
+-- the pen writes a history of these parts, the vault is that of the pen's arena, and the history is of their workers and ends in it
+abbrev pub IsKeptVault : PartsOf → VaultOf → PenOf VaultOf → Type 0
+IsKeptVault parts v pen = (pen.table ≡ parts.vaults) × IsVaultOf parts pen.number v × EndsIn v pen.history × AreTheirs parts pen.history
+
+-- the pens of the histories 0, 1, ..
+abbrev pub AreInOrder : {E : Type 0} → List (PenOf E) → Type 0
+AreInOrder {E} pens = (k : ℕ) (d : PenOf E) → k < length pens → (slice_index_or pens k d).number ≡ k
+
+-- the vaults of all arenas of these parts, in order, and the pen beside each
+pub record AreKeptVaults (parts : PartsOf) (vaults : List VaultOf) (pens : List (PenOf VaultOf)) : Type 0 where
+  pub names : vault_names vaults ≡ parts.records.shape.names
+  pub kept : AllZip (IsKeptVault parts) vaults pens
+  pub in_order : AreInOrder pens
 
 -- ---- one call
+
+-- a worker of these parts has seen this of the histories of their arenas
+abbrev pub IsSeenOf : PartsOf → FrontOf VaultOf → Type 0
+IsSeenOf parts seen = (seen.table ≡ parts.vaults) × (seen.number < parts.workers)
 
 -- A worker's call on the vault of the arena found it as v, and left it as w. What the worker has seen of the arena now is what it had seen, then entries of others, then this one.
 pub record Enters (a : ℕ) (v w : VaultOf) (old new : FrontOf VaultOf) : Type 0 where

@@ -1,13 +1,13 @@
 //! The locks of the arenas.
-ghost use Rattle.std.specs.Prelude.{◌≡◌, ◌<◌, ◌≤◌, ◌%◌, All, IfOk, Some, length, slice_get, vec_len};
+ghost use Rattle.std.specs.Prelude.{◌≡◌, ◌≤◌, ◌%◌, All, IfOk, Some, length, slice_get, vec_len};
 ghost use Rattle.std.specs.Sync.Mutex.{mutex_guard_value};
 ghost use Rattle.atomic_table.specs.Seated.{TableId};
 ghost use Rattle.xh_arena.specs.Views.{VaultOf};
 ghost use Rattle.xh_core.specs.ArenaLines.{arena_line};
 ghost use Rattle.xh_model.specs.declared.limits.TheConstants.{MAX_ARENAS, MAX_BYTES, UNIT};
-ghost use Rattle.xh_calls.specs.Parts.{IsOpen, vault_names};
+ghost use Rattle.xh_calls.specs.Parts.{IsOpen, IsUnused, vault_names};
 ghost use Rattle.xh_calls.specs.Places.{IsTillOf};
-ghost use Rattle.xh_calls.specs.Vaults.{EndsIn, Enters, Tells};
+ghost use Rattle.xh_calls.specs.Vaults.{AreKeptVaults, AreTheirs, EndsIn, Enters, IsSeenOf, Tells};
 ghost use Rattle.xh_calls.specs.inner.Making.{AreFreshFrom};
 
 use crate::heap::Till;
@@ -36,6 +36,9 @@ pub fn vault_line(vault: &Vault) -> ArenaLine
     }
 }
 
+/// The vaults, the pens of their histories, and the histories.
+type Unlocked = (Vec<Vault>, Vec<Pen<Vault>>, Histories<Vault, NobodyLooks>);
+
 // How often an arena's lock is tried before a call sleeps for it.
 const TRIES: u16 = 30;
 
@@ -50,6 +53,23 @@ pub struct Arenas<N: Names> {
     ghost sized: { (size ≡ N.parts.size) × (size % UNIT ≡ 0) × (size ≤ MAX_BYTES) },
 }
 
+// What lies behind the lock of the arena, which knows its number, once nobody has it.
+fn wait_for<'a, N: Names, R: Wait>(
+    rt: &R,
+    lock: &'a CachePadded<Mutex<Kept<N>>>,
+    arena: u8,
+) -> MutexGuard<'a, Kept<N>>
+    ensures { (mutex_guard_value result).pen.number ≡ arena }
+{
+    for _ in rt.forever() {
+        let kept = lock.lock(rt);
+        if kept.number() == arena {
+            return kept;
+        }
+    }
+    unreachable!()
+}
+
 impl<N: Names> Arenas<N> {
     /// The vaults of all arenas behind their locks, beside the pens of their histories.
     pub fn new(
@@ -62,6 +82,7 @@ impl<N: Names> Arenas<N> {
         requires sized { (size ≡ N.parts.size) × (size % UNIT ≡ 0) × (size ≤ MAX_BYTES) }
         requires names { vault_names vaults.items ≡ N.parts.records.shape.names }
         requires open_vaults { All (IsOpen N.parts) vaults.items }
+        requires unused { All IsUnused vaults.items }
         requires few { vec_len vaults ≤ MAX_ARENAS }
         requires histories { (histories ≡ N.parts.vaults) × AreFreshFrom 0 pens.items N.parts.vaults }
     {
@@ -87,8 +108,8 @@ impl<N: Names> Arenas<N> {
         self.locks.len() as u8
     }
 
-    // What lies behind the lock of the arena, which knows its number. It is tried for a while first: others have it for some hundred
-    // nanoseconds, and whoever once waits for it by `lock` leaves it so that each unlock calls the system.
+    // What lies behind the lock of the arena. It is tried for a while first: others have it for some hundred nanoseconds, and
+    // whoever once waits for it by `lock` leaves it so that each unlock calls the system.
     #[inline(always)]
     fn kept<R: Wait>(&self, rt: &R, arena: u8) -> MutexGuard<'_, Kept<N>>
         requires { (id : TableId) × (slice_get N.parts.records.shape.names arena ≡ Some id) }
@@ -96,28 +117,21 @@ impl<N: Names> Arenas<N> {
     {
         let lock = &self.locks[usize::from(arena)];
         for _ in 0..TRIES {
-            if let Some(kept) = lock.try_lock() {
-                if kept.number() == arena {
-                    return kept;
-                }
-            }
-            hint::spin_loop();
-        }
-        for _ in rt.forever() {
-            let kept = self.locks[usize::from(arena)].lock(rt);
-            if kept.number() == arena {
-                return kept;
+            match lock.try_lock() {
+                Some(kept) if kept.number() == arena => return kept,
+                _ => hint::spin_loop(),
             }
         }
-        unreachable!()
+        wait_for(rt, lock, arena)
     }
 
     // The worker enters what an arena's vault is now in the arena's history.
     #[inline(always)]
     fn enter(&self, pen: &mut Pen<Vault>, seen: &mut Front<Vault>, vault: &Vault)
-        requires tables { (pen.old.table ≡ N.parts.vaults) × (seen.old.table ≡ N.parts.vaults) }
-        ensures same { (pen.new.table ≡ pen.old.table) × (pen.new.number ≡ pen.old.number) × (seen.new.table ≡ seen.old.table) }
+        requires tables { (pen.old.table ≡ N.parts.vaults) × IsSeenOf N.parts seen.old }
+        ensures same { (pen.new.table ≡ pen.old.table) × (pen.new.number ≡ pen.old.number) × IsSeenOf N.parts seen.new }
         ensures entered { (v : VaultOf) → EndsIn v pen.old.history → EndsIn vault.now pen.new.history × Enters pen.old.number v vault.now seen.old seen.new }
+        ensures theirs { AreTheirs N.parts pen.old.history → AreTheirs N.parts pen.new.history }
     {
         self.histories.add(pen, seen, None, vault);
     }
@@ -125,7 +139,7 @@ impl<N: Names> Arenas<N> {
     /// What the ledger says of an arena as it is at a step of the call, which the worker enters in the arena's history.
     pub fn line<R: Wait>(&self, rt: &R, arena: u8, seen: &mut Front<Vault>) -> ArenaLine
         requires there { (id : TableId) × (slice_get N.parts.records.shape.names arena ≡ Some id) }
-        requires table { seen.old.table ≡ N.parts.vaults }
+        requires seen { IsSeenOf N.parts seen.old }
         ensures { Tells N.parts seen.old arena result seen.new }
     {
         let mut guard = self.kept(rt, arena);
@@ -134,21 +148,24 @@ impl<N: Names> Arenas<N> {
         vault_line(&kept.vault)
     }
 
-    /// The vaults, by arena, out of their locks, each of which knows its arena's number. An error where memory was refused.
-    pub fn into_vaults(self, alloc: Global) -> Result<Vec<Vault>, AllocError>
-        ensures names { IfOk result (λ v. vault_names v.items ≡ N.parts.records.shape.names) }
-        ensures open_vaults { IfOk result (λ v. All (IsOpen N.parts) v.items) }
-        ensures few { IfOk result (λ v. vec_len v ≤ MAX_ARENAS) }
+    /// The vaults, by arena, out of their locks, each of which knows its arena's number, the pens of their histories, and the
+    /// histories. An error where memory was refused.
+    pub fn into_vaults(self, alloc: Global) -> Result<Unlocked, AllocError>
+        ensures kept { IfOk result (λ r. AreKeptVaults N.parts r.0.items r.1.items) }
+        ensures few { IfOk result (λ r. vec_len r.0 ≤ MAX_ARENAS) }
+        ensures histories { IfOk result (λ r. r.2 ≡ N.parts.vaults) }
     {
         let mut vaults = Vec::with_capacity(alloc, self.locks.len())?;
+        let mut pens = Vec::with_capacity(alloc, self.locks.len())?;
         for lock in self.locks {
-            let kept = lock.into_inner().into_inner();
-            if usize::from(kept.number()) != vaults.len() {
+            let (vault, pen) = lock.into_inner().into_inner().into_parts();
+            if usize::from(pen.number()) != vaults.len() {
                 return Err(AllocError);
             }
-            vaults.push(kept.into_vault())?;
+            vaults.push(vault)?;
+            pens.push(pen)?;
         }
-        Ok(vaults)
+        Ok((vaults, pens, self.histories))
     }
 }
 

@@ -1,6 +1,7 @@
 //! What lies behind an arena's lock.
 ghost use Rattle.std.specs.Prelude.{◌≡◌};
-ghost use Rattle.xh_calls.specs.Parts.{IsVaultOf};
+ghost use Rattle.xh_calls.specs.Parts.{IsUnused, IsVaultOf};
+ghost use Rattle.xh_calls.specs.Vaults.{IsKeptVault};
 ghost use Rattle.xh_history.specs.Histories.{fresh_pen};
 
 use crate::names::Names;
@@ -23,13 +24,14 @@ impl<N: Names> Model for Kept<N> {
 
     ghost view = { λ k. record { vault = k.vault; pen = k.pen } };
 
-    ghost invariant = { λ k. IsKeptVault N.parts (record { vault = k.vault; pen = k.pen }) };
+    ghost invariant = { λ k. IsKeptVault N.parts k.vault k.pen };
 }
 
 impl<N: Names> Kept<N> {
     // The vault of the pen's arena, on which nothing was called yet.
     pub(crate) fn new(vault: Vault, pen: Pen<Vault>) -> Kept<N>
         requires vault { IsVaultOf N.parts pen.number vault }
+        requires unused { IsUnused vault }
         requires pen { pen ≡ fresh_pen N.parts.vaults pen.number }
     {
         Kept {
@@ -46,9 +48,10 @@ impl<N: Names> Kept<N> {
         self.pen.number()
     }
 
-    pub(crate) fn into_vault(self) -> Vault
-        ensures { IsVaultOf N.parts self.pen.number result }
+    // The vault, and the pen of its arena's history.
+    pub(crate) fn into_parts(self) -> (Vault, Pen<Vault>)
+        ensures { IsKeptVault N.parts result.0 result.1 }
     {
-        self.vault
+        (self.vault, self.pen)
     }
 }

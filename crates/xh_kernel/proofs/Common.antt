@@ -18,7 +18,7 @@ pub use Rattle.xh_place.proofs.Seeing.{did_starts}
 pub use Rattle.xh_kernel.specs.Accounts.{AccountOf, AreFresh, IsStill}
 pub use Rattle.xh_kernel.specs.Calls.{Calls, Steps}
 pub use Rattle.xh_kernel.specs.Did.{DidGive, DidTake, DidTakeAny}
-pub use Rattle.xh_kernel.specs.Finished.{AreInOrder, tallies_of}
+pub use Rattle.xh_kernel.specs.Finished.{HasSeenAll, HasSeenEach, tallies_of}
 pub use Rattle.xh_kernel.specs.Histories.{Does, Goes, IsHistoryOf, IsLaw, IsUnowned, Leads}
 pub use Rattle.xh_kernel.specs.Kept.{AreKept, IsKeptPlace}
 pub use Rattle.xh_kernel.specs.Places.{IsFound, last_glance}

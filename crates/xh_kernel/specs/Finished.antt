@@ -1,8 +1,9 @@
--- What the workers of a kernel have seen of its places once they are done.
-use Rattle.std.specs.Prelude.{◌≡◌, ℕ, ◌<◌, List, All, length, map, slice_index_or}
-use Rattle.xh_arena.specs.Views.{TallyOf}
+-- What the workers of a kernel have seen of its places and arenas once they are done.
+use Rattle.std.specs.Prelude.{◌≡◌, ℕ, List, All, length, map}
+use Rattle.xh_arena.specs.Views.{TallyOf, VaultOf}
+use Rattle.xh_calls.specs.Vaults.{AreInOrder}
 use Rattle.xh_calls.specs.declared.call.Entry.{Entry}
-use Rattle.xh_history.specs.Histories.{HasSeen, LookOf, PenOf, StartsWith, at}
+use Rattle.xh_history.specs.Histories.{HasSeen, History, LookOf, PenOf, StartsWith, at}
 use Rattle.xh_kernel.specs.Accounts.{AccountOf}
 use Rattle.xh_model.specs.declared.limits.TheConstants.{PLACES}
 
@@ -10,12 +11,16 @@ use Rattle.xh_model.specs.declared.limits.TheConstants.{PLACES}
 abbrev pub tallies_of : List AccountOf → List (List TallyOf)
 tallies_of = map (λ a. a.tallies)
 
--- the pens of the places 0, 1, .., 31
-abbrev pub AreInOrder : List (PenOf Entry) → Type 0
-AreInOrder pens = (length pens ≡ PLACES) × ((k : ℕ) (d : PenOf Entry) → k < PLACES → (slice_index_or pens k d).number ≡ k)
+-- what the worker of this number has seen of the history that each pen knows whole is a beginning, in which all of the worker's calls stand
+abbrev pub HasSeenEach : {E : Type 0} → List (PenOf E) → ℕ → List (History E) → Type 0
+HasSeenEach {E} pens number fronts = All (λ p. HasSeen number (at fronts p.number) p.history) pens
 
--- each account has seen a beginning of the history that each pen knows whole, in which all calls of its worker stand, and each look a beginning
-pub record HaveSeen (accounts : List AccountOf) (looks : List (LookOf Entry)) (pens : List (PenOf Entry)) : Type 0 where
-  pub in_order : AreInOrder pens
-  pub seen : All (λ a. All (λ p. HasSeen a.number (at a.fronts p.number) p.history) pens) accounts
+-- so has the account of the places' histories, and of the arenas'
+abbrev pub HasSeenAll : List (PenOf Entry) → List (PenOf VaultOf) → AccountOf → Type 0
+HasSeenAll pens vault_pens a = HasSeenEach pens a.number a.fronts × HasSeenEach vault_pens a.vaults.number a.vaults.fronts
+
+-- the pens are those of all places, in order; so has each account, and each look has seen a beginning of each place's
+pub record HaveSeen (accounts : List AccountOf) (looks : List (LookOf Entry)) (pens : List (PenOf Entry)) (vault_pens : List (PenOf VaultOf)) : Type 0 where
+  pub in_order : (length pens ≡ PLACES) × AreInOrder pens
+  pub seen : All (HasSeenAll pens vault_pens) accounts
   pub looked : All (λ l. All (λ p. StartsWith p.history (at l.fronts p.number)) pens) looks

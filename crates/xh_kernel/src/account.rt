@@ -1,15 +1,14 @@
 //! What a worker has taken and given back, and what it has seen of the histories.
-ghost use Rattle.std.specs.Prelude.{◌≡◌, ◌<◌, slice_get, slice_set};
+ghost use Rattle.std.specs.Prelude.{◌≡◌, ◌<◌, slice_get};
 ghost use Rattle.xh_calls.specs.inner.Making.{AreFreshTallies};
-ghost use Rattle.xh_history.specs.Histories.{HasSeen, at, fresh_front};
+ghost use Rattle.xh_history.specs.Histories.{fresh_front};
 ghost use Rattle.xh_kernel.specs.Accounts.{fresh, moved_of};
 ghost use Rattle.xh_place.specs.Tallies.{ids_of};
 
-use crate::words::Glances;
 use std::marker::{Model, PhantomData};
 use xh_arena::{Tally, Vault};
 use xh_calls::{Bundle, Entry, Names, Till};
-use xh_history::{Front, Histories, Pen};
+use xh_history::Front;
 
 /// A worker's tally of each arena, and of each place's and each arena's history what the worker has seen. It tells how many
 /// bytes of each arena the worker ever took and gave back.
@@ -77,17 +76,5 @@ impl<N: Names> Account<N> {
         ensures names { ids_of result.items ≡ N.parts.records.shape.names }
     {
         self.till.tallies
-    }
-
-    /// Shows that what the worker has seen of the pen's place is a beginning of the place's history, in which
-    /// all of the worker's calls stand. The worker has seen it to its end then.
-    pub fn compare(&mut self, histories: &Histories<Entry, Glances>, pen: &mut Pen<Entry>)
-        requires table { histories.now ≡ N.parts.histories }
-        requires pen { pen.old.table ≡ N.parts.histories }
-        ensures pen { pen.new ≡ pen.old }
-        ensures seen { HasSeen self.old.number (at self.old.fronts pen.old.number) pen.old.history }
-        ensures account { self.new ≡ record self.old { fronts = slice_set self.old.fronts pen.old.number pen.old.history } }
-    {
-        histories.compare(pen, &mut self.front);
     }
 }

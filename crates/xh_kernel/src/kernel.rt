@@ -3,7 +3,7 @@ ghost use Rattle.std.specs.Prelude.{◌≡◌, ◌<◌, ◌≤◌, All, IfErr, I
 ghost use Rattle.std.specs.Sync.Mutex.{mutex_guard_value};
 ghost use Rattle.xh_calls.specs.inner.Making.{AreBundles};
 ghost use Rattle.xh_calls.specs.Calls.{Spawns};
-ghost use Rattle.xh_calls.specs.Parts.{IsOpen, vault_names};
+ghost use Rattle.xh_calls.specs.Vaults.{AreKeptVaults};
 ghost use Rattle.xh_history.specs.Histories.{fresh_look, fresh_pen};
 ghost use Rattle.xh_kernel.specs.Accounts.{AreFresh, IsStill};
 ghost use Rattle.xh_calls.specs.declared.call.Call.TheVariants.{Spawn};
@@ -41,7 +41,7 @@ use std::sync::{Mutex, MutexGuard, Wait};
 use xh_arena::Vault;
 use xh_calls::{Arenas, Bundle, Entry, Heap, Names, Waiters};
 use xh_core::{Glance, PLACE_LINES, Refused};
-use xh_history::{Front, Histories, Pen};
+use xh_history::{Front, Histories, NobodyLooks, Pen};
 use xh_model::limits::PLACES;
 use xh_place::{Body, Gate, Place};
 use xh_records::{Records, Seat};
@@ -59,7 +59,7 @@ pub struct Kernel<N: Names> {
 }
 
 /// What a kernel was: the vaults by arena, the places by number, which hold all seats of the records, the pen of
-/// each place's history, the records and the histories.
+/// each place's and each arena's history, the records and the histories.
 #[derive(Drop)]
 pub struct Settled {
     pub vaults: Vec<Vault>,
@@ -67,6 +67,8 @@ pub struct Settled {
     pub pens: Vec<Pen<Entry>>,
     pub records: Records<Body>,
     pub histories: Histories<Entry, Glances>,
+    pub vault_pens: Vec<Pen<Vault>>,
+    pub vault_histories: Histories<Vault, NobodyLooks>,
 }
 
 // The lock of a place that nobody has yet, beside the pen of its history.
@@ -271,18 +273,18 @@ impl<N: Names> Kernel<N> {
     /// Lets the kernel go where a run fails, with all that its locks keep. Its books stay unclosed.
     pub fn discard(self) {}
 
-    /// Takes the kernel apart and changes nothing. What a worker or a look has seen of a place is a beginning of the
-    /// history of the place's pen, as `compare` shows. OutOfMemory where a growth was refused.
+    /// Takes the kernel apart and changes nothing. What a worker has seen of a place or of an arena, or a look of a place, is a
+    /// beginning of the history of its pen, as `compare` shows. OutOfMemory where a growth was refused.
     pub fn settle(self, alloc: Global) -> Result<Settled, Refused>
-        ensures vaults { IfOk result (λ s. (vault_names s.vaults.items ≡ N.parts.records.shape.names) × All (IsOpen N.parts) s.vaults.items) }
+        ensures vaults { IfOk result (λ s. AreKeptVaults N.parts s.vaults.items s.vault_pens.items) }
         ensures few { IfOk result (λ s. vec_len s.vaults ≤ MAX_ARENAS) }
         ensures places { IfOk result (λ s. All (λ p. IsSeatOf s.records p.seat) s.places.items × (vec_len s.places ≡ s.records.shape.places)) }
         ensures kept { IfOk result (λ s. AreKept N.parts s.places.items s.pens.items) }
-        ensures tables { IfOk result (λ s. (s.records ≡ N.parts.records) × (s.histories ≡ N.parts.histories)) }
+        ensures tables { IfOk result (λ s. (s.records ≡ N.parts.records) × (s.histories ≡ N.parts.histories) × (s.vault_histories ≡ N.parts.vaults)) }
         ensures refused { IfErr result (λ e. e ≡ Refused.OutOfMemory) }
     {
         let Shared { heap, histories } = self.shared;
-        let vaults = heap.arenas.into_vaults(alloc)?;
+        let (vaults, vault_pens, vault_histories) = heap.arenas.into_vaults(alloc)?;
         let (places, pens) = unlock_places(alloc, self.places)?;
         Ok(Settled {
             vaults,
@@ -290,6 +292,8 @@ impl<N: Names> Kernel<N> {
             pens,
             records: heap.records,
             histories,
+            vault_pens,
+            vault_histories,
         })
     }
 }

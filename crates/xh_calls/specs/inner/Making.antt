@@ -9,7 +9,7 @@ use Rattle.xh_place.specs.declared.body.Body.{Body}
 use Rattle.xh_records.specs.Showing.{IsEmpty}
 use Rattle.xh_calls.specs.declared.making.Bundle.{Bundle}
 use Rattle.xh_calls.specs.Tallies.{fresh_tally}
-use Rattle.xh_calls.specs.Parts.{IsNew, vault_names}
+use Rattle.xh_calls.specs.Parts.{IsNew, IsUnused, vault_names}
 
 -- the tallies of the worker k, with nothing taken, for vaults of these names
 abbrev pub AreFreshTallies : List TableId → ℕ → List TallyOf → Type 0
@@ -28,7 +28,7 @@ AreAllLots n names ls = (length ls ≡ length names * n) × ((k : ℕ) (l : LotO
 
 -- new vaults with their lots and names
 abbrev pub AreMakings : ℕ → ℕ → ℕ → ℕ → List VaultOf → List (LotOf Body) → List TableId → Type 0
-AreMakings workers records size wear vs ls names = (vault_names vs ≡ names) × All (IsNew workers records size wear) vs × AreAllLots records names ls
+AreMakings workers records size wear vs ls names = (vault_names vs ≡ names) × All (IsNew workers records size wear) vs × All IsUnused vs × AreAllLots records names ls
 
 -- the pens of the histories from the number a on, in which nothing stands yet
 abbrev pub AreFreshFrom : ℕ → List (PenOf VaultOf) → TableId → Type 0

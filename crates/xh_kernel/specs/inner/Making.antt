@@ -9,7 +9,7 @@ use Rattle.xh_place.specs.declared.body.Body.{Body}
 use Rattle.xh_records.specs.Seats.{Held, RecordsOf, IsSeatOf}
 use Rattle.xh_calls.specs.declared.making.Bundle.{Bundle}
 use Rattle.xh_calls.specs.inner.Making.{AreBundles, AreFreshFrom}
-use Rattle.xh_calls.specs.Parts.{PartsOf, IsOpen, vault_names}
+use Rattle.xh_calls.specs.Parts.{PartsOf, IsOpen, IsUnused, vault_names}
 use Rattle.xh_calls.specs.declared.call.Entry.{Entry}
 
 -- the seat of the place k, at its first generation: it holds nothing, has done nothing, and has seen nothing
@@ -46,6 +46,7 @@ pub record AreParts (p : PartsOf) (vs : List VaultOf) (xs : List (Held Body)) (b
     (vault_pens : List (PenOf VaultOf)) (seen : List (FrontOf VaultOf)) : Type 0 where
   pub vaults : vault_names vs ≡ p.records.shape.names
   pub open_vaults : All (IsOpen p) vs
+  pub unused : All IsUnused vs
   pub arenas : length vs ≤ MAX_ARENAS
   pub size : (p.size % UNIT ≡ 0) × (p.size ≤ MAX_BYTES)
   pub places : p.records.shape.places ≡ PLACES

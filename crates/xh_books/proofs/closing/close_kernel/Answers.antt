@@ -1,10 +1,18 @@
 use Rattle.xh_books.proofs.Common.{All, ArenaLine, IsInFlight, List, PLACES, PlaceLine, RecordsOf, TallyOf, all_lengths, ap, arena_lines, bytes_in_flight, length, refl, rules, subst, sym}
 use Rattle.xh_books.proofs.{Common.tallies_of, Common.◌<◌, Common.◌∙◌, Common.◌≡◌, LedgerLines.lines_are_of, LedgerLines.lines_within}
-use Rattle.xh_kernel.proofs.Compared.{kept_own}
+use Rattle.xh_kernel.proofs.Compared.{kept_places, kept_vaults}
 use Rattle.xh_books.proofs.closing.close_kernel.Goals as goal
 
 pub compare-requires-clause-pens : goal.compare-requires-clause-pens
-compare-requires-clause-pens g c = kept_own g.N.Names.parts c.in-Ok-settle.settled.places.items c.in-Ok-settle.settled.pens.items c.in-Ok-settle.ensures.kept
+compare-requires-clause-pens g c = let s = c.in-Ok-settle.settled in (kept_places g.N.Names.parts s.places.items s.pens.items c.in-Ok-settle.ensures.kept).1
+
+pub compare-requires-clause-vault_pens : goal.compare-requires-clause-vault_pens
+compare-requires-clause-vault_pens g c =
+    let s = c.in-Ok-settle.settled in let kept = c.in-Ok-settle.ensures.vaults in ((kept_vaults g.N.Names.parts s.vaults.items s.vault_pens.items kept.kept).1, kept.in_order)
+
+pub close_books-requires-clause-vaults : goal.close_books-requires-clause-vaults
+close_books-requires-clause-vaults g c =
+    let s = c.in-Ok-settle.settled in let kept = c.in-Ok-settle.ensures.vaults in (kept.names, (kept_vaults g.N.Names.parts s.vaults.items s.vault_pens.items kept.kept).0)
 
 pub returns-in-Ok-close_books-clause-closed : goal.returns-in-Ok-close_books-clause-closed
 returns-in-Ok-close_books-clause-closed g c =
@@ -18,10 +26,11 @@ returns-in-Ok-close_books-clause-closed g c =
         places = s.places.items;
         pens = s.pens.items;
         vaults = s.vaults.items;
+        vault_pens = s.vault_pens.items;
         kept = done.kept;
+        kept_vaults = done.vaults;
         workers = count;
         seen = saw.seen;
-        open_vaults = done.vaults;
         arenas = closed.arenas ∙ ap (λ (ts : List (List TallyOf)). arena_lines ts 0 s.vaults.items) saw.same;
         lines = closed.places;
         owned = closed.owned;
@@ -33,9 +42,9 @@ returns-in-Ok-close_books-clause-closed g c =
 
 pub returns-in-Ok-close_books-clause-arenas : goal.returns-in-Ok-close_books-clause-arenas
 returns-in-Ok-close_books-clause-arenas g c =
-    let parts = g.N.Names.parts in let vaults = c.in-Ok-settle.ensures.vaults in
-    let lines = lines_are_of parts (tallies_of c.in-Ok-compare.accounts.items) 0 c.in-Ok-settle.settled.vaults.items vaults.1 in
-    subst (λ (ls : List ArenaLine). (length ls ≡ length parts.records.shape.names) × All (λ a. a.size ≡ parts.size) ls) (sym c.in-Ok-close_books.ensures.arenas) (lines.0 ∙ ap length vaults.0, lines.1)
+    let parts = g.N.Names.parts in let s = c.in-Ok-settle.settled in let kept = c.in-Ok-settle.ensures.vaults in
+    let lines = lines_are_of parts (tallies_of c.in-Ok-compare.accounts.items) 0 s.vaults.items (kept_vaults parts s.vaults.items s.vault_pens.items kept.kept).0 in
+    subst (λ (ls : List ArenaLine). (length ls ≡ length parts.records.shape.names) × All (λ a. a.size ≡ parts.size) ls) (sym c.in-Ok-close_books.ensures.arenas) (lines.0 ∙ ap length kept.names, lines.1)
 
 pub returns-in-Ok-close_books-clause-places : goal.returns-in-Ok-close_books-clause-places
 returns-in-Ok-close_books-clause-places g c =

@@ -1,4 +1,5 @@
-use Rattle.xh_calls.proofs.Common.{Body, IsNew, VaultOf, ap, fits_in, length, length-replicate, ◌∙◌}
+use Rattle.std.specs.Prelude.{replicate}
+use Rattle.xh_calls.proofs.Common.{Body, IsNew, IsUnused, None, VaultOf, ap, fits_in, length, length-replicate, sym, ℕ, ◌∙◌}
 use Rattle.xh_calls.proofs.Made.{makings_more}
 use Rattle.xh_calls.proofs.making.add_vault.Goals as goal
 
@@ -15,6 +16,12 @@ returns-clause-makings c =
       ap (λ (z : VaultOf). length z.arena.cover) e ∙ length-replicate size _,
       ap (λ (z : VaultOf). z.arena.limit) e,
     ) in
+    let long = ap (λ (z : VaultOf). z.arena.cover) e in
+    let unused : IsUnused v = (
+      long ∙ ap (λ (k : ℕ). replicate k None) (sym is.4),
+      ap (λ (z : VaultOf). z.arena.wear) e,
+      ap (λ (z : VaultOf). z.back) e,
+    ) in
     let made = makings_more _ w n size wear c.args.makings.vaults.items c.args.makings.lots.items c.in-Ok.more.items c.args.makings.names v
-    (λ b new. ap (λ (z : Body). fits_in z 0) new) c.requires.makings is c.in-Ok.ensures.lots in
+    (λ b new. ap (λ (z : Body). fits_in z 0) new) c.requires.makings is unused c.in-Ok.ensures.lots in
     rw (c.in_ok-push.ensures.items, c.in_ok-push_back.ensures.items, c.in_ok-append.ensures.items, c.name.ensures.same, c.name.ensures.name) made

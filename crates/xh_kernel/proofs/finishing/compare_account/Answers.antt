@@ -1,11 +1,9 @@
-use Rattle.std.proofs.lemmas.Grind.{common_steps}
-use Rattle.xh_kernel.proofs.Common.{arith, get_or}
-use Rattle.xh_kernel.proofs.Compared.{one_seen}
+use Rattle.xh_kernel.proofs.Common.{AccountOf, Entry, FrontOf, HasSeenEach, History, List, VaultOf, ap, subst, ℕ, ◌∙◌}
 use Rattle.xh_kernel.proofs.finishing.compare_account.Goals as goal
 
-pub loop-pen-preserved : goal.loop-pen-preserved
-loop-pen-preserved g c = let l = c.loop-pen in (
-  grind (arith, common_steps),
-  one_seen c.args.pens.now c.args.account.now l.account c.compare.new.self l.pen-index (get_or l.pens l.pen-index c.pen-item.result) l.invariant.1 (grind (arith, common_steps))
-      (λ d. grind (arith, common_steps)) c.compare.ensures.seen c.compare.ensures.account,
+pub returns-clause-seen : goal.returns-clause-seen
+returns-clause-seen g c = let view = c.account.view_is in (
+  subst (λ (z : ℕ × List (History Entry)). HasSeenEach c.args.pens.now z.0 z.1)
+      (λ i. ((c.account.invariant.2 ∙ ap (λ (a : AccountOf). a.number) view) i, ap (λ (a : AccountOf). a.fronts) view i)) c.compare_front.ensures.seen,
+  subst (λ (f : FrontOf VaultOf). HasSeenEach c.args.vault_pens.now f.number f.fronts) (ap (λ (a : AccountOf). a.vaults) view) c.compare_front-2.ensures.seen,
 )

@@ -6,6 +6,7 @@ invariant_of-result c =
     let unseen = c.in_ok-histories.ensures.fronts in let unasked = c.in_ok-vault_histories.ensures.fronts in let pens = c.in_ok-vault_histories.ensures.pens in record {
       vaults = search rules;
       open_vaults = search rules;
+      unused = search rules;
       arenas = search rules;
       size = search rules;
       places = search rules;

@@ -1,4 +1,4 @@
-use Rattle.xh_calls.proofs.Common.{IsOpen, IsVaultOf, List, PenOf, Some, VaultOf, ap, arith, drop, fresh_pen, length, rules, slice_get, subst, sym, vec_len, ℕ, ◌+◌, ◌<◌, ◌∙◌, ◌∷◌, ◌≡◌}
+use Rattle.xh_calls.proofs.Common.{IsOpen, IsUnused, IsVaultOf, List, PenOf, Some, VaultOf, ap, arith, drop, fresh_pen, length, rules, slice_get, subst, sym, vec_len, ℕ, ◌+◌, ◌<◌, ◌∙◌, ◌∷◌, ◌≡◌}
 use Rattle.std.proofs.lemmas.List.{drop_more, length-drop}
 use Rattle.std.proofs.lemmas.Option.{get_or_from_slice_get, slice_get-get_or, slice_get-map, slice_get_within}
 use Rattle.std.specs.Prelude.{option_map}
@@ -21,6 +21,7 @@ new-requires g c =
     let name : slice_get parts.records.shape.names done ≡ Some v.id =
     ap (λ zs. slice_get zs done) (sym c.requires.names) ∙ slice_get-map (λ (z : VaultOf). z.id) c.args.vaults.items done ∙ ap (option_map (λ (z : VaultOf). z.id)) at in record {
       vault = subst (λ (p : PenOf VaultOf). IsVaultOf parts p.number v) (sym pen) (name, opened);
+      unused = subst IsUnused (get_or_from_slice_get c.args.vaults.items done v v at) (c.requires.unused done v (slice_get_within _ done v at));
       pen = pen ∙ ap (fresh_pen parts.vaults) (sym (ap (λ (p : PenOf VaultOf). p.number) pen));
     }
 

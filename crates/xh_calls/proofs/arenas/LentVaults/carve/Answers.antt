@@ -19,7 +19,7 @@ carve-answer-requires-clause-ids g c =
 pub invariant_of-kept : goal.invariant_of-kept
 invariant_of-kept g c =
     let was = c.kept.invariant in let e = c.enter.ensures in let answer = c.carve-answer.ensures in
-    keeps g.N.Names.parts c.kept.inside.vault c.kept.inside.pen c.enter.new.pen was e.same e.entered
+    keeps g.N.Names.parts c.kept.inside.vault c.kept.inside.pen c.enter.new.pen was e.same e.entered e.theirs
     (carve_stays g.N.Names.parts _ c.args.n _ _ _ _ _ _ c.carve-answer.result was.1 answer.done answer.refused)
 
 pub invariant_of-self : goal.invariant_of-self
@@ -27,7 +27,7 @@ invariant_of-self g c =
     let own = c.args.self.now.own in let t = c.index_mut.result.now in let answer = c.carve-answer.ensures in
     let tallies = taken_or_not _ c.from.result t c.carve-answer.new.tally c.index_mut.ensures.value own.0 c.from.ensures c.requires.ids
     c.carve-answer.result c.args.n _ _ (λ at d. d.shares.taken) (λ e r. r.3) answer.done answer.refused in
-    record { own = (tallies.0, c.enter.ensures.same.2 ∙ own.1) }
+    record { own = (tallies.0, c.enter.ensures.same.2) }
 
 pub returns-clause-tallies : goal.returns-clause-tallies
 returns-clause-tallies g c =

@@ -18,13 +18,13 @@ give_back-requires-clause-ids g c =
 pub invariant_of-kept : goal.invariant_of-kept
 invariant_of-kept g c =
     let was = c.kept.invariant in let e = c.enter.ensures in
-    keeps g.N.Names.parts c.kept.inside.vault c.kept.inside.pen c.enter.new.pen was e.same e.entered (back_stays g.N.Names.parts _ _ _ _ _ _ _ was.1 c.give_back.ensures.done)
+    keeps g.N.Names.parts c.kept.inside.vault c.kept.inside.pen c.enter.new.pen was e.same e.entered e.theirs (back_stays g.N.Names.parts _ _ _ _ _ _ _ was.1 c.give_back.ensures.done)
 
 pub invariant_of-self : goal.invariant_of-self
 invariant_of-self g c =
     let own = c.args.self.now.own in
     let tallies = given _ c.from.result _ _ c.index_mut.ensures.value own.0 c.from.ensures c.requires.ids c.args.lot.now.len c.give_back.ensures.done.shares.back in
-    record { own = (tallies.0, c.enter.ensures.same.2 ∙ own.1) }
+    record { own = (tallies.0, c.enter.ensures.same.2) }
 
 pub returns-clause-tallies : goal.returns-clause-tallies
 returns-clause-tallies g c =

@@ -1,6 +1,7 @@
 use Rattle.std.specs.Array.{FillsFrom}
 use Rattle.std.proofs.Common.{append_assoc}
 use Rattle.std.proofs.lemmas.Grind.{common_steps}
+use Rattle.xh_calls.specs.Vaults.{IsSeenOf}
 use Rattle.xh_history.specs.Histories.{no_table}
 use Rattle.xh_kernel.proofs.Common.{AccountOf, Entry, FrontOf, HasSeen, History, List, VaultOf, [], ap, append-nil, arith, at, refl, rules, subst, sym, there, ℕ, ◌∙◌, ◌∷◌}
 use Rattle.xh_kernel.specs.Looks.{TellsPlace}
@@ -14,7 +15,7 @@ loop-arena-preserved g c =
     let was = c.loop-arena.invariant in (
       λ rest end h. rw (c.push.ensures.items, append_assoc) (was.0 (_ ∷ rest) end (_, c.line.ensures, h)),
       search rules,
-      ap (λ (f : FrontOf VaultOf). f.table) c.line.ensures.2.1.seen ∙ was.2,
+      subst (λ (f : FrontOf VaultOf). IsSeenOf g.N.Names.parts f) (sym c.line.ensures.2.1.seen) was.2,
     )
 
 pub loop-place-preserved : goal.loop-place-preserved

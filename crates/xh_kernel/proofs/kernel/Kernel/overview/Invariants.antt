@@ -1,5 +1,5 @@
 use Rattle.std.specs.Array.{FillsFrom}
-use Rattle.xh_calls.specs.Vaults.{Tells}
+use Rattle.xh_calls.specs.Vaults.{IsSeenOf, Tells}
 use Rattle.xh_kernel.proofs.Common.{length, ◌++◌, ◌≡◌}
 use Rattle.xh_kernel.specs.Looks.{TellsPlace}
 use Rattle.xh_kernel.proofs.kernel.Kernel.overview.Given as goal
@@ -8,7 +8,7 @@ abbrev pub invariant-loop-arena : goal.invariant-loop-arena
 invariant-loop-arena g l =
     let parts = g.N.Names.parts in
     ((rest : _) (end : _) → FillsFrom (Tells parts) l.seen l.arena rest end → FillsFrom (Tells parts) l.initial.seen 0 (l.arenas.items ++ rest) end)
-    × (length l.arenas.items ≡ l.arena) × (l.seen.table ≡ parts.vaults)
+    × (length l.arenas.items ≡ l.arena) × IsSeenOf parts l.seen
 
 abbrev pub invariant-loop-place : goal.invariant-loop-place
 invariant-loop-place g l =
