@@ -151,8 +151,8 @@ pub fn close_kernel<N: Names, A: Drop, E: From<AllocError>>(
             };
             let (histories, arenas) = (settled.histories, settled.vault_histories);
             let (pens, vault_pens) = (settled.pens, settled.vault_pens);
-            let compared = compare(&histories, pens, &arenas, vault_pens, accounts, looks);
-            let Ok(accounts) = compared else {
+            let Ok(accounts) = compare(&histories, pens, &arenas, vault_pens, accounts, looks)
+            else {
                 return Err(E::from(AllocError));
             };
             let (vaults, places) = (settled.vaults, settled.places);

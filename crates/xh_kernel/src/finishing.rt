@@ -130,7 +130,8 @@ pub fn compare<N: Names>(
         return Err(Refused::OutOfMemory);
     }
     let arenas = vault_pens.as_mut_slice();
-    compare_accounts(histories, all, vault_histories, arenas, accounts.as_mut_slice());
+    let each = accounts.as_mut_slice();
+    compare_accounts(histories, all, vault_histories, arenas, each);
     compare_looks(histories, all, looks);
     Ok(accounts)
 }
