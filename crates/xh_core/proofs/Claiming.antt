@@ -1,10 +1,11 @@
 -- A free record is claimed, and gets bytes.
 use Rattle.xh_core.proofs.Common.{Bool, Carve, Claim, Cut, Holder, IsLawful, IsOwner, List, None, Option, Process, Some, Store, Vacate, [], ap, arena_at, arith, can, cases_Bool, cases_eq, cond}
-use Rattle.xh_core.proofs.Common.{drop, eq-eqb, false≢true, first_refusal, free_record, get_or-range_with_len, holds, inl, inr, is_held_by, is_known, is_some, known_there, len, length}
-use Rattle.xh_core.proofs.Common.{length-range_with_len, length-set, lt-ltb, nat_lt, nat_tests, ne_eqb, option_map, owner, position_or_len, range_with_len, refl, set-get_or, slice_index_or}
-use Rattle.xh_core.proofs.Common.{slice_set, space_tests, subst, suc, sym, take, times, true, with_owner, ℕ, ◌%◌, ◌*◌, ◌+◌, ◌-◌, ◌/◌, ◌<◌, ◌==◌, ◌∙◌, ◌∷◌, ◌≡◌, ◌≢◌, ◌≤◌}
-use Rattle.std.proofs.Common.{eqb-true, get_or-drop, get_or-take, is_none, length-drop, length-take-le, position, set-set, slice_range}
-use Rattle.std.proofs.lemmas.List.Quantifiers.{position-Some}
+use Rattle.xh_core.proofs.Common.{eq-eqb, false≢true, first_refusal, free_record, holds, inl, inr, is_held_by, is_known, known_there, len, length, length-set, lt-ltb, nat_lt, nat_tests, ne_eqb}
+use Rattle.xh_core.proofs.Common.{owner, range_with_len, refl, set-get_or, slice_index_or, slice_set, space_tests, subst, suc, sym, times, true, with_owner, zero, ℕ, ◌%◌, ◌*◌, ◌+◌, ◌/◌, ◌<◌}
+use Rattle.xh_core.proofs.Common.{◌==◌, ◌∙◌, ◌∷◌, ◌≡◌, ◌≢◌, ◌≤◌}
+use Rattle.std.proofs.Common.{eqb-true, is_none, set-set}
+use Rattle.std.proofs.lemmas.Option.{same_Some}
+use Rattle.std.specs.List.{find}
 use Rattle.xh_model.specs.Store.{after}
 use Rattle.xh_core.specs.Gaining.{Gained}
 use Rattle.xh_core.proofs.Stores.{done, own_holder, times-cons, at_set, same_len}
@@ -16,65 +17,24 @@ pub record IsFree (s : Store) (a r : ℕ) : Type 0 where
   pub known : is_known s r ≡ true
   pub arena : r / 256 ≡ a
 
-some_is : (o : Option ℕ) (a r : ℕ) → option_map (λ i. 256 * a + i) o ≡ Some r → (i : ℕ) × (o ≡ Some i) × (256 * a + i ≡ r)
-some_is None a r e = absurd (false≢true (ap is_some e))
-some_is (Some i) a r e = (i, refl, cc)
-
-none_is : (o : Option Holder) → is_none o ≡ true → o ≡ None
-none_is None e = refl
-none_is (Some h) e = absurd (false≢true e)
-
-in_arena : (a i r : ℕ) → i < 256 → 256 * a + i ≡ r → (r / 256 ≡ a) × (r % 256 ≡ i)
-in_arena a i r l e = (omega arith, omega arith)
+-- the first number of a range that passes a test is in the range, and passes
+found_in : (p : ℕ → Bool) (a n r : ℕ) → find p (range_with_len a n) ≡ Some r → (p r ≡ true) × ((a ≤ r) × (r < a + n))
+found_in p a zero r e = absurd (cc)
+found_in p a (suc n) r e = elim (cases_Bool (p a)) [
+  | inl y ↦ (let here : a ≡ r = same_Some a r (rw y at e) in (subst (λ (k : ℕ). p k ≡ true) here y, (omega (arith, here), omega (arith, here))))
+  | inr f ↦ (let more = found_in p (a + 1) n r (rw f at e) in (more.0, (omega (arith, more.1.0), omega (arith, more.1.1))))
+]
 
 pub free_is : (s : Store) (a r : ℕ) → IsLawful s → free_record s a ≡ Some r → IsFree s a r
 free_is s a r w e =
-    let found = some_is (position (λ i. is_none (owner s (256 * a + i))) (range_with_len 0 (arena_at s a).records)) a r e in
-    let at = position-Some (λ i. is_none (owner s (256 * a + i))) (range_with_len 0 (arena_at s a).records) found.0 0 found.1 in
-    let l : found.0 < (arena_at s a).records = omega (arith, at.0, length-range_with_len 0 (arena_at s a).records) in
-    let is : slice_index_or (range_with_len 0 (arena_at s a).records) found.0 0 ≡ found.0 = get_or-range_with_len 0 (arena_at s a).records found.0 0 l ∙ omega arith in
+    let at = found_in (λ q. is_none (owner s q)) (256 * a) (arena_at s a).records r e in
     let few : (arena_at s a).records ≤ 256 = w.records a in
-    let there = in_arena a found.0 r (omega (arith, l, few)) found.2 in
+    let arena : r / 256 ≡ a = omega (arith, at.1.0, at.1.1, few) in
     record {
-      free = subst (λ (x : ℕ). owner s x ≡ None) found.2 (none_is (owner s (256 * a + found.0)) (subst (λ (x : ℕ). is_none (owner s (256 * a + x)) ≡ true) is at.1));
-      known = rw (there.0, there.1) (lt-ltb found.0 (arena_at s a).records l);
-      arena = there.0;
+      free = grind (arith, nat_tests, at.0);
+      known = rw arena (lt-ltb (r % 256) (arena_at s a).records (omega (arith, at.1.0, at.1.1, few)));
+      arena = arena;
     }
-
--- among so many owners in a row, the first that is none
-same_place : (p : ℕ → Bool) (os : List (Option Holder)) (at : ℕ) → ((i : ℕ) → i < length os → is_none (slice_index_or os i None) ≡ p (at + i)) →
-    position_or_len is_none os ≡ position_or_len p (range_with_len at (length os))
-same_place p [] at h = refl
-same_place p (o ∷ os) at h =
-    let e : at + 0 ≡ at = omega arith in
-    let here : is_none o ≡ p at = h 0 (omega arith) ∙ ap p e in
-    let next : (i : ℕ) → at + suc i ≡ at + 1 + i = (λ i. omega arith) in
-    let rest : position_or_len is_none os ≡ position_or_len p (range_with_len (at + 1) (length os)) = same_place p os (at + 1) (λ i l. h (suc i) (omega (arith, l)) ∙ ap p (next i)) in
-    elim (cases_Bool (p at)) [ inl y ↦ rw (here, y) refl | inr n ↦ rw (here, n, rest) refl ]
-
-pub same_position : (p : ℕ → Bool) (os : List (Option Holder)) (n : ℕ) → length os ≡ n → ((i : ℕ) → i < n → is_none (slice_index_or os i None) ≡ p i) →
-    position is_none os ≡ position p (range_with_len 0 n)
-same_position p os n e h =
-    let zero_more : (i : ℕ) → i ≡ 0 + i = (λ i. omega arith) in
-    let at : position_or_len is_none os ≡ position_or_len p (range_with_len 0 (length os)) = same_place p os 0 (λ i l. h i (subst (λ (k : ℕ). i < k) e l) ∙ ap p (zero_more i)) in
-    let l : length (range_with_len 0 (length os)) ≡ length os = length-range_with_len 0 (length os) in
-    subst (λ (k : ℕ). position is_none os ≡ position p (range_with_len 0 k)) e (rw (at, l) refl)
-
--- what the first free one of an arena's records in the list of all owners makes of its number
-pub found_free : (s : Store) (a n : ℕ) (o : Option ℕ) → IsLawful s → a < length s.arenas → (arena_at s a).records ≡ n →
-    o ≡ position is_none (slice_range s.owners (256 * a) (256 * a + n)) → option_map (λ i. 256 * a + i) o ≡ free_record s a
-found_free s a n o w l e is =
-    let few : n ≤ 256 = subst (λ (k : ℕ). k ≤ 256) e (w.records a) in
-    let within : 256 * a + n ≤ length s.owners = (let long : length s.owners ≡ 256 * length s.arenas = w.long in omega (arith, l, few, long)) in
-    let count : (256 * a + n) - 256 * a ≡ n = omega arith in
-    let rest : List (Option Holder) = drop (256 * a) s.owners in
-    let part : slice_range s.owners (256 * a) (256 * a + n) ≡ take n rest = ap (λ (k : ℕ). take k rest) count in
-    let room : n ≤ length rest = (let d : length rest ≡ length s.owners - 256 * a = length-drop (256 * a) s.owners in omega (arith, d, within)) in
-    let long : length (take n rest) ≡ n = length-take-le n rest room in
-    let each : (i : ℕ) → i < n → is_none (slice_index_or (take n rest) i None) ≡ is_none (owner s (256 * a + i)) =
-    (λ i b. ap is_none (get_or-take n rest i None b ∙ get_or-drop (256 * a) s.owners i None)) in
-    ap (λ (x : Option ℕ). option_map (λ i. 256 * a + i) x) (is ∙ (ap (position is_none) part ∙ same_position (λ i. is_none (owner s (256 * a + i))) (take n rest) n long each))
-    ∙ ap (λ (k : ℕ). option_map (λ i. 256 * a + i) (position (λ i. is_none (owner s (256 * a + i))) (range_with_len 0 k))) (sym e)
 
 -- ---- a claim
 
@@ -95,7 +55,7 @@ no_bytes o n e i = subst (λ (x : Option Holder). IsOwner x n) e i
 pub in_range : (s : Store) (r : ℕ) → IsLawful s → is_known s r ≡ true → r < length s.owners
 in_range s r w k = let l = known_there s r k in let e = w.long in omega arith
 
-claim_is : (s : Store) (p r : ℕ) → p < 65504 → is_known s r ≡ true → owner s r ≡ None → after (Claim p r) s ≡ with_owner r (Some (Process p)) s
+pub claim_is : (s : Store) (p r : ℕ) → p < 65504 → is_known s r ≡ true → owner s r ≡ None → after (Claim p r) s ≡ with_owner r (Some (Process p)) s
 claim_is s p r l k f = done (Claim p r) s (rw (lt-ltb p 65504 l, k, f) refl)
 
 pub claimed : (s : Store) (p r : ℕ) → IsLawful s → p < 65504 → is_known s r ≡ true → owner s r ≡ None → Claimed p r s (after (Claim p r) s)

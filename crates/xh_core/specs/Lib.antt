@@ -14,4 +14,3 @@ pub mod Pairing
 pub mod ArenaLines
 pub mod Flight
 pub mod Wearing
-pub mod inner

@@ -1,7 +1,7 @@
 -- Free records and room for bytes: what an arena has, and why it has none.
 use Rattle.std.specs.Prelude.{ℕ, ◌+◌, ◌-◌, ◌*◌, ◌/◌, ◌%◌, ◌==◌, ◌||◌, Bool, not, [], ◌∷◌}
-use Rattle.std.specs.Prelude.{Option, is_none, nat_le, nat_lt, option_map, unwrap_or}
-use Rattle.std.specs.List.{position, range_with_len}
+use Rattle.std.specs.Prelude.{Option, is_none, nat_le, nat_lt, unwrap_or}
+use Rattle.std.specs.List.{find, range_with_len}
 use Rattle.xh_model.specs.declared.limits.TheConstants.{END_BYTES, MAX_HELD, MAX_RECORDS, UNIT}
 use Rattle.xh_model.specs.declared.event.Event.TheVariants.{Claim}
 use Rattle.xh_model.specs.Cover.{first_fit}
@@ -11,7 +11,7 @@ use Rattle.xh_core.specs.Refusing.{Tests}
 
 -- the number of the lowest free record of an arena, if there is one
 abbrev pub free_record : Store → ℕ → Option ℕ
-free_record s a = option_map (λ i. MAX_RECORDS * a + i) (position (λ i. is_none (owner s (MAX_RECORDS * a + i))) (range_with_len 0 (arena_at s a).records))
+free_record s a = find (λ r. is_none (owner s r)) (range_with_len (MAX_RECORDS * a) (arena_at s a).records)
 
 -- the same; where there is none, a number that no record has
 abbrev pub lowest : Store → ℕ → ℕ

@@ -1,9 +1,8 @@
 //! The records of a channel's two ends.
-ghost use Rattle.std.specs.Prelude.{◌≡◌, ◌||◌, ◌<◌, Some, None, IfOk, OnErr, MatchOption, MatchResult, is_none, length, true};
+ghost use Rattle.std.specs.Prelude.{◌≡◌, ◌<◌, IfOk, None, OnErr, MatchResult, Some, length};
 ghost use Rattle.xh_model.specs.declared.limits.TheConstants.{PROCESSES};
 ghost use Rattle.xh_model.specs.Store.{IsLawful};
-ghost use Rattle.xh_core.specs.Space.{free_record, claimed_once, pair_tests};
-ghost use Rattle.xh_core.specs.inner.Pairing.{ClaimedTwo};
+ghost use Rattle.xh_core.specs.Space.{pair_tests};
 ghost use Rattle.xh_core.specs.Pairing.{Paired, moved};
 ghost use Rattle.xh_core.specs.Refusing.{first_refusal};
 
@@ -12,25 +11,6 @@ use crate::refused::Refused;
 use xh_model::limits::END_BYTES;
 
 impl Plain {
-    /// The two lowest free records of an arena are claimed, or none.
-    fn claim_two(&mut self, p: u16, arena: u32) -> Option<(u16, u16)>
-        requires lawful { IsLawful self.old }
-        requires process { p < PROCESSES }
-        requires arena { arena < length self.old.arenas }
-        ensures done { MatchOption result ((is_none (free_record self.old arena) || is_none (free_record (claimed_once p self.old arena) arena)) ≡ true)
-            (λ ends. ClaimedTwo p arena ends.0 ends.1 self.old self.new) }
-        ensures unchanged { result ≡ None → self.new ≡ self.old }
-    {
-        let r = self.free_record(arena)?;
-        self.claim(p, r);
-        let Some(t) = self.free_record(arena) else {
-            self.vacate(p, r);
-            return None;
-        };
-        self.claim(p, t);
-        Some((r, t))
-    }
-
     /// The two lowest free records of an arena are claimed by the process `p` and get 32 bytes each, the halves of
     /// one run of 64. NoRecord, NoSpace and Worn; each leaves all as it was.
     pub fn allocate_ends(&mut self, p: u16, arena: u32) -> Result<(u16, u16), Refused>
@@ -41,16 +21,19 @@ impl Plain {
         ensures unchanged { OnErr result (self.new ≡ self.old) }
     {
         let _start = &self.records;
-        let Some((r, t)) = self.claim_two(p, arena) else {
+        let Some(r) = self.free_record(arena) else {
             return Err(Refused::NoRecord);
         };
-        if let Err(refused) = self.carve(p, r, 2 * END_BYTES) {
-            self.vacate(p, t);
-            self.vacate(p, r);
+        self.claim(p, r);
+        let next = self.free_record(arena);
+        self.vacate(p, r);
+        let Some(t) = next else {
+            return Err(Refused::NoRecord);
+        };
+        if let Err(refused) = self.allocate(p, r, 2 * END_BYTES) {
             return Err(refused);
         }
-        self.cut(p, r, t, END_BYTES);
-        let _open = &self.records;
+        self.part(p, r, t, END_BYTES);
         Ok((r, t))
     }
 

@@ -1,7 +1,5 @@
 //! Several events at a time, and what is read of the arenas.
 ghost use Rattle.std.specs.Prelude.{◌≡◌, ◌*◌, ◌≢◌, ℕ, ◌+◌, ◌<◌, ◌≤◌, ◌/◌, ◌%◌, ◌∷◌, [], Some, None, OnOk, OnErr, MatchResult, length, true};
-ghost use Rattle.std.specs.List.{position};
-ghost use Rattle.std.specs.Prelude.{is_none};
 ghost use Rattle.xh_model.specs.declared.limits.TheConstants.{MAX_BYTES, MAX_RECORDS, PROCESSES, UNIT};
 ghost use Rattle.xh_model.specs.declared.event.Event.TheVariants.{Claim, Carve, Cut, GiveBack, Vacate};
 ghost use Rattle.xh_model.specs.declared.event.Holder.TheVariants.{Process};
@@ -12,15 +10,7 @@ ghost use Rattle.xh_core.specs.Refusing.{first_refusal};
 
 use super::Plain;
 use crate::refused::Refused;
-use xh_model::Holder;
 use xh_model::limits::MAX_RECORDS;
-
-/// The first of the records that nobody holds.
-fn first_free(owners: &[Option<Holder>]) -> Option<usize>
-    ensures { result ≡ position is_none owners.now }
-{
-    owners.iter().position(|owner| owner.is_none())
-}
 
 impl Plain {
     /// How many arenas there are.
@@ -54,11 +44,9 @@ impl Plain {
         requires { arena < length self.now.arenas }
         ensures { result ≡ free_record self.now arena }
     {
-        let first = MAX_RECORDS as usize * arena as usize;
-        match first_free(&self.owners[first..first + usize::from(self.records)]) {
-            Some(index) => Some((first + index) as u16),
-            None => None,
-        }
+        let count = self.records;
+        let first = MAX_RECORDS * arena as u16;
+        (first..first + count).find(|&r| self.holder(r).is_none())
     }
 
     /// A free record is claimed by the process `p` and gets `n` bytes, at the lowest place of its arena that has
