@@ -12,8 +12,8 @@ use Rattle.atomic_table.proofs.Lists.{at_set, set_else}
 use Rattle.xh_history.specs.declared.view.View.{View}
 use Rattle.xh_model.specs.declared.limits.TheConstants.{PLACES}
 use Rattle.xh_history.specs.Histories.{History, HasSeen, IsLastShown, StartsWith, calls_of, at, last_of}
-use Rattle.xh_history.specs.inner.Views.{Fits, IsFront, IsPen, AreKeptHistories, Looked, Serves, ShowsNext, WritesPlace, both, given_before, kept_from, signed, spent, view_from, with_calls}
-use Rattle.xh_history.specs.inner.Views.{all_words, stride}
+use Rattle.xh_history.specs.inner.Views.{Fits, IsFront, IsFrontOrNone, IsPen, AreKeptHistories, Looked, Serves, ShowsNext, WritesPlace, all_words, both, given_before}
+use Rattle.xh_history.specs.inner.Views.{kept_from, signed, spent, stride, view_from, with_calls}
 
 -- the function with another value at one number
 abbrev but : {A : Type 0} → (ℕ → A) → ℕ → A → ℕ → A
@@ -83,16 +83,16 @@ module _ {E : Type 0} (shows : ℕ → ℕ → E → Type 0) where
   starts_on a b c x y = (y.0 ++ x.0, x.1 ∙ ap (λ (l : History E). l ++ x.0) y.1 ∙ append_assoc c y.0 x.0)
 
   -- A step after which a seat has seen the history of a place to its end, to which more came, or nothing. Nothing came where another seat writes the place, and no call of a worker whom another serves.
-  extends : {S : Type 0} (s : State S (View E)) (told : AreKeptHistories shows s) (id word : ℕ) (me : Me S (View E)) (p m : ℕ) (mine new more : History E) → get_elem? s.views id ≡ some me.0
-      → word ≡ stride * suc p → p < PLACES → p < length me.0.fronts → new ≡ told.0 p ++ more → IsLastShown shows p new m → ((q : ℕ) → WritesPlace me.0 q → mine ≡ but told.0 p new q)
+  extends : {S : Type 0} (times : ℕ) (s : State S (View E)) (told : AreKeptHistories shows s) (id word : ℕ) (me : Me S (View E)) (p m : ℕ) (mine new more : History E)
+      → get_elem? s.views id ≡ some me.0 → word ≡ stride * suc p → p < PLACES → p < length me.0.fronts → new ≡ told.0 p ++ more → IsLastShown shows p new m → ((q : ℕ) → WritesPlace me.0 q → mine ≡ but told.0 p new q)
       → ((j : ℕ) (u : View E) → j ≢ id → Fits told.0 told.1 told.2 j u → (WritesPlace u p → more ≡ []) × ((k : ℕ) → Serves u k → calls_of k more ≡ []))
-      → AreKeptHistories shows (stepped s word m id me.1 (record me.0 { history = mine; fronts = slice_set me.0.fronts p new }) keeps)
-  extends s told id word me p m mine new more here aligned inside long longer shown whole apart =
+      → AreKeptHistories shows (stepped s word m id me.1 (record me.0 { history = mine; fronts = slice_set me.0.fronts p new; looks = times }) keeps)
+  extends times s told id word me p m mine new more here aligned inside long longer shown whole apart =
       let v : View E = me.0 in
       let h = told.0 in
       let h' = but h p new in
       let f = told.4 id v here in
-      let w : View E = record v { history = mine; fronts = slice_set v.fronts p new } in
+      let w : View E = record v { history = mine; fronts = slice_set v.fronts p new; looks = times } in
       let ends : at w.fronts p ≡ new = get_or-set_same v.fronts p new [] long in
       let own : Fits h' told.1 told.2 id w = record {
         whole = whole;
@@ -135,7 +135,7 @@ module _ {E : Type 0} (shows : ℕ → ℕ → E → Type 0) where
         with_calls es v,
         keeps,
         tt,
-        extends s told id word (v, taken) p (unwrap_or stored n) new new (signed k es) here (omega (arith, aligned, writer.is))
+        extends v.looks s told id word (v, taken) p (unwrap_or stored n) new new (signed k es) here (omega (arith, aligned, writer.is))
             (omega (arith, writer.place, writer.is)) (omega (arith, writer.place, writer.is, server.fronts)) (ap (λ (l : History E). l ++ signed k es) whole)
             (subst (λ (i : ℕ). IsLastShown shows i new (unwrap_or stored n)) (sym writer.is) (shown n before))
             (at_each (λ q x. WritesPlace v q → new ≡ x) told.0 p new (λ _. refl) (λ q ne st. absurd (ne (omega (arith, st.0, st.1, writer.is, writer.alone)))))
@@ -157,10 +157,10 @@ module _ {E : Type 0} (shows : ℕ → ℕ → E → Type 0) where
       let there : new ≡ told.0 p = sym (mine.begun p).1 in
       let whole : WritesPlace v p → v.history ≡ new = λ st. mine.whole p st ∙ sym there in
       let shown : IsLastShown shows p new (get_or s.words word 0) = rw (there, aligned) (told.3.1 p inside) in (
-        record v { fronts = slice_set v.fronts p new },
+        record v { fronts = slice_set v.fronts p new; looks = suc v.looks },
         keeps,
         tt,
-        extends s told id word me p (get_or s.words word 0) v.history new [] here aligned inside (omega (arith, inside, long)) (there ∙ sym (append-nil (told.0 p))) shown
+        extends (suc v.looks) s told id word me p (get_or s.words word 0) v.history new [] here aligned inside (omega (arith, inside, long)) (there ∙ sym (append-nil (told.0 p))) shown
             (at_each (λ q x. WritesPlace v q → v.history ≡ x) told.0 p new whole (λ q _. mine.whole q)) (λ j u ne g. (λ _. refl, λ k sv. refl)),
         (later, refl, shown, whole, λ k sv. subst (HasSeen k (at v.fronts p)) (sym there) (mine.seen k sv p)),
       )
@@ -245,3 +245,14 @@ module _ {E : Type 0} (shows : ℕ → ℕ → E → Type 0) where
       server = λ k sv. refl;
     },
   )
+
+-- a pen is one still, once the worker whom it took in has gone again
+pub stays_pen : {E : Type 0} (number : ℕ) (pen front w x y : View E) (es : List E) → IsPen number pen → IsFrontOrNone (front ∷ []) → x ≡ both pen front → y ≡ with_calls es x
+    → w ≡ kept_from y.place (suc y.worker) y → IsPen number w
+stays_pen {E = E} number pen front w x y es writer server a b c =
+    subst (IsPen number) (sym (c ∙ ap (λ (v : View E). kept_from v.place (suc v.worker) v) (b ∙ ap (with_calls es) a))) record {
+      place = writer.place;
+      is = writer.is;
+      alone = writer.alone;
+      none = omega (arith, server.alone);
+    }

@@ -38,16 +38,18 @@ pub record PenOf (E : Type 0) : Type 0 where
   pub number : ℕ
   pub history : History E
 
--- the table, the worker's number, and of each place what the worker has seen of its history
+-- the table, the worker's number, of each place what the worker has seen of its history, and how often it looked
 pub record FrontOf (E : Type 0) : Type 0 where
   pub table : TableId
   pub number : ℕ
   pub fronts : List (History E)
+  pub looks : ℕ
 
--- the table, and of each place what the look has seen of its history
+-- the table, of each place what the look has seen of its history, and how often it looked
 pub record LookOf (E : Type 0) : Type 0 where
   pub table : TableId
   pub fronts : List (History E)
+  pub looks : ℕ
 
 -- of a place on which nothing was called yet
 abbrev pub fresh_pen : {E : Type 0} → TableId → ℕ → PenOf E
@@ -55,11 +57,11 @@ fresh_pen id k = record { table = id; number = k; history = [] }
 
 -- of a worker who has seen nothing
 abbrev pub fresh_front : {E : Type 0} → TableId → ℕ → FrontOf E
-fresh_front id k = record { table = id; number = k; fronts = replicate PLACES [] }
+fresh_front id k = record { table = id; number = k; fronts = replicate PLACES []; looks = 0 }
 
 -- of a look that has seen nothing
 abbrev pub fresh_look : {E : Type 0} → TableId → LookOf E
-fresh_look id = record { table = id; fronts = replicate PLACES [] }
+fresh_look id = record { table = id; fronts = replicate PLACES []; looks = 0 }
 
 -- the look saw the history of the place p to its end, and of the others what it had seen; the word n shows the last call
 abbrev pub Sees : {E : Type 0} → (ℕ → ℕ → E → Type 0) → List (History E) → ℕ → ℕ → List (History E) → Type 0
@@ -71,4 +73,4 @@ no_table = record { words = 0; slots = 0; views_name = 0; atom = 0; block = 0; o
 
 -- of nobody, at no table
 abbrev pub no_front : {E : Type 0} → FrontOf E
-no_front = record { table = no_table; number = 0; fronts = [] }
+no_front = record { table = no_table; number = 0; fronts = []; looks = 0 }

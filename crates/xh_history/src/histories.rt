@@ -155,7 +155,7 @@ impl<E, S: Shows<E>> Histories<E, S> {
     /// The place's word, which shows the last call of its history.
     pub fn look(&self, look: &mut Look<E>, place: u8) -> u64
         requires { (look.old.table ≡ self.now) × (place < PLACES) }
-        ensures same { look.new.table ≡ look.old.table }
+        ensures same { look.new ≡ record look.old { fronts = look.new.fronts; looks = suc look.old.looks } }
         ensures seen { Sees S.shows look.old.fronts place result look.new.fronts }
     {
         sight(&self.table.shared, &mut look.seat, place)
@@ -164,7 +164,7 @@ impl<E, S: Shows<E>> Histories<E, S> {
     /// As `look`, by a worker: all that is new to it are calls of others.
     pub fn look_by(&self, front: &mut Front<E>, place: u8) -> u64
         requires { (front.old.table ≡ self.now) × (place < PLACES) }
-        ensures same { front.new ≡ record front.old { fronts = front.new.fronts } }
+        ensures same { front.new ≡ record front.old { fronts = front.new.fronts; looks = suc front.old.looks } }
         ensures seen { Sees S.shows front.old.fronts place result front.new.fronts }
         ensures own { HasSeen front.old.number (at front.old.fronts place) (at front.new.fronts place) }
     {

@@ -64,7 +64,8 @@ impl<E> Front<E> {
     }
 }
 
-/// A seat that adds nothing. Of each place it has seen a beginning of the place's history. It has no bytes.
+/// A seat that adds nothing. Of each place it has seen a beginning of the place's history, by so many looks. It has
+/// no bytes.
 #[derive(Drop)]
 pub struct Look<E> {
     pub(crate) seat: Seat<(), View<E>>,
@@ -76,7 +77,7 @@ impl<E> Model for Look<E> {
 
     ghost Value = { LookOf E };
 
-    ghost view = { λ l. record { table = l.seat.table_id; fronts = l.seat.me.0.fronts } };
+    ghost view = { λ l. record { table = l.seat.table_id; fronts = l.seat.me.0.fronts; looks = l.seat.me.0.looks } };
 
     ghost invariant = { λ l. IsOnlooker l.seat.me.0 };
 }

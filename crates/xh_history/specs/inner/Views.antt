@@ -50,7 +50,7 @@ module _ {E : Type 0} where
 
   -- the seat of all places from p on and of all workers from k on, on which nothing was called yet
   abbrev pub view_from : ℕ → ℕ → View E
-  view_from p k = record { place = p; places_end = PLACES; history = []; worker = k; workers_end = 256; fronts = replicate PLACES [] }
+  view_from p k = record { place = p; places_end = PLACES; history = []; worker = k; workers_end = 256; fronts = replicate PLACES []; looks = 0 }
 
   -- the seat keeps its places from p on and its workers from k on
   abbrev pub kept_from : ℕ → ℕ → View E → View E
@@ -62,10 +62,10 @@ module _ {E : Type 0} where
 
   -- the seat of a place takes in that of a worker, or what a look has seen
   abbrev pub both : View E → View E → View E
-  both v w = record v { worker = w.worker; workers_end = w.workers_end; fronts = w.fronts }
+  both v w = record v { worker = w.worker; workers_end = w.workers_end; fronts = w.fronts; looks = w.looks }
 
   abbrev pub spent : View E
-  spent = record { place = 0; places_end = 0; history = []; worker = 0; workers_end = 0; fronts = [] }
+  spent = record { place = 0; places_end = 0; history = []; worker = 0; workers_end = 0; fronts = []; looks = 0 }
 
   -- the calls, each beside the number of its worker
   abbrev pub signed : ℕ → List E → History E
@@ -83,9 +83,10 @@ module _ {E : Type 0} where
   abbrev pub Added : List E → {S : Type 0} → Step S → Me S (View E) → ℕ → Me S (View E) → Type 0
   Added es s v n w = (w ≡ (with_calls es v.0, v.1)) × HasSeen v.0.worker (at v.0.fronts v.0.place) v.0.history
 
-  -- a load of the place's word: the history was seen to its end, of which the word shows the last call; a seat that writes it knows that end, and had seen all calls of a worker whom it serves
+  -- a load of the place's word, one look: the history was seen to its end, of which the word shows the last call; a seat that writes it knows that end, and had seen all calls of a worker whom it serves
   abbrev pub Looked : (ℕ → ℕ → E → Type 0) → {S : Type 0} → ℕ → Me S (View E) → ℕ → Me S (View E) → Type 0
-  Looked shows p v n w = (later : History E) × (w ≡ (record v.0 { fronts = slice_set v.0.fronts p (at v.0.fronts p ++ later) }, v.1)) × IsLastShown shows p (at v.0.fronts p ++ later) n
+  Looked shows p v n w = (later : History E) × (w ≡ (record v.0 { fronts = slice_set v.0.fronts p (at v.0.fronts p ++ later); looks = suc v.0.looks }, v.1))
+      × IsLastShown shows p (at v.0.fronts p ++ later) n
       × (WritesPlace v.0 p → v.0.history ≡ at v.0.fronts p ++ later) × ((k : ℕ) → Serves v.0 k → HasSeen k (at v.0.fronts p) (at v.0.fronts p ++ later))
 
   -- the seat that writes the history of this one place, and serves no worker
@@ -119,4 +120,4 @@ module _ {E : Type 0} where
   -- what contracts see of it
   abbrev pub front_of : TableId → List (View E) → FrontOf E
   front_of id [] = no_front
-  front_of id (v ∷ vs) = record { table = id; number = v.worker; fronts = v.fronts }
+  front_of id (v ∷ vs) = record { table = id; number = v.worker; fronts = v.fronts; looks = v.looks }
