@@ -5,18 +5,23 @@ use Rattle.xh_calls.specs.Parts.{PartsOf}
 use Rattle.xh_calls.specs.Tallies.{fresh_tally}
 use Rattle.xh_calls.specs.Vaults.{AsksVault, Entered, EntersSome}
 use Rattle.xh_core.specs.declared.refused.Refused.{Refused}
-use Rattle.xh_history.specs.Histories.{FrontOf, History, fresh_front}
+use Rattle.xh_history.specs.Histories.{FrontOf, History, LookOf, fresh_front}
 use Rattle.xh_calls.specs.declared.call.Entry.{Entry}
 use Rattle.xh_model.specs.declared.limits.TheConstants.{PLACES}
 use Rattle.xh_place.specs.Ending.{HasGivenBack}
 use Rattle.xh_place.specs.Tallies.{took, gave}
 
--- a worker's number, its tallies by arena, and what it has seen of the histories of the places, by place, and of those of the arenas
+-- a worker's number, its tallies by arena, what it has seen of the histories of the places, by place, how often it looked at one, and what it has seen of those of the arenas
 pub record AccountOf : Type 0 where
   pub number : ℕ
   pub tallies : List TallyOf
   pub fronts : List (History Entry)
+  pub looks : ℕ
   pub vaults : FrontOf VaultOf
+
+-- what the worker of a kernel of these parts has seen of the places, as a look of it has
+abbrev pub look_of : PartsOf → AccountOf → LookOf Entry
+look_of parts a = record { table = parts.histories; fronts = a.fronts; looks = a.looks }
 
 -- what a tally has taken and given back
 abbrev pub moved_of : Option TallyOf → Option (ℕ × ℕ)
@@ -48,7 +53,7 @@ HasBack bytes old new = HasGivenBack bytes old.tallies new.tallies × EntersSome
 
 -- the account of the worker k of a kernel of these parts, with nothing taken and nothing seen
 abbrev pub fresh : PartsOf → ℕ → AccountOf
-fresh parts k = record { number = k; tallies = map (fresh_tally k) parts.records.shape.names; fronts = replicate PLACES []; vaults = fresh_front parts.vaults k }
+fresh parts k = record { number = k; tallies = map (fresh_tally k) parts.records.shape.names; fronts = replicate PLACES []; looks = 0; vaults = fresh_front parts.vaults k }
 
 -- the accounts of the workers 0, 1, .., in order
 abbrev pub AreFresh : PartsOf → List AccountOf → Type 0

@@ -29,7 +29,7 @@ impl<N: Names> Model for Account<N> {
 
     ghost Value = { AccountOf };
 
-    ghost view = { λ a. record { number = a.number; tallies = a.till.tallies.items; fronts = a.front.fronts; vaults = a.till.seen } };
+    ghost view = { λ a. record { number = a.number; tallies = a.till.tallies.items; fronts = a.front.fronts; looks = a.front.looks; vaults = a.till.seen } };
 
     ghost invariant = { λ a. IsTillOf N.parts a.till × (a.front.table ≡ N.parts.histories) × (a.front.number ≡ a.number) × (a.number < N.parts.workers) };
 }

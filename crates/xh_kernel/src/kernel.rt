@@ -248,7 +248,7 @@ impl<N: Names> Kernel<N> {
     pub fn glance(&self, place: u8, look: &mut Look) -> Result<Glance, Refused>
         requires { look.old.table ≡ N.parts.histories }
         ensures same { look.new.table ≡ look.old.table }
-        ensures seen { IfOk result (λ g. (place < PLACES) × HasGlanced look.old.fronts place g look.new.fronts) }
+        ensures seen { IfOk result (λ g. (place < PLACES) × HasGlanced look.old place g look.new) }
         ensures refused { IfErr result (λ e. (e ≡ Refused.NoProcess) × (PLACES ≤ place) × (look.new ≡ look.old)) }
     {
         if place >= PLACES {

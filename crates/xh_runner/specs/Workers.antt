@@ -62,10 +62,10 @@ module _ (parts : PartsOf) (leads : Leading) where
   Asked (Kill by victim budget) a old new = Kills leads by victim (min budget MAX_BUDGET) old new a
   Asked (Glance place) a old new = new ≡ old
 
--- a glance sees what the place shows, and no less than before; no other call looks
+-- a glance looks once at the place, sees what it shows, and no less than before; no other call looks
 abbrev pub IsLookAfter : (q : Question) → AnswerTo q → LookOf Entry → LookOf Entry → Type 0
-IsLookAfter (Glance place) a old new = (new.table ≡ old.table)
-    × MatchResult a (λ g. (place < PLACES) × HasGlanced old.fronts place g new.fronts) (λ why. (why ≡ NoProcess) × (PLACES ≤ place) × (new ≡ old))
+IsLookAfter (Glance place) a old new =
+    MatchResult a (λ g. (place < PLACES) × HasGlanced old place g new) (λ why. (why ≡ NoProcess) × (PLACES ≤ place) × (new ≡ old))
 IsLookAfter q a old new = new ≡ old
 
 -- what a worker of a kernel of these parts does at a question

@@ -3,7 +3,8 @@ use Rattle.std.proofs.Common.{append_assoc}
 use Rattle.std.proofs.lemmas.Grind.{common_steps}
 use Rattle.xh_calls.specs.Vaults.{IsSeenOf}
 use Rattle.xh_history.specs.Histories.{no_table}
-use Rattle.xh_kernel.proofs.Common.{AccountOf, Entry, FrontOf, HasSeen, History, List, VaultOf, [], ap, append-nil, arith, at, refl, rules, subst, sym, there, ℕ, ◌∙◌, ◌∷◌}
+use Rattle.xh_kernel.proofs.Common.{AccountOf, Entry, FrontOf, HasSeen, LookOf, VaultOf, [], ap, append-nil, arith, at, refl, rules, subst, sym, there, ℕ, ◌∙◌, ◌∷◌}
+use Rattle.xh_kernel.specs.Accounts.{look_of}
 use Rattle.xh_kernel.specs.Looks.{TellsPlace}
 use Rattle.xh_kernel.proofs.kernel.Kernel.overview.Goals as goal
 
@@ -22,20 +23,24 @@ pub loop-place-preserved : goal.loop-place-preserved
 loop-place-preserved g c =
     let was = c.loop-place.invariant in let saw = c.look_by.ensures in
     let own = subst (λ (n : ℕ). HasSeen n (at c.loop-place.front.fronts c.loop-place.place) (at c.look_by.new.front.fronts c.loop-place.place))
-    (ap (λ (f : FrontOf Entry). f.number) was.2) saw.own in (
-      λ rest end h. rw (c.push-in-loop-place.ensures.items, append_assoc)
-          (was.0 (_ ∷ rest) end (_, ((saw.seen.0, saw.seen.1, first_of (search rules, grind (arith, common_steps))), own), h)),
+    was.2 saw.own in
+    let table = g.N.Names.parts.histories in let front = c.look_by.new.front in
+    let to : LookOf Entry = record { table = table; fronts = front.fronts; looks = front.looks } in (
+      λ rest end h. rw (c.push-in-loop-place.ensures.items, append_assoc) (was.0 (_ ∷ rest) end
+          (to, ((saw.seen.0, λ i. record { table = table; fronts = saw.seen.1 i; looks = (saw.same i).looks }, first_of (search rules, grind (arith, common_steps))), own), h)),
       search rules,
-      saw.same ∙ ap (λ (f : FrontOf Entry). record f { fronts = c.look_by.new.front.fronts }) was.2,
+      ap (λ (f : FrontOf Entry). f.number) saw.same ∙ was.2,
+      ap (λ (f : FrontOf Entry). f.table) saw.same ∙ was.3,
     )
 
 pub returns : goal.returns
 returns g c =
-    let view = c.account.view_is in let front = c.loop-place.front.fronts in let seen = c.loop-arena.seen in
+    let view = c.account.view_is in let front = c.loop-place.front in let seen = c.loop-arena.seen in let parts = g.N.Names.parts in
+    let to : LookOf Entry = record { table = parts.histories; fronts = front.fronts; looks = front.looks } in
     record {
       every = search rules;
       arenas = rw (sym view) (rw append-nil at (c.loop-arena.invariant.0 [] seen refl));
-      places = subst (λ (z : ℕ × List (History Entry)). FillsFrom (TellsPlace z.0) z.1 0 c.loop-place.places.items front)
-          (λ i. ((c.account.invariant.2 ∙ ap (λ (a : AccountOf). a.number) view) i, ap (λ (a : AccountOf). a.fronts) view i)) (rw append-nil at (c.loop-place.invariant.0 [] front refl));
-      rest = ap (λ (a : AccountOf). record a { fronts = front; vaults = seen }) view;
+      places = subst (λ (z : ℕ × LookOf Entry). FillsFrom (TellsPlace z.0) z.1 0 c.loop-place.places.items to)
+          (λ i. ((c.account.invariant.2 ∙ ap (λ (a : AccountOf). a.number) view) i, look_of parts (view i))) (rw append-nil at (c.loop-place.invariant.0 [] to refl));
+      rest = ap (λ (a : AccountOf). record a { fronts = front.fronts; looks = front.looks; vaults = seen }) view;
     }

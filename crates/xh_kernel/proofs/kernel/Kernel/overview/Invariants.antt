@@ -1,6 +1,6 @@
 use Rattle.std.specs.Array.{FillsFrom}
 use Rattle.xh_calls.specs.Vaults.{IsSeenOf, Tells}
-use Rattle.xh_kernel.proofs.Common.{length, ◌++◌, ◌≡◌}
+use Rattle.xh_kernel.proofs.Common.{Entry, FrontOf, LookOf, length, ◌++◌, ◌≡◌}
 use Rattle.xh_kernel.specs.Looks.{TellsPlace}
 use Rattle.xh_kernel.proofs.kernel.Kernel.overview.Given as goal
 
@@ -12,6 +12,7 @@ invariant-loop-arena g l =
 
 abbrev pub invariant-loop-place : goal.invariant-loop-place
 invariant-loop-place g l =
-    let tells = TellsPlace l.initial.front.number in
-    ((rest : _) (end : _) → FillsFrom tells l.front.fronts l.place rest end → FillsFrom tells l.initial.front.fronts 0 (l.places.items ++ rest) end)
-    × (length l.places.items ≡ l.place) × (l.front ≡ record l.initial.front { table = g.N.Names.parts.histories; fronts = l.front.fronts })
+    let table = g.N.Names.parts.histories in let tells = TellsPlace l.initial.front.number in
+    let saw : FrontOf Entry → LookOf Entry = λ f. record { table = table; fronts = f.fronts; looks = f.looks } in
+    ((rest : _) (end : _) → FillsFrom tells (saw l.front) l.place rest end → FillsFrom tells (saw l.initial.front) 0 (l.places.items ++ rest) end)
+    × (length l.places.items ≡ l.place) × (l.front.number ≡ l.initial.front.number) × (l.front.table ≡ table)

@@ -14,6 +14,6 @@ returns g c =
     let inside = c.account.inside in let parts = g.N.Names.parts in let held = c.deref_mut-held.result.now in let answer = c.with_bytes_mut-answer in
     let number : held.scribe.pen.number ≡ place_of c.args.p = search rules in
     let was = subst (λ k. IsHistoryOf parts k held.scribe.pen.history held.place) number held.history in
-    let to : AccountOf = record { number = inside.number; tallies = inside.till.tallies.items; fronts = c.note.new.front.fronts; vaults = inside.till.seen } in
+    let to : AccountOf = record { number = inside.number; tallies = inside.till.tallies.items; fronts = c.note.new.front.fronts; looks = c.note.new.front.looks; vaults = inside.till.seen } in
     lends_mut parts g.N.Names.leads c.args.p c.args.r g.F.FnMut c.args.f.now answer.new.f held.place answer.new.place c.args.account.now to answer.result answer.ensures
     (search rules, search rules, search rules, c.note.ensures.now _ number held.place was)
