@@ -1,6 +1,7 @@
 //! A process of a kernel.
-ghost use Rattle.std.specs.Prelude.{◌≡◌, MatchResult};
+ghost use Rattle.std.specs.Prelude.{◌≡◌, IfErr, IfOk, MatchResult, Ok};
 ghost use Rattle.xh_heap.specs.Plans.{IsStarted};
+ghost use Rattle.xh_kernel.specs.Waits.{SpawnsAt};
 
 use crate::process::Process;
 use crate::values::{
@@ -10,16 +11,16 @@ use std::alloc::Global;
 use std::sync::{Mutex, Wait};
 use std::time::{Clock, Duration, Instant};
 use xh_core::{Contract, Refused};
-use xh_kernel::{Account, Kernel, Names, Never, OpenGate, Overview};
+use xh_kernel::{Account, Kernel, Names, Never, OpenGate, Overview, Spare, Started};
 use xh_model::limits::MAX_BUDGET;
 
 /// The longest that a call waits which waits for a time, in seconds.
 const LONGEST: u64 = 1 << 62;
 
 /// The accounts that no handle has.
-pub(crate) type Spares<'k, N> = Mutex<Vec<&'k mut Account<N>>>;
+pub(crate) type Spares<'k, N> = Mutex<Vec<Spare<'k, N>>>;
 
-/// A process of a kernel, and an account that is its alone. There is room for it among the spares, from which it came.
+/// A process of a kernel, and an account that is its alone, by which it was started. There is room for it among the spares.
 pub(crate) struct Handle<'a, 'k, N: Names, R: Wait> {
     rt: &'a R,
     alloc: Global,
@@ -27,6 +28,7 @@ pub(crate) struct Handle<'a, 'k, N: Names, R: Wait> {
     spares: &'a Spares<'k, N>,
     account: &'k mut Account<N>,
     number: u16,
+    started: Started<N>,
 }
 
 impl<'a, 'k, N: Names, R: Wait> Drop for Handle<'a, 'k, N, R> {
@@ -37,38 +39,57 @@ impl<'a, 'k, N: Names, R: Wait> Drop for Handle<'a, 'k, N, R> {
             kernel,
             spares,
             account,
-            number,
+            number: _,
+            started,
         } = self;
-        let _bytes = kernel.exit(rt, number, MAX_BUDGET, account, &OpenGate);
-        let _ = spares.lock(rt).push(account);
+        if let Ok(spare) = started.exit(rt, kernel, account) {
+            let _ = spares.lock(rt).push(spare);
+        }
     }
 }
 
 impl<'a, 'k, N: Names, R: Wait> Handle<'a, 'k, N, R> {
-    /// A new process, with a spare account. NoPlace where there is none, or no place.
+    /// A new process, by a spare. NoPlace where there is none, or no place.
     pub(crate) fn start(
         rt: &'a R,
         alloc: Global,
         kernel: &'a Kernel<N>,
         spares: &'a Spares<'k, N>,
     ) -> Result<Handle<'a, 'k, N, R>, Refused>
-        ensures { MatchResult result (λ p. IsStarted N.parts N.leads p.number p.account.now) (λ why. why ≡ Refused.NoPlace) }
+        ensures started { MatchResult result (λ p. IsStarted N.parts N.leads p.number p.account.now) (λ why. why ≡ Refused.NoPlace) }
+        ensures own { IfOk result (λ p. p.started.number ≡ p.number) }
     {
-        let Some(account) = spares.lock(rt).pop() else {
+        let Some(spare) = spares.lock(rt).pop() else {
             return Err(Refused::NoPlace);
         };
-        match kernel.spawn(rt, account, &OpenGate) {
-            Ok(number) => Ok(Handle {
+        Handle::start_by(rt, alloc, kernel, spares, spare)
+    }
+
+    /// As `start`, by this spare, and by nothing that its account did before.
+    pub(crate) fn start_by(
+        rt: &'a R,
+        alloc: Global,
+        kernel: &'a Kernel<N>,
+        spares: &'a Spares<'k, N>,
+        spare: Spare<'k, N>,
+    ) -> Result<Handle<'a, 'k, N, R>, Refused>
+        ensures started { IfOk result (λ p. SpawnsAt N.parts N.leads spare.entry.account.now p.account.now (Ok p.number)) }
+        ensures own { IfOk result (λ p. p.started.number ≡ p.number) }
+        ensures none { IfErr result (λ why. why ≡ Refused.NoPlace) }
+    {
+        match spare.start(rt, kernel) {
+            Ok((started, account)) => Ok(Handle {
                 rt,
                 alloc,
                 kernel,
                 spares,
                 account,
-                number,
+                number: started.number(),
+                started,
             }),
-            Err(refused) => {
-                let _ = spares.lock(rt).push(account);
-                Err(refused)
+            Err(spare) => {
+                let _ = spares.lock(rt).push(spare);
+                Err(Refused::NoPlace)
             }
         }
     }

@@ -1,9 +1,10 @@
 //! A job's run: a kernel is made, the job works on it, and its books are closed.
-ghost use Rattle.std.specs.Prelude.{◌≡◌, ◌<◌, ◌≤◌, All, Err, IfOk, vec_len};
+ghost use Rattle.std.specs.Prelude.{◌≡◌, ◌<◌, ◌≤◌, ℕ, All, Err, IfOk, vec_len};
+ghost use Rattle.xh_kernel.specs.Accounts.{AreFresh, fresh};
 ghost use Rattle.xh_kernel.specs.Histories.{IsLaw};
 ghost use Rattle.xh_books.specs.Ledgers.{IsBalanced};
 ghost use Rattle.xh_core.specs.Flight.{AreFlightLines};
-ghost use Rattle.xh_heap.specs.Plans.{IsPlannedAnew, IsStarted};
+ghost use Rattle.xh_heap.specs.Plans.{IsHired, IsPlannedAnew};
 ghost use Rattle.xh_heap.specs.Runs.{AreOfKernel, AreOfOneKernel};
 ghost use Rattle.xh_model.specs.Config.{IsConfig};
 ghost use Rattle.xh_model.specs.declared.limits.TheConstants.{MAX_RECORDS, MAX_WEAR, PLACES};
@@ -19,7 +20,7 @@ use std::thread::Threads;
 use std::time::Clock;
 use xh_books::close_kernel;
 use xh_core::{Config, Refused};
-use xh_kernel::{Account, Kernel, Names, Parts};
+use xh_kernel::{Account, Kernel, Names, Parts, Spare};
 use xh_model::limits::{MAX_RECORDS, MAX_WEAR, MAX_WORKERS, PLACES};
 
 /// One arena of so many bytes, a multiple of 16 up to 2^27, for 256 blocks; 4 messages wait in a direction, and the arena
@@ -36,21 +37,27 @@ pub fn one_arena(bytes: u32) -> Config
     }
 }
 
-// So many processes.
+// So many processes, each by a spare whose account is new. Those that are left are for the processes that these start.
 fn hire<'a, 'k, N: Names, R: Wait>(
     rt: &'a R,
     alloc: Global,
     kernel: &'a Kernel<N>,
     spares: &'a Spares<'k, N>,
+    mut left: Vec<Spare<'k, N>>,
     count: u8,
 ) -> Result<Vec<Handle<'a, 'k, N, R>>, Refused>
+    requires { All (λ s. (k : ℕ) × (s.account.now ≡ fresh N.parts k)) left.entry.items }
     ensures count { IfOk result (λ all. vec_len all ≡ count) }
-    ensures new { IfOk result (λ all. All (λ p. IsStarted N.parts N.leads p.number p.account.now) all.items) }
+    ensures new { IfOk result (λ all. All (λ p. IsHired N.parts N.leads p.number p.account.now) all.items) }
 {
     let mut all = Vec::with_capacity(alloc, usize::from(count))?;
     for _ in 0..count {
-        all.push(Handle::start(rt, alloc, kernel, spares)?)?;
+        let Some(spare) = left.pop() else {
+            return Err(Refused::NoPlace);
+        };
+        all.push(Handle::start_by(rt, alloc, kernel, spares, spare)?)?;
     }
+    *spares.lock(rt) = left;
     Ok(all)
 }
 
@@ -63,12 +70,14 @@ fn work_on<'s, 'k, N: Names + Send + Sync, R: Threads + Wait + Clock + Sync, J: 
     count: u8,
     job: &'s J,
 ) -> Result<(J::Plan, Vec<J::Answer>), Refused>
+    requires { AreFresh N.parts accounts.old }
     ensures len { IfOk result (λ worked. vec_len worked.1 ≡ count) }
     ensures answers { IfOk result (λ worked. All (λ a. J.answered a N.parts) worked.1.items) }
     ensures planned { IfOk result (λ worked. IsPlannedAnew J.planned worked.0 N.parts N.leads count) }
 {
-    let spares = Mutex::new(accounts.iter_mut().collect(alloc)?);
-    let all = hire(rt, alloc, kernel, &spares, count)?;
+    let left = Spare::all(alloc, accounts)?;
+    let spares = Mutex::new(Vec::new(alloc));
+    let all = hire(rt, alloc, kernel, &spares, left, count)?;
     work_by(rt, alloc, job, all)
 }
 

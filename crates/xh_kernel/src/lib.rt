@@ -10,6 +10,7 @@ mod overview;
 mod parts;
 mod scribe;
 mod shared;
+mod spare;
 mod until;
 mod words;
 
@@ -18,6 +19,7 @@ pub use finishing::compare;
 pub use kernel::{Kernel, Settled};
 pub use overview::{Awaited, Overview, PlaceNow, write_arenas, write_place};
 pub use parts::{Look, Parts};
+pub use spare::{Spare, Started};
 pub use until::{Never, Until};
 pub use words::Glances;
 pub use xh_calls::{AnsweredAt, Call, Entry, MAX_ENDS, Names};
