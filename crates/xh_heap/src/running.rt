@@ -46,7 +46,7 @@ fn hire<'a, 'k, N: Names, R: Wait>(
     mut left: Vec<Spare<'k, N>>,
     count: u8,
 ) -> Result<Vec<Handle<'a, 'k, N, R>>, Refused>
-    requires { All (λ s. (k : ℕ) × (s.account.now ≡ fresh N.parts k)) left.entry.items }
+    requires { All (λ s. (k : ℕ) × (s.account.now ≡ fresh N.parts k)) left.items }
     ensures count { IfOk result (λ all. vec_len all ≡ count) }
     ensures new { IfOk result (λ all. All (λ p. IsHired N.parts N.leads p.number p.account.now) all.items) }
 {
