@@ -1,3 +1,4 @@
+pub mod ByBytes
 pub mod Handles
 pub mod Lending
 pub mod Plans

@@ -2,6 +2,7 @@
 //! plan and then do their work, each on a thread of its own, and closes the books.
 #![tactic(auto)]
 
+mod by_bytes;
 mod closed;
 mod handle;
 mod host;
@@ -12,6 +13,7 @@ mod starter;
 mod threads;
 mod values;
 
+pub use by_bytes::Came;
 pub use closed::Closed;
 pub use host::Host;
 pub use job::{Job, Team};

@@ -4,6 +4,7 @@ ghost use Rattle.std.specs.Result.{result_map_both};
 ghost use Rattle.xh_calls.specs.Leading.{Leading};
 ghost use Rattle.xh_calls.specs.Parts.{PartsOf};
 ghost use Rattle.xh_core.specs.declared.Refused.TheVariants.{Empty, NoPlace, NoRecord, NoSpace};
+ghost use Rattle.xh_heap.specs.ByBytes.{GivesBytes, TakesBytes};
 ghost use Rattle.xh_heap.specs.Handles.{Acts, ActsBy, Awaits, HandleOf};
 ghost use Rattle.xh_heap.specs.Plans.{IsStarted};
 ghost use Rattle.xh_heap.specs.Teams.{OpensOwn, WiresTo};
@@ -15,6 +16,7 @@ ghost use Rattle.xh_kernel.specs.Looks.{SeesAll};
 ghost use Rattle.xh_kernel.specs.Waits.{AtLast, AtLastOf, IsNoMemory, no_room};
 ghost use Rattle.xh_model.specs.declared.limits.TheConstants.{MAX_BUDGET};
 
+use crate::by_bytes::{Came, regain, unpack};
 use crate::values::{Answered, AsEnd, Block, End, Load, Message, Returned};
 use std::sync::Wait;
 use std::time::{Clock, Duration};
@@ -249,4 +251,90 @@ pub trait Process: Drop {
     /// process.
     fn overview(&mut self) -> Overview
         ensures { Acts (λ _ old new. SeesAll parts old new result) (handle self.old) (handle self.new) };
+
+    /// A message of bytes, of arena 0, as `give_bytes_in_wait`.
+    final fn give_bytes_wait(
+        &mut self,
+        end: &End,
+        tag: u16,
+        bytes: &mut Vec<u8>,
+    ) -> Result<u64, Refused>
+        ensures { GivesBytes parts leads end.now tag 0 bytes.old.items bytes.new.items (λ given. result ≢ no_room given) result (handle self.old) (handle self.new) }
+    {
+        self.give_bytes_in_wait(0, end, tag, bytes)
+    }
+
+    /// A message of one block of these bytes of an arena: as `put_in`, and then as `give_wait`. It waits for room alone.
+    ///
+    /// What `put_in` is refused, before the end is tested: the bytes are as they were. What `give_wait` is: they are what an
+    /// `into_bytes` of the block that came back answered, with its zeros; none where none came back, or that was refused.
+    final fn give_bytes_in_wait(
+        &mut self,
+        arena: u32,
+        end: &End,
+        tag: u16,
+        bytes: &mut Vec<u8>,
+    ) -> Result<u64, Refused>
+        ensures { GivesBytes parts leads end.now tag arena bytes.old.items bytes.new.items (λ given. result ≢ no_room given) result (handle self.old) (handle self.new) }
+    {
+        let block = self.put_in(arena, bytes)?;
+        match self.give_wait(end, tag, block) {
+            Ok(number) => Ok(number),
+            Err(Returned { why, value }) => {
+                regain(self, value, bytes);
+                Err(why)
+            }
+        }
+    }
+
+    /// As `give_bytes_wait`; after so long it is refused Full. Where the clock can't be read it waits no longer.
+    final fn give_bytes_for(
+        &mut self,
+        end: &End,
+        tag: u16,
+        bytes: &mut Vec<u8>,
+        time: Duration,
+    ) -> Result<u64, Refused>
+        ensures { GivesBytes parts leads end.now tag 0 bytes.old.items bytes.new.items (λ _. Unit {0}) result (handle self.old) (handle self.new) }
+    {
+        self.give_bytes_in_for(0, end, tag, bytes, time)
+    }
+
+    /// As `give_bytes_in_wait`; after so long it is refused Full. Where the clock can't be read it waits no longer.
+    final fn give_bytes_in_for(
+        &mut self,
+        arena: u32,
+        end: &End,
+        tag: u16,
+        bytes: &mut Vec<u8>,
+        time: Duration,
+    ) -> Result<u64, Refused>
+        ensures { GivesBytes parts leads end.now tag arena bytes.old.items bytes.new.items (λ _. Unit {0}) result (handle self.old) (handle self.new) }
+    {
+        let block = self.put_in(arena, bytes)?;
+        match self.give_for(end, tag, block, time) {
+            Ok(number) => Ok(number),
+            Err(Returned { why, value }) => {
+                regain(self, value, bytes);
+                Err(why)
+            }
+        }
+    }
+
+    /// As `take_wait`; of a message of one data block alone it answers the bytes, as `into_bytes` where that isn't refused.
+    final fn take_bytes_wait(&mut self, end: &End) -> Result<Came, Refused>
+        ensures call { TakesBytes leads end.now result (handle self.old) (handle self.new) }
+        ensures waits { IfErr result (λ why. why ≢ Empty) }
+    {
+        let message = self.take_wait(end)?;
+        Ok(unpack(self, message))
+    }
+
+    /// As `take_bytes_wait`; after so long it is refused Empty. Where the clock can't be read it waits no longer.
+    final fn take_bytes_for(&mut self, end: &End, time: Duration) -> Result<Came, Refused>
+        ensures { TakesBytes leads end.now result (handle self.old) (handle self.new) }
+    {
+        let message = self.take_for(end, time)?;
+        Ok(unpack(self, message))
+    }
 }

@@ -1,9 +1,11 @@
-//! Two processes on threads: one gives the other a block with a text, and the other counts its words.
+//! Two processes on threads: one gives the other a text, and the other counts its words.
 #![tactic(auto)]
 
+use std::alloc::Global;
 use xh_heap::{End, Job, Process, Refused, Team, one_arena, run};
 
-struct Count;
+#[derive(Drop)]
+struct Count(Global);
 
 impl Job for Count {
     type Plan = (End, End);
@@ -16,20 +18,17 @@ impl Job for Count {
 
     fn work<P: Process>(&self, ends: &(End, End), index: usize, own: &mut P) -> Self::Answer {
         if index == 0 {
-            let block = own.alloc(64)?;
-            own.write(&block, 0, b"to be or not to be")?;
-            own.give(&ends.0, 0, block)?;
+            let mut text = Vec::from_slice(self.0, b"to be or not to be")?;
+            own.give_bytes_wait(&ends.0, 0, &mut text)?;
             return Ok(0);
         }
-        let block = own.take_wait(&ends.1)?.block()?;
-        own.with_bytes(&block, |text: &[u8]| {
-            text.split(|byte| *byte == b' ').count()
-        })
+        let text = own.take_bytes_wait(&ends.1)?.bytes()?;
+        Ok(text.split(|byte| *byte == b' ').count())
     }
 }
 
 fn main(rt: HostRuntime) -> anyhow::Result<()> {
-    let closed = run(&rt, rt.alloc(), one_arena(65_536), 2, &Count)?;
+    let closed = run(&rt, rt.alloc(), one_arena(65_536), 2, &Count(rt.alloc()))?;
     println!(rt; "words {:?}\n{closed}", closed.answers)?;
     Ok(())
 }

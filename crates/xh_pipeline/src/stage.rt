@@ -1,7 +1,7 @@
 //! A stage: it marks each frame that comes, and gives it on.
 
 use crate::protocol::{DATA, END, HUNG, LOST, MARK, next_end};
-use xh_heap::{Block, End, Items, Process, Refused};
+use xh_heap::{Came, End, Items, Process, Refused};
 
 /// Where a stage stands: its ends to the supervisor, for what comes and for what goes. With a limit it hangs at the frame after so
 /// many.
@@ -14,14 +14,11 @@ pub(crate) struct Post {
 }
 
 // Marks a frame and gives it on.
-fn pass<P: Process>(own: &mut P, out: &End, frame: Block) -> Result<(), Refused> {
-    let mut bytes = own.into_bytes(frame)?;
-    if let Some(first) = bytes.first_mut() {
+fn pass<P: Process>(own: &mut P, out: &End, mut frame: Vec<u8>) -> Result<u64, Refused> {
+    if let Some(first) = frame.first_mut() {
         *first = first.wrapping_add(MARK);
     }
-    let frame = own.put_in(1, &mut bytes)?;
-    own.give(out, DATA, frame)?;
-    Ok(())
+    own.give_bytes_in_wait(1, out, DATA, &mut frame)
 }
 
 /// Marks frames until no more come. Where the stage before was killed, the next one learns it, and a new endpoint comes for the
@@ -35,16 +32,16 @@ pub(crate) fn stage<P: Process>(
 ) -> Result<(), Refused> {
     let mut passed = 0u32;
     for _ in own.rt().forever() {
-        match own.take_wait(&input) {
-            Ok(message) if message.tag == DATA => {
+        match own.take_bytes_wait(&input) {
+            Ok(Came::Bytes { bytes, .. }) => {
                 if limit == Some(passed) {
                     own.give(control, HUNG, Items::new())?;
                     own.take_wait(control)?;
                 }
-                pass(own, out, message.block()?)?;
+                pass(own, out, bytes)?;
                 passed = passed.wrapping_add(1);
             }
-            Ok(message) => {
+            Ok(Came::Message(message)) => {
                 own.give(out, message.tag, Items::new())?;
                 if message.tag == END {
                     return Ok(());

@@ -8,8 +8,8 @@ use std::alloc::Global;
 use std::env;
 use std::sync::Mutex;
 use xh_heap::{
-    Answered, Block, Contract, Duration, End, Host, Items, Message, Process, Refused, Row, Starter,
-    Team, one_arena, run,
+    Answered, Contract, Duration, End, Host, Items, Message, Process, Refused, Row, Starter, Team,
+    one_arena, run,
 };
 
 /// Side 1, a client, asks by the tag 5; side 0, the server, answers by 6.
@@ -37,33 +37,24 @@ struct Server {
 }
 
 // A client asks, by the process that is to be killed, itself or none: whether it waited for the answer, which came.
-fn ask<P: Process>(own: &mut P, server: &End, turn: u32) -> Result<bool, Refused> {
+fn ask<P: Process>(own: &mut P, alloc: Global, server: &End, turn: u32) -> Result<bool, Refused> {
     let victim = if turn == 1 { own.number() } else { 0 };
-    let block = own.alloc(256)?;
-    own.write(&block, 0, &victim.to_le_bytes())?;
-    own.give(server, if turn == 2 { 6 } else { 5 }, block)?;
+    let mut request = Vec::from_slice(alloc, &victim.to_le_bytes())?;
+    own.give_bytes_wait(server, if turn == 2 { 6 } else { 5 }, &mut request)?;
     if turn > 0 {
         own.take_wait(server)?;
     }
     Ok(turn > 0)
 }
 
-// A request is answered, unless it is to kill.
-fn reply<P: Process>(own: &mut P, client: &End, request: &Block) -> Result<u64, Refused> {
-    let mut victim = [0; 2];
-    own.read(request, 0, &mut victim)?;
-    match u16::from_le_bytes(victim) {
-        0 => Ok(own.give(client, 6, Items::new())?),
-        victim => own.kill(victim),
-    }
-}
-
-// What the server was given is freed, whatever came of it.
+// A request is answered, unless it is to kill. Its bytes are the heap's no more, whatever comes of it.
 fn answer<P: Process>(own: &mut P, client: &End, request: Message) -> Result<u64, Refused> {
-    let block = request.block()?;
-    let answer = reply(own, client, &block);
-    own.free(block)?;
-    answer
+    let bytes = own.into_bytes(request.block()?)?;
+    match bytes.as_slice() {
+        [0, 0, ..] => Ok(own.give(client, 6, Items::new())?),
+        [low, high, ..] => own.kill(u16::from_le_bytes([*low, *high])),
+        _ => Err(Refused::BadSize),
+    }
 }
 
 impl Host for Server {
@@ -111,7 +102,7 @@ impl Host for Server {
     }
 
     fn serve<P: Process>(&self, _: &(), task: (End, u32), own: &mut P, _: &Starter<P, (End, u32)>) {
-        let end = match ask(own, &task.0, task.1) {
+        let end = match ask(own, self.alloc, &task.0, task.1) {
             Ok(true) => 0,
             Ok(false) => 1,
             Err(Refused::Ended) => 3,

@@ -1,0 +1,46 @@
+-- Messages of bytes, each by one call of a handle: the calls that it makes, one after the other.
+use Rattle.std.specs.Prelude.{◌≡◌, ℕ, List, [], ◌∷◌, Option, Result, Ok, Err, MatchOption, MatchResult, Vec}
+use Rattle.std.specs.Result.{result_map_both, result_unwrap_or}
+use Rattle.std.specs.declared.alloc.Global.{Global}
+use Rattle.xh_calls.specs.Leading.{Leading}
+use Rattle.xh_calls.specs.Parts.{PartsOf}
+use Rattle.xh_core.specs.declared.refused.Refused.{Refused}
+use Rattle.xh_core.specs.declared.refused.Refused.TheVariants.{NotData}
+use Rattle.xh_heap.specs.Handles.{Acts, ActsBy, Awaits, HandleOf}
+use Rattle.xh_heap.specs.Values.{Answers, block_back, block_of, end_at, gift, message_of, rec_at}
+use Rattle.xh_heap.specs.declared.by_bytes.Came.{Came}
+use Rattle.xh_heap.specs.declared.by_bytes.Came.TheVariants as came
+use Rattle.xh_heap.specs.declared.values.Block.{Block}
+use Rattle.xh_heap.specs.declared.values.End.{End}
+use Rattle.xh_heap.specs.declared.values.Item.{Item}
+use Rattle.xh_heap.specs.declared.values.Item.TheVariants as item
+use Rattle.xh_heap.specs.declared.values.Message.{Message}
+use Rattle.xh_kernel.specs.Did.{DidGive, DidIntoBytes, DidPut, DidTake}
+use Rattle.xh_kernel.specs.Waits.{AtLast, no_room}
+
+-- the bytes left are what an `into_bytes` of the block that came back answered; there are none where it was refused, or no block came
+abbrev pub Regains : Leading → Option Block → List ℕ → HandleOf → HandleOf → Type 0
+Regains leads back left old new = MatchOption back ((left ≡ []) × (new ≡ old))
+    (λ b. (told : Result (List ℕ) Refused) × (left ≡ result_unwrap_or told []) × ActsBy (rec_at b) (λ p r. DidIntoBytes leads p r told) old new)
+
+-- the bytes were put and then their block given, with such a wait for room, and where that was refused those are left that came back; or the put was refused, and all are left
+abbrev pub GivesBytes : PartsOf → Leading → End → (tag arena : ℕ) → (bytes left : List ℕ) → (List ℕ → Type 0) → Result ℕ Refused → HandleOf → HandleOf → Type 0
+GivesBytes parts leads e tag arena bytes left Waited result old new = (put : Result Block Refused) × (mid : HandleOf) × Acts (λ p. Answers (DidPut parts leads p bytes arena) (block_of p) put) old mid
+    × MatchResult put (λ b. (last : HandleOf) × ActsBy (gift e (item.Block b ∷ [])) (λ p g from to. AtLast (DidGive leads p g.0 tag g.1) (no_room g.1) result from to × Waited g.1) mid last
+    × MatchResult result (λ _. (left ≡ []) × (new ≡ last)) (λ why. Regains leads (block_back mid.number why b) left last new))
+    (λ why. (result ≡ Err why) × (left ≡ bytes) × (new ≡ mid))
+
+-- a message of one block and nothing else is shown as its bytes, which an `into_bytes` answered; any other as it is, and also where that was refused
+abbrev pub Unpacks : Leading → Message → List Item → Came → HandleOf → HandleOf → Type 0
+Unpacks leads m (item.Block b ∷ []) shown old new = (told : Result (Vec ℕ Global) Refused) × MatchResult told (λ bytes. shown ≡ came.Bytes m.no m.tag bytes) (λ why. shown ≡ came.Message m)
+    × ActsBy (rec_at b) (λ p r. DidIntoBytes leads p r (result_map_both (λ v. v.items) (λ why. why) told)) old new
+Unpacks leads m items shown old new = (shown ≡ came.Message m) × (new ≡ old)
+
+-- a message was taken, and is shown so; or the take was refused
+abbrev pub TakesBytes : Leading → End → Result Came Refused → HandleOf → HandleOf → Type 0
+TakesBytes leads e result old new = (told : Result Message Refused) × (mid : HandleOf) × ActsBy (end_at e) (λ p r. Answers (Awaits (DidTake leads p r)) (message_of p) told) old mid
+    × MatchResult told (λ m. (shown : Came) × (result ≡ Ok shown) × Unpacks leads m m.items.items shown mid new) (λ why. (result ≡ Err why) × (new ≡ mid))
+
+abbrev pub bytes_in : Came → Result (Vec ℕ Global) Refused
+bytes_in (came.Bytes number tag bytes) = Ok bytes
+bytes_in (came.Message m) = Err NotData
