@@ -24,8 +24,8 @@ Regains leads back left old new = MatchOption back ((left ≡ []) × (new ≡ ol
     (λ b. (told : Result (List ℕ) Refused) × (left ≡ result_unwrap_or told []) × ActsBy (rec_at b) (λ p r. DidIntoBytes leads p r told) old new)
 
 -- the bytes were put and then their block given, with such a wait for room, and where that was refused those are left that came back; or the put was refused, and all are left
-abbrev pub GivesBytes : PartsOf → Leading → End → (tag arena : ℕ) → (bytes left : List ℕ) → (List ℕ → Type 0) → Result ℕ Refused → HandleOf → HandleOf → Type 0
-GivesBytes parts leads e tag arena bytes left Waited result old new = (put : Result Block Refused) × (mid : HandleOf) × Acts (λ p. Answers (DidPut parts leads p bytes arena) (block_of p) put) old mid
+abbrev pub GivesByBytes : PartsOf → Leading → End → (tag arena : ℕ) → (bytes left : List ℕ) → (List ℕ → Type 0) → Result ℕ Refused → HandleOf → HandleOf → Type 0
+GivesByBytes parts leads e tag arena bytes left Waited result old new = (put : Result Block Refused) × (mid : HandleOf) × Acts (λ p. Answers (DidPut parts leads p bytes arena) (block_of p) put) old mid
     × MatchResult put (λ b. (last : HandleOf) × ActsBy (gift e (item.Block b ∷ [])) (λ p g from to. AtLast (DidGive leads p g.0 tag g.1) (no_room g.1) result from to × Waited g.1) mid last
     × MatchResult result (λ _. (left ≡ []) × (new ≡ last)) (λ why. Regains leads (block_back mid.number why b) left last new))
     (λ why. (result ≡ Err why) × (left ≡ bytes) × (new ≡ mid))
@@ -37,8 +37,8 @@ Unpacks leads m (item.Block b ∷ []) shown old new = (told : Result (Vec ℕ Gl
 Unpacks leads m items shown old new = (shown ≡ came.Message m) × (new ≡ old)
 
 -- a message was taken, and is shown so; or the take was refused
-abbrev pub TakesBytes : Leading → End → Result Came Refused → HandleOf → HandleOf → Type 0
-TakesBytes leads e result old new = (told : Result Message Refused) × (mid : HandleOf) × ActsBy (end_at e) (λ p r. Answers (Awaits (DidTake leads p r)) (message_of p) told) old mid
+abbrev pub TakesByBytes : Leading → End → Result Came Refused → HandleOf → HandleOf → Type 0
+TakesByBytes leads e result old new = (told : Result Message Refused) × (mid : HandleOf) × ActsBy (end_at e) (λ p r. Answers (Awaits (DidTake leads p r)) (message_of p) told) old mid
     × MatchResult told (λ m. (shown : Came) × (result ≡ Ok shown) × Unpacks leads m m.items.items shown mid new) (λ why. (result ≡ Err why) × (new ≡ mid))
 
 abbrev pub bytes_in : Came → Result (Vec ℕ Global) Refused

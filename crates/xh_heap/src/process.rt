@@ -4,7 +4,7 @@ ghost use Rattle.std.specs.Result.{result_map_both};
 ghost use Rattle.xh_calls.specs.Leading.{Leading};
 ghost use Rattle.xh_calls.specs.Parts.{PartsOf};
 ghost use Rattle.xh_core.specs.declared.Refused.TheVariants.{Empty, NoPlace, NoRecord, NoSpace};
-ghost use Rattle.xh_heap.specs.ByBytes.{GivesBytes, TakesBytes};
+ghost use Rattle.xh_heap.specs.ByBytes.{GivesByBytes, TakesByBytes};
 ghost use Rattle.xh_heap.specs.Handles.{Acts, ActsBy, Awaits, HandleOf};
 ghost use Rattle.xh_heap.specs.Plans.{IsStarted};
 ghost use Rattle.xh_heap.specs.Teams.{OpensOwn, WiresTo};
@@ -259,7 +259,7 @@ pub trait Process: Drop {
         tag: u16,
         bytes: &mut Vec<u8>,
     ) -> Result<u64, Refused>
-        ensures { GivesBytes parts leads end.now tag 0 bytes.old.items bytes.new.items (λ given. result ≢ no_room given) result (handle self.old) (handle self.new) }
+        ensures { GivesByBytes parts leads end.now tag 0 bytes.old.items bytes.new.items (λ given. result ≢ no_room given) result (handle self.old) (handle self.new) }
     {
         self.give_bytes_in_wait(0, end, tag, bytes)
     }
@@ -275,7 +275,7 @@ pub trait Process: Drop {
         tag: u16,
         bytes: &mut Vec<u8>,
     ) -> Result<u64, Refused>
-        ensures { GivesBytes parts leads end.now tag arena bytes.old.items bytes.new.items (λ given. result ≢ no_room given) result (handle self.old) (handle self.new) }
+        ensures { GivesByBytes parts leads end.now tag arena bytes.old.items bytes.new.items (λ given. result ≢ no_room given) result (handle self.old) (handle self.new) }
     {
         let block = self.put_in(arena, bytes)?;
         match self.give_wait(end, tag, block) {
@@ -295,7 +295,7 @@ pub trait Process: Drop {
         bytes: &mut Vec<u8>,
         time: Duration,
     ) -> Result<u64, Refused>
-        ensures { GivesBytes parts leads end.now tag 0 bytes.old.items bytes.new.items (λ _. Unit {0}) result (handle self.old) (handle self.new) }
+        ensures { GivesByBytes parts leads end.now tag 0 bytes.old.items bytes.new.items (λ _. Unit {0}) result (handle self.old) (handle self.new) }
     {
         self.give_bytes_in_for(0, end, tag, bytes, time)
     }
@@ -309,7 +309,7 @@ pub trait Process: Drop {
         bytes: &mut Vec<u8>,
         time: Duration,
     ) -> Result<u64, Refused>
-        ensures { GivesBytes parts leads end.now tag arena bytes.old.items bytes.new.items (λ _. Unit {0}) result (handle self.old) (handle self.new) }
+        ensures { GivesByBytes parts leads end.now tag arena bytes.old.items bytes.new.items (λ _. Unit {0}) result (handle self.old) (handle self.new) }
     {
         let block = self.put_in(arena, bytes)?;
         match self.give_for(end, tag, block, time) {
@@ -323,7 +323,7 @@ pub trait Process: Drop {
 
     /// As `take_wait`; of a message of one data block alone it answers the bytes, as `into_bytes` where that isn't refused.
     final fn take_bytes_wait(&mut self, end: &End) -> Result<Came, Refused>
-        ensures call { TakesBytes leads end.now result (handle self.old) (handle self.new) }
+        ensures call { TakesByBytes leads end.now result (handle self.old) (handle self.new) }
         ensures waits { IfErr result (λ why. why ≢ Empty) }
     {
         let message = self.take_wait(end)?;
@@ -332,7 +332,7 @@ pub trait Process: Drop {
 
     /// As `take_bytes_wait`; after so long it is refused Empty. Where the clock can't be read it waits no longer.
     final fn take_bytes_for(&mut self, end: &End, time: Duration) -> Result<Came, Refused>
-        ensures { TakesBytes leads end.now result (handle self.old) (handle self.new) }
+        ensures { TakesByBytes leads end.now result (handle self.old) (handle self.new) }
     {
         let message = self.take_for(end, time)?;
         Ok(unpack(self, message))
