@@ -34,7 +34,7 @@ impl<N: Names> Heap<N> {
         place.give(&self.desk(rt, (), gate), e, tag, blocks)
     }
 
-    /// As `Kernel::take`, by whoever has the place's lock.
+    /// As `Kernel::take`, by whoever has the place's lock. The answer is written where the caller keeps it.
     #[tactic(auto, using(xh_place::proofs::Events::stays_itself, xh_place::proofs::Stayed::took_same))]
     pub fn take<R: Wait, G: Gate>(
         &self,
@@ -42,15 +42,18 @@ impl<N: Names> Heap<N> {
         place: &mut Place,
         p: u16,
         e: u16,
+        answer: &mut Result<Taken, Refused>,
         gate: &G,
-    ) -> Result<Taken, Refused>
+    )
         requires { IsSeatOf N.parts.records place.old.seat }
         ensures same { IsSamePlace place.old place.new }
-        ensures taken { TakesAt (status_at p place.old) e place.old place.new result }
-        ensures empty { IfErr result (λ why. why ≡ Refused.Empty → Stays place.old place.new) }
+        ensures taken { TakesAt (status_at p place.old) e place.old place.new answer.new }
+        ensures empty { IfErr answer.new (λ why. why ≡ Refused.Empty → Stays place.old place.new) }
     {
-        check_number(place, p)?;
-        place.take(&self.desk(rt, (), gate), e)
+        match check_number(place, p) {
+            Ok(()) => place.take_into(&self.desk(rt, (), gate), e, answer),
+            Err(why) => *answer = Err(why),
+        }
     }
 
     /// As `Kernel::close`, by whoever has the place's lock.

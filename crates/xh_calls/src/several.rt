@@ -85,7 +85,9 @@ impl<N: Names> Heap<N> {
     {
         let mut closed = None;
         for (at, e) in ends.iter().enumerate() {
-            let why = match self.take(rt, place, p, *e, gate) {
+            let mut answer = Err(Refused::Empty);
+            self.take(rt, place, p, *e, &mut answer, gate);
+            let why = match answer {
                 Ok(taken) => {
                     return Ok(AnsweredAt {
                         at,

@@ -1,14 +1,12 @@
 //! Looks for a message and for room, and where a process waits.
-ghost use Rattle.std.specs.Prelude.{◌≡◌, ◌≢◌, ◌<◌, [], Err, IfErr, IfNone, MatchBool, MatchOption, None, false, true};
+ghost use Rattle.std.specs.Prelude.{◌≡◌, ◌≢◌, ◌<◌, [], Err, IfErr, IfNone, MatchBool, MatchOption, None, true};
 ghost use Rattle.xh_calls.specs.Places.{status_at};
 ghost use Rattle.xh_core.specs.Calls.{start};
-ghost use Rattle.xh_core.specs.Headers.{has_end};
 ghost use Rattle.xh_core.specs.Refusing.{first_refusal};
 ghost use Rattle.xh_kernel.specs.Did.{DidGive, DidTake, DidTakeAny};
 ghost use Rattle.xh_kernel.specs.Waits.{no_room};
 ghost use Rattle.xh_model.specs.Words.{place_of};
 ghost use Rattle.xh_model.specs.declared.limits.TheConstants.{PLACES};
-ghost use Rattle.xh_place.specs.Places.{found};
 ghost use Rattle.xh_place.specs.Seen.{Stays};
 
 use crate::account::Account;
@@ -37,7 +35,7 @@ pub(crate) fn bell_of(p: u16) -> u8
 }
 
 // Whether no message waits.
-fn is_empty<A>(answer: &Result<A, Refused>) -> bool
+pub(crate) fn is_empty<A>(answer: &Result<A, Refused>) -> bool
     ensures { MatchBool result (answer.now ≡ Err Refused.Empty) (IfErr answer.now (λ why. why ≢ Refused.Empty)) }
 {
     matches!(answer, Err(Refused::Empty))
@@ -69,8 +67,7 @@ impl<N: Names> Held<N> {
 
     // The spot of the endpoint, if the process has it.
     pub(crate) fn spot(&mut self, shared: &Shared<N>, e: u16) -> Option<Spot>
-        ensures same { Stays self.old.place self.new.place × (self.new.scribe ≡ self.old.scribe) }
-        ensures none { IfNone result (has_end (found self.old.place.seat e) ≡ false) }
+        ensures { Stays self.old.place self.new.place × (self.new.scribe ≡ self.old.scribe) }
     {
         self.place.spot(&shared.heap.records, e)
     }
@@ -88,11 +85,10 @@ impl<N: Names> Held<N> {
         gate: &G,
     )
         requires { self.old.scribe.pen.number ≡ place_of p }
-        ensures call { DidTake N.leads p e answer.new account.old account.new }
-        ensures runs { IfErr answer.new (λ why. why ≡ Refused.Empty → first_refusal (start (status_at p self.old.place)) ≡ None) }
-        ensures has { IfErr answer.new (λ why. why ≡ Refused.Empty → has_end (found self.old.place.seat e) ≡ true) }
+        ensures { DidTake N.leads p e answer.new account.old account.new }
     {
-        *answer = shared.heap.take(rt, &mut self.place, p, e, gate);
+        let heap = &shared.heap;
+        heap.take(rt, &mut self.place, p, e, answer, gate);
         let about = (p, e, &*answer);
         self.scribe
             .note(shared, &self.place, &mut account.front, &about, false);
@@ -107,8 +103,7 @@ impl<N: Names> Held<N> {
         p: u16,
         e: u16,
     ) -> Option<(Spot, u64)>
-        ensures same { Stays self.old.place self.new.place × (self.new.scribe ≡ self.old.scribe) }
-        ensures none { IfNone result (first_refusal (start (status_at p self.old.place)) ≡ None → has_end (found self.old.place.seat e) ≡ false) }
+        ensures { Stays self.old.place self.new.place × (self.new.scribe ≡ self.old.scribe) }
     {
         check_start(&self.place, p).ok()?;
         self.waits.at = None;
@@ -116,24 +111,28 @@ impl<N: Names> Held<N> {
         Some((spot, shared.heap.channels.turn(rt, spot)))
     }
 
-    // One look for a message. With one in vain goes where to wait, and the turn that was read there before it, so that a put, a
-    // shut and an end of the process that come after it raise the turn past what was read. Where the process waits then is
-    // written down, so that its end finds it.
+    // One look for a message. Where it is to be waited for the turn at the endpoint is read first; with a look in vain go where to
+    // wait and that turn, so that a put, a shut and an end of the process that come after it raise the turn past what was read.
+    // Where the process waits then is written down, so that its end finds it.
     pub(crate) fn look_for<R: Wait, G: Gate>(
         &mut self,
         rt: &R,
         shared: &Shared<N>,
         p: u16,
         e: u16,
+        waits: bool,
         answer: &mut Result<Taken, Refused>,
         account: &mut Account<N>,
         gate: &G,
     ) -> Option<(Spot, u64)>
         requires { self.old.scribe.pen.number ≡ place_of p }
-        ensures call { DidTake N.leads p e answer.new account.old account.new }
-        ensures vain { MatchOption result (IfErr answer.new (λ why. why ≢ Refused.Empty)) (λ _. answer.new ≡ Err Refused.Empty) }
+        ensures { DidTake N.leads p e answer.new account.old account.new }
     {
-        let turn = self.turn_at(rt, shared, p, e);
+        let turn = if waits {
+            self.turn_at(rt, shared, p, e)
+        } else {
+            None
+        };
         self.take(rt, shared, p, e, answer, account, gate);
         let (spot, seen) = turn?;
         if !is_empty(answer) {

@@ -6,6 +6,7 @@ ghost use Rattle.xh_kernel.specs.Waits.{AtLast, no_room};
 
 use crate::account::Account;
 use crate::kernel::Kernel;
+use crate::looking::is_empty;
 use crate::overview::Awaited;
 use crate::until::{Never, Until};
 use std::sync::Wait;
@@ -114,19 +115,22 @@ impl<N: Names> Kernel<N> {
         ensures calls { AtLast (DidTake N.leads p e) (Err refused.Empty) result account.old account.new }
         ensures waits { U.never ≡ true → IfErr result (λ why. why ≢ refused.Empty) }
     {
+        let shared = &self.shared;
         let mut answer = Err(Refused::Empty);
+        // whether a wait follows a look in vain: the first look finds a message, mostly
+        let mut waits = false;
         for _ in rt.forever() {
             let past = until.is_past(rt);
             let mut held = self.held(rt, p);
-            let turn = held.look_for(rt, &self.shared, p, e, &mut answer, account, gate);
+            let turn = held.look_for(rt, shared, p, e, waits, &mut answer, account, gate);
             drop(held);
-            let Some((spot, seen)) = turn else {
-                return answer;
-            };
-            if past {
+            if past || !is_empty(&answer) {
                 return answer;
             }
-            self.sleep(rt, until, p, Awaited::Message(spot), seen);
+            if let Some((spot, seen)) = turn {
+                self.sleep(rt, until, p, Awaited::Message(spot), seen);
+            }
+            waits = true;
         }
         unreachable!()
     }

@@ -193,7 +193,9 @@ impl Place {
         ensures drained { (ms : List Message) × Drains (IsDrained 0) e ms self.old self.new }
     {
         for _count in 0..u64::MAX {
-            match self.take_message(desk, e) {
+            let mut answer = Err(Refused::Empty);
+            self.take_message(desk, e, &mut answer);
+            match answer {
                 Ok(_taken) => {}
                 Err(_refused) => return,
             }

@@ -19,7 +19,7 @@ ghost use Rattle.xh_records.specs.Seats.{IsRecord, IsSeatOf};
 ghost use Rattle.xh_core.specs.declared.status.Status.TheVariants as status;
 
 use crate::body::Body;
-use crate::checks::{holds, test_end, test_given};
+use crate::checks::{test_block, test_end, test_given};
 use crate::desk::Desk;
 use crate::end_lots::take_at;
 use crate::gate::{Gate, Point};
@@ -92,40 +92,62 @@ impl Place {
         ensures taken { TakesAt self.old.state e self.old self.new result }
         ensures empty { IfErr result (λ u. u ≡ Refused.Empty → Stays self.old self.new) }
     {
-        self.state.check_start()?;
-        if !holds(desk.records, &mut self.seat, e) {
-            return Err(Refused::NotOwned);
-        }
-        self.take_message(desk, e)
+        let mut answer = Err(Refused::Empty);
+        self.take_into(desk, e, &mut answer);
+        answer
     }
 
-    // Takes the message at the front for a block of the list, and its blocks. NotEndpoint where it isn't an endpoint. It is inlined, so that the
-    // large answer is moved less often.
+    /// As `take`. The answer is large: it is written where the caller keeps it, since each move of it costs.
+    pub fn take_into<R: Wait, V, G: Gate>(
+        &mut self,
+        desk: &Desk<'_, R, V, G>,
+        e: u16,
+        answer: &mut Result<Taken, Refused>,
+    )
+        requires own { IsSeatOf desk.now.records.now self.old.seat }
+        ensures taken { TakesAt self.old.state e self.old self.new answer.new }
+        ensures empty { IfErr answer.new (λ u. u ≡ Refused.Empty → Stays self.old self.new) }
+    {
+        match test_block(desk.records, &mut self.seat, self.state, e) {
+            Ok(()) => self.take_message(desk, e, answer),
+            Err(why) => *answer = Err(why),
+        }
+    }
+
+    // Takes the message at the front for a block of the list, and its blocks. NotEndpoint where it isn't an endpoint.
     #[inline(always)]
     pub(super) fn take_message<R: Wait, V, G: Gate>(
         &mut self,
         desk: &Desk<'_, R, V, G>,
         e: u16,
-    ) -> Result<Taken, Refused>
+        answer: &mut Result<Taken, Refused>,
+    )
         requires own { IsSeatOf desk.now.records.now self.old.seat }
         requires alive { is_over self.old.state ≢ true }
         requires held { (l : LotOf Body) × (value_at e self.old.seat.lots ≡ Some l) }
-        ensures taken { MatchBool (has_end (found self.old.seat e)) (MatchResult result (IsTaken e self.old self.new) (IsUntaken e self.old self.new))
-            ((result ≡ Err NotEndpoint) × Stays self.old self.new) }
+        ensures taken { MatchBool (has_end (found self.old.seat e)) (MatchResult answer.new (IsTaken e self.old self.new) (IsUntaken e self.old self.new))
+            ((answer.new ≡ Err NotEndpoint) × Stays self.old self.new) }
     {
         let (taken, way) = take_at(desk, &mut self.seat, e);
         let Some(direction) = way else {
-            return Err(Refused::NotEndpoint);
+            *answer = Err(Refused::NotEndpoint);
+            return;
         };
-        let message = taken?;
+        let message = match taken {
+            Ok(message) => message,
+            Err(none) => {
+                *answer = Err(Refused::from(none));
+                return;
+            }
+        };
         desk.gate.between(place_of(&self.seat), Point::Popped);
-        let mut taken = Taken {
+        *answer = Ok(Taken {
             no: message.no,
             tag: message.tag,
             blocks: ArrayVec::new(),
-        };
-        self.take_all(desk.records, &message, direction, &mut taken.blocks);
-        Ok(taken)
+        });
+        let Ok(out) = answer else { unreachable!() };
+        self.take_all(desk.records, &message, direction, &mut out.blocks);
     }
 
     // Takes a block that is in flight on the direction, at the end of the list.
