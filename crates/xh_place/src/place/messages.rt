@@ -141,13 +141,13 @@ impl Place {
             }
         };
         desk.gate.between(place_of(&self.seat), Point::Popped);
-        *answer = Ok(Taken {
+        let mut taken = Taken {
             no: message.no,
             tag: message.tag,
             blocks: ArrayVec::new(),
-        });
-        let Ok(out) = answer else { unreachable!() };
-        self.take_all(desk.records, &message, direction, &mut out.blocks);
+        };
+        self.take_all(desk.records, &message, direction, &mut taken.blocks);
+        *answer = Ok(taken);
     }
 
     // Takes a block that is in flight on the direction, at the end of the list.

@@ -12,14 +12,14 @@ take_message-requires-clause-held g c = let i = c.loop-count.invariant in let mi
 pub loop-count-preserved : goal.loop-count-preserved
 loop-count-preserved g c =
     let i = c.loop-count.invariant in let old = c.args.self.now in let mid = c.loop-count.self in let new = c.take_message.new.self in
-    let t = is_end _ (draining_end c.args.e i.0 old mid mid i.1 (starts_same refl)) c.in-Ok.ensures.taken in
+    let t = is_end _ (draining_end c.args.e i.0 old mid mid i.1 (starts_same refl)) (rw c.in-Ok.is at c.take_message.ensures.taken) in
     let after = (becomes_same _ _ _ mid new t.list).3 in
     (i.0 ++ t.message ∷ [], draining_more c.args.e i.0 old mid new i.1 after _ t, omega (arith, length-append i.0 (t.message ∷ []), i.2))
 
 pub returns-in-Err : goal.returns-in-Err
 returns-in-Err g c =
     let i = c.loop-count.invariant in let old = c.args.self.now in let mid = c.loop-count.self in let new = c.take_message.new.self in
-    let t = is_end _ (draining_end c.args.e i.0 old mid mid i.1 (starts_same refl)) c.in-Err.ensures.taken in
+    let t = is_end _ (draining_end c.args.e i.0 old mid mid i.1 (starts_same refl)) (rw c.in-Err.is at c.take_message.ensures.taken) in
     record { drained = (i.0, drained c.args.e i.0 old mid new i.1 (becomes_same _ _ _ mid new t.list).3 _ t) }
 
 pub returns : goal.returns

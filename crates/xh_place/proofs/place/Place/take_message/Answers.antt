@@ -21,8 +21,8 @@ pub invariant_of-self : goal.invariant_of-self
 invariant_of-self g c = let here = at g (goal.at.invariant_of-self g c).After-take_at-taken in
     tried_place c.self.invariant c.args.e here c.take_at-taken.new.seat (EndpointTakes c.take_at-taken.result.0) c.take_at-taken.result.1 (c.take_at-taken.ensures.seat c.requires.held.0 here)
 
-pub invariant_of-self-in_err-message : goal.invariant_of-self-in_err-message
-invariant_of-self-in_err-message g c = let here = at g (goal.at.invariant_of-self-in_err-message g c).After-take_at-taken in
+pub invariant_of-self-in-Err : goal.invariant_of-self-in-Err
+invariant_of-self-in-Err g c = let here = at g (goal.at.invariant_of-self-in-Err g c).After-take_at-taken in
     tried_place c.self.invariant c.args.e here c.take_at-taken.new.seat (EndpointTakes c.take_at-taken.result.0) c.take_at-taken.result.1 (c.take_at-taken.ensures.seat c.requires.held.0 here)
 
 pub invariant_of-self-2 : goal.invariant_of-self-2
@@ -49,18 +49,18 @@ returns-in_default g c =
       );
     }
 
-pub returns-in_err-message : goal.returns-in_err-message
-returns-in_err-message g c =
-    let here = at g (goal.at.returns-in_err-message g c).After-take_at-taken in let seat = c.self.inside.seat in let last = c.take_at-taken.new.seat in let l = c.requires.held.0 in let e = c.args.e in
+pub returns-in-Err : goal.returns-in-Err
+returns-in-Err g c =
+    let here = at g (goal.at.returns-in-Err g c).After-take_at-taken in let seat = c.self.inside.seat in let last = c.take_at-taken.new.seat in let l = c.requires.held.0 in let e = c.args.e in
     let way = c.take_at-taken.result.1 in let t = c.take_at-taken.ensures.seat l here in let w = told_some _ _ way c.in-Some.direction c.in-Some.is (c.take_at-taken.ensures.direction l here) in
-    let none = c.in_err-message.field-0.0 in let is : c.from_residual.result ≡ Err (same_refusal none) = search rules in record {
-      taken = rw is (when_end _ (sym (ap (λ z. has_end (found z.seat e)) c.self.view_is) ∙ kind_at seat e here kind.End w.0)
+    let none = c.in-Err.none in record {
+      taken = rw c.from.ensures (when_end _ (sym (ap (λ z. has_end (found z.seat e)) c.self.view_is) ∙ kind_at seat e here kind.End w.0)
           (subst (λ z. IsUntaken e z (record { seat = last; list = c.self.inside.list.items; state = c.self.inside.state }) (same_refusal none)) c.self.view_is (record {
             before = l;
             after = t.0;
             none = none;
             held = (here, is_long (EndpointTakes c.take_at-taken.result.0) (c.self.invariant.whole e l here) (told_some _ _ way c.in-Some.direction c.in-Some.is t.1));
-            made = subst (λ r. EndDoes (EndpointTakes r) l t.0) c.in_err-message.was (told_some _ _ way c.in-Some.direction c.in-Some.is t.1);
+            made = subst (λ r. EndDoes (EndpointTakes r) l t.0) c.in-Err.is (told_some _ _ way c.in-Some.direction c.in-Some.is t.1);
             list = becomes seat last _ _ (acts_none (put e t.0 seat.lots) seat last t.2) refl refl;
             answer = refl;
           })));
@@ -76,15 +76,15 @@ returns g c =
     (record { seat = h; list = list; state = state }) new) t.2 got.1 in
     let told = subst (λ (h : Held Body). AreGot (IsSeen h new.seat) c.in-Some.direction (items_of got.0) c.take_all.new.got.items) t.2 got.2 in record {
       taken = when_end _ (sym (ap (λ z. has_end (found z.seat e)) c.self.view_is) ∙ kind_at seat e here kind.End w.0)
-          (subst (λ z. IsTaken e z new (record { no = c.in_ok-message.message.no; tag = c.in_ok-message.message.tag; blocks = c.take_all.new.got })) c.self.view_is (record {
+          (subst (λ z. IsTaken e z new (record { no = c.in-Ok.message.no; tag = c.in-Ok.message.tag; blocks = c.take_all.new.got })) c.self.view_is (record {
             before = l;
             after = t.0;
-            message = c.in_ok-message.message;
+            message = c.in-Ok.message;
             gained = got.0;
             blocks = items_of got.0;
             came = refl;
             held = (here, is_long (EndpointTakes c.take_at-taken.result.0) (c.self.invariant.whole e l here) (told_some _ _ way c.in-Some.direction c.in-Some.is t.1));
-            made = subst (λ r. EndDoes (EndpointTakes r) l t.0) c.in_ok-message.was (told_some _ _ way c.in-Some.direction c.in-Some.is t.1);
+            made = subst (λ r. EndDoes (EndpointTakes r) l t.0) c.in-Ok.is (told_some _ _ way c.in-Some.direction c.in-Some.is t.1);
             told = (refl, refl, c.take_all.ensures.records);
             list = subst (λ (d : ℕ). Becomes (put e t.0 seat.lots ++ got.0) (list ++ keys got.0) (accepted_on seat.process d (items_of got.0)) (record { seat = seat; list = list; state = state })
                 new) w.1 gained;
