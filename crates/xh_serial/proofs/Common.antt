@@ -8,10 +8,10 @@ pub use Rattle.std.proofs.lemmas.List.{at_drop_all, get_or_default, length-appen
 pub use Rattle.std.proofs.lemmas.List.Sums.{get_or-le-sum_by, passes_at_first, prefix_len-le-length, sum_by-append, sum_by-cons, sum_by-le, sum_by-remove, sum_by-take-drop, sum_by-take-le}
 pub use Rattle.std.specs.List.{flat_map, list_all, list_any, position, position_or_len, range_with_len, remove, sum_by}
 pub use Rattle.std.specs.Prelude.{All, AllPairs, Option, is_none, is_some, map, nat_lt, not, ok_or, replicate, slice_index_or, slice_set, unwrap_or, ◌==◌}
-pub use Rattle.xh_core.proofs.{Claiming.in_range, Claiming.no_bytes, Claiming.one_time, Firsts.first_append, Firsts.first_later, FreshPlain.at_replicate, Pairs.Shared, Pairs.paired_two}
-pub use Rattle.xh_core.proofs.{Pairs.shared, Stores.arena_there, Stores.at_set, Stores.count_append, Stores.done, Stores.is_there}
+pub use Rattle.xh_core.proofs.{Claiming.in_range, Claiming.no_bytes, Claiming.one_time, Firsts.first_append, Firsts.first_later, FreshPlain.at_replicate, Stores.arena_there, Stores.at_set, Stores.count_append}
+pub use Rattle.xh_core.proofs.{Stores.done, Stores.is_there}
 pub use Rattle.xh_core.proofs.{Stores.len_back, Stores.len_back_else, Stores.same_direction, Stores.same_known, Stores.same_len, Stores.same_process, Stores.times-cons}
-pub use Rattle.xh_core.specs.{Calls.end_tests, Calls.start, Flight.AreFlightLines, Gaining.Gained, Pairing.Paired, Pairing.moved, Refusing.Tests, Refusing.first_refusal, Space.free_record}
+pub use Rattle.xh_core.specs.{Calls.end_tests, Calls.start, Flight.AreFlightLines, Gaining.Gained, Pairing.Paired, Pairing.moved, Pairing.with_pair, Refusing.Tests, Refusing.first_refusal, Space.free_record}
 pub use Rattle.xh_core.specs.{Space.pair_tests, Space.rounded, Space.space_tests, Statuses.is_over, declared.flight.FlightLine.FlightLine, declared.refused.Refused.TheVariants.NoPlace}
 pub use Rattle.xh_core.specs.{declared.refused.Refused.TheVariants.OutOfMemory, declared.status.Status.Status, declared.status.Status.TheVariants.Ended, declared.status.Status.TheVariants.Ending}
 pub use Rattle.xh_core.specs.Several.{has_twice, times}
@@ -29,7 +29,7 @@ pub use Rattle.xh_serial.specs.Commands.{accept_all, accept_from, described, pas
 pub use Rattle.xh_serial.specs.Lines.{AreNumbered, IsNumbered, carried, contract_of, drained_state, is_banned, line, new_line, state_then, no_line, no_message, peer, put_line, shut_in, shut_line}
 pub use Rattle.xh_serial.specs.Lines.{tags_of, taken_line, told_line, way_in}
 pub use Rattle.xh_serial.specs.Machine.{AreChannels, ArePlaces, AreWired, HaveEnds, IsEndRecord, IsWhole, Machine, arriving, blocks, buffer}
-pub use Rattle.xh_serial.specs.Machine.{end_of, is_current, listed, no_place, on_way, place, relisted, restated, serial_status, waiting}
+pub use Rattle.xh_serial.specs.Machine.{end_of, is_current, listed, no_place, on_way, place, relisted, restated, serial_status, waiting, with_last}
 pub use Rattle.xh_serial.specs.MessageCommands.{HasOrderlyLines, front_message, without_records}
 pub use Rattle.xh_serial.specs.PlaceCommands.{serial_flight, serial_flights, is_ready, serial_places, serial_started, total}
 unfoldable pub use Rattle.xh_serial.specs.{EndingCommands.close, EndingCommands.closed, MessageCommands.give, MessageCommands.given, MessageCommands.taken, Sweeping.sweep_one}

@@ -5,7 +5,7 @@ use Rattle.xh_serial.proofs.Common.{false, false≢true, flat_map-append, front_
 use Rattle.xh_serial.proofs.Common.{length-set, line, list_all, list_any, listed, lt-ltb, nat_lt, nat_tests, state_then, no_line, no_message, on_way, owner, pass_all, peer, put_line, put_step}
 use Rattle.xh_serial.proofs.Common.{refl, remove, same_len, slice_index_or, slice_set, subst, sym, tags_of, take_step, taken, taken_line, times, times-cons, told_line, toward, true, unwrap_or}
 use Rattle.xh_serial.proofs.Common.{waiting, without_records, ℕ, ◌%◌, ◌*◌, ◌++◌, ◌+◌, ◌-◌, ◌/◌, ◌<◌, ◌==◌, ◌∙◌, ◌∷◌, ◌≡◌, ◌≢◌, ◌≤◌}
-use Rattle.xh_serial.proofs.Accepting.{Accepted, accepted_all, all_owners}
+use Rattle.xh_serial.proofs.Accepting.{Went, accepted_all, passed_all}
 use Rattle.xh_serial.proofs.Room.{handed_whole, has, room}
 use Rattle.xh_serial.proofs.Machines.{busy_place, current_blocks, current_generation, current_range, list_set, peer_half, peer_ne, place_there, places_set, runs_busy, way_else, way_here}
 use Rattle.xh_serial.proofs.Wired.{IsPair, half_apart, put_numbered, same_lines, set_numbered, set_reached, state_in, tags_in, taken_numbered, wired_pair}
@@ -23,28 +23,6 @@ times_without q bs (r ∷ rs) = grind (arith, nat_tests, times-cons q r rs, time
 pub distinct_pass : (test : ℕ → Bool) (bs : List ℕ) → list_all test bs ≡ true → has_twice bs ≡ false → (q : ℕ) → times q bs ≤ cond (test q) 1 0
 distinct_pass test [] a t q = omega arith
 distinct_pass test (b ∷ bs) a t q = grind (arith, nat_tests, times-cons q b bs, distinct_pass test bs, any_times b bs)
-
--- p passed these to d
-pub record Passed (d : ℕ) (rs : List ℕ) (s t : Store) : Type 0 where
-  pub owners : (q : ℕ) → owner t q ≡ cond (nat_lt 0 (times q rs)) (Some (Direction d)) (owner s q)
-  pub many : length t.owners ≡ length s.owners
-  pub arenas : t.arenas ≡ s.arenas
-
-pub passed_all : (p d : ℕ) (rs : List ℕ) (s : Store) → d < 128 → ((q : ℕ) → times q rs ≤ cond (holds s (Process p) q) 1 0) → ((q : ℕ) → holds s (Process p) q ≡ true → 0 < len s q) →
-    Passed d rs s (pass_all p d rs s)
-passed_all p d [] s l h f = record { owners = λ q. refl; many = refl; arenas = refl }
-passed_all p d (r ∷ rs) s l h f =
-    let first : holds s (Process p) r ≡ true = grind (arith, nat_tests, times-cons r r rs, h r) in
-    let is : after (Pass p r d) s ≡ change (Pass p r d) s = done (Pass p r d) s (rw (lt-ltb d 128 l, first, lt-ltb 0 (len s r) (f r first)) refl) in
-    let own : (q : ℕ) → owner (after (Pass p r d) s) q ≡ cond (q == r) (Some (Direction d)) (owner s q) = grind (arith, nat_tests, at_set, is_there) in
-    let long : (q : ℕ) → len (after (Pass p r d) s) q ≡ len s q = (λ q. same_len s (after (Pass p r d) s) q (ap (λ (t : Store). t.arenas) is)) in
-    let more : Passed d rs (after (Pass p r d) s) (pass_all p d rs (after (Pass p r d) s)) = passed_all p d rs (after (Pass p r d) s) l
-    (λ q. grind (arith, nat_tests, times-cons q r rs, h q, own q)) (λ q y. grind (arith, nat_tests, own q, long q, f q)) in
-    record {
-      owners = λ q. more.owners q ∙ rw (own q) (all_owners (Direction d) q r rs (owner s q));
-      many = more.many ∙ (ap (λ (t : Store). length t.owners) is ∙ length-set s.owners r (Some (Direction d)));
-      arenas = more.arenas ∙ ap (λ (t : Store). t.arenas) is;
-    }
 
 -- ---- the contract
 
@@ -103,7 +81,7 @@ module _ (m : Machine) (p e tag : ℕ) (bs : List ℕ) (w : IsWhole m) (g : MayG
   there : d < length told
   there = let a = w.channels.long in let b = range in let c : length told ≡ length m.lines = length-set m.lines own z in omega (arith, a, b, c)
 
-  passed : Passed d bs m.store (pass_all p d bs m.store)
+  passed : Went (Direction d) bs m.store (pass_all p d bs m.store)
   passed = passed_all p d bs m.store range held (w.full (Process p))
 
   left : (q : ℕ) → times q (without_records bs (blocks m p)) + times q bs ≡ times q (blocks m p)
@@ -199,7 +177,7 @@ module _ (m : Machine) (p e : ℕ) (w : IsWhole m) (t : MayTake m p e (toward m 
   came_once : (q : ℕ) → times q came ≤ cond (holds m.store (Direction way_d) q) 1 0
   came_once q = let s = split q in let o = w.once (Direction way_d) q in omega (arith, s, o)
 
-  accepted : Accepted p came m.store (accept_all p way_d came m.store)
+  accepted : Went (Process p) came m.store (accept_all p way_d came m.store)
   accepted = accepted_all p way_d came m.store (current_range m p w t.runs.0) came_once
 
   taken_lists : (k : Holder) (q : ℕ) → times q (listed later k) + has (Some (Direction way_d)) k * times q came ≡ times q (listed m k) + has (Some (Process p)) k * times q came

@@ -1,14 +1,16 @@
 -- A new machine is whole, and so is one where a process starts, and one where a channel is opened.
-use Rattle.xh_serial.proofs.Common.{new_line, ArePlaces, Bool, Carve, Claim, Config, Cut, Direction, Holder, IsConfig, IsLawful, IsNumbered, IsRunning, IsSound, IsWhole, Line, List, Machine, None}
-use Rattle.xh_serial.proofs.Common.{Option, Place, Process, Row, Shared, Some, Store, [], after, ap, append_assoc, arith, at_replicate, at_set, blocks, buffer, cases_eq, cond, count_append}
-use Rattle.xh_serial.proofs.Common.{end_of, eq-eqb, false, false≢true, get_or-set_other, get_or-set_same, holds, inl, inr, is_held_by, is_over, is_ready, is_some, len, length, length-append}
-use Rattle.xh_serial.proofs.Common.{length-replicate, length-set, line, listed, moved, nat_tests, ne_eqb, new_machine, new_store, no_bytes, no_line, no_place, on_way, one_time, owner, peer}
-use Rattle.xh_serial.proofs.Common.{place, position, position-Some, refl, set-set, slice_index_or, slice_set, serial_started, started_at, subst, sym, times, true, waiting, ℕ, ◌%◌}
-use Rattle.xh_serial.proofs.Common.{◌*◌, ◌++◌, ◌+◌, ◌/◌, ◌<◌, ◌==◌, ◌∙◌, ◌∷◌, ◌≡◌, ◌≢◌}
-use Rattle.xh_serial.proofs.Machines.{IsPlace, current_generation, list_in, list_set, peer_half, place_here, place_there, places_set, places_whole, runs_busy, same_lists}
-use Rattle.xh_serial.specs.ChannelCommands.{open_channel, opened, wire_channel, wired}
+use Rattle.xh_serial.proofs.Common.{new_line, ArePlaces, Bool, Config, Direction, Holder, IsConfig, IsLawful, IsNumbered, IsRunning, IsSound, IsWhole, Line, List, Machine, None, Option, Paired}
+use Rattle.xh_serial.proofs.Common.{Place, Process, Row, Some, Store, [], accept_all, ap, arith, at_replicate, at_set, blocks, buffer, cases_eq, cond, count_append, end_of, eq-eqb}
+use Rattle.xh_serial.proofs.Common.{false, false≢true, get_or-set_other, get_or-set_same, holds, inl, inr, is_held_by, is_over, is_ready, is_some, is_there, len, length, length-append}
+use Rattle.xh_serial.proofs.Common.{length-replicate, length-set, line, listed, moved, nat_tests, ne_eqb, new_machine, new_store, no_bytes, no_line, no_place, on_way, one_time, owner, pass_all, peer}
+use Rattle.xh_serial.proofs.Common.{place, position, position-Some, refl, same_len, same_process, slice_index_or, slice_set, serial_started, started_at, subst, sym, times, true, waiting, with_last, with_pair}
+use Rattle.xh_serial.proofs.Common.{ℕ, ◌%◌, ◌*◌, ◌++◌, ◌+◌, ◌/◌, ◌<◌, ◌==◌, ◌∙◌, ◌∷◌, ◌≡◌, ◌≢◌}
+use Rattle.xh_serial.proofs.Accepting.{Went, accepted_all, passed_all}
+use Rattle.xh_serial.proofs.Machines.{IsPlace, current_generation, current_range, list_in, list_set, peer_half, place_there, places_set, places_whole, runs_busy, same_lists}
 use Rattle.xh_serial.proofs.Room.{room}
 use Rattle.xh_serial.proofs.Wired.{same_lines, set_numbered}
+use Rattle.xh_serial.specs.ChannelCommands.{wired}
+use Rattle.std.specs.Prelude.{◌||◌}
 
 module _ (m : Machine) (p : ℕ) (w : IsWhole m) (c : is_ready (place m.places p) ≡ true) where
   abbrev next : Machine
@@ -72,23 +74,6 @@ module _ (c : Config) (is : IsConfig c) (lawful : IsLawful (new_store c)) where
     deep = is.most_depth;
   }
 
--- ---- a channel is opened
-
--- ---- one process for both ends
-
-pub same_process : (p a : ℕ) (contract : Option (List Row)) (m : Machine) → wire_channel p p a contract m ≡ open_channel p a contract m
-unfolding wire_channel open_channel
-same_process p a contract m = grind (arith, nat_tests, eq-eqb)
-
--- what is known once the two records have their blocks, one of them gone to q
-pub record Connects (s : Store) (p q r t : ℕ) (contract : Option (List Row)) (m : Machine) : Type 0 where
-  pub whole : IsWhole m
-  pub runs_p : IsRunning m p
-  pub runs_q : IsRunning m q
-  pub more : m.opened < 64
-  pub sound : IsSound contract
-  pub shared : Shared p q r t m.store s
-
 -- ---- records go to the ends of the lists of processes that run
 
 -- p is the latest process of its place, and may list something
@@ -99,83 +84,101 @@ pub record IsBusy (ps : List Place) (p : ℕ) : Type 0 where
 running_place : (m : Machine) (p : ℕ) → IsRunning m p → IsBusy m.places p
 running_place m p r = record { current = current_generation m p r.0; busy = runs_busy m p r }
 
--- r goes to the end of p's list
-abbrev longer : ℕ → Place → Place
-longer r x = record x { blocks = record { items = x.blocks.items ++ r ∷ [] } }
-
-abbrev pub appended : ℕ → ℕ → List Place → List Place
-appended p r ps = slice_set ps (p % 32) (longer r (place ps p))
-
 pub own_list : (ps : List Place) (p : ℕ) → IsBusy ps p → list_in ps p ≡ (place ps p).blocks.items
 own_list ps p b = let e : ((place ps p).generation == (p / 32)) ≡ true = eq-eqb _ _ b.current in rw e refl
 
 module _ (ps : List Place) (p r : ℕ) (a : ArePlaces ps) (b : IsBusy ps p) where
+  abbrev longer : Place
+  longer = record (place ps p) { blocks = record { items = (place ps p).blocks.items ++ r ∷ [] } }
+
   within : p % 32 < length ps
   within = let e = a.long in omega (arith, e)
 
-  at : (k : ℕ) → place (appended p r ps) k ≡ cond ((k % 32) == (p % 32)) (longer r (place ps p)) (place ps k)
-  at k = at_set ps (p % 32) (k % 32) (longer r (place ps p)) no_place within
+  at : (k : ℕ) → place (with_last p r ps) k ≡ cond ((k % 32) == (p % 32)) longer (place ps k)
+  at k = at_set ps (p % 32) (k % 32) longer no_place within
 
-  pub appended_places : ArePlaces (appended p r ps)
-  appended_places = places_set ps p (longer r (place ps p)) a (record { generation = a.generations p; idle = λ h. absurd (false≢true (sym b.busy ∙ h)) })
+  pub longer_places : ArePlaces (with_last p r ps)
+  longer_places = places_set ps p longer a (record { generation = a.generations p; idle = λ h. absurd (false≢true (sym b.busy ∙ h)) })
 
-  pub appended_busy : (k : ℕ) → IsBusy ps k → IsBusy (appended p r ps) k
-  appended_busy k h = record { current = grind (arith, nat_tests, at k, h.current); busy = grind (arith, nat_tests, at k, h.busy) }
+  pub longer_busy : (k : ℕ) → IsBusy ps k → IsBusy (with_last p r ps) k
+  longer_busy k h = record { current = grind (arith, nat_tests, at k, h.current); busy = grind (arith, nat_tests, at k, h.busy) }
 
-  pub appended_list : (k : ℕ) → list_in (appended p r ps) k ≡ cond (p == k) (list_in ps k ++ r ∷ []) (list_in ps k)
-  appended_list k = grind (arith, nat_tests, list_set ps p ((place ps p).blocks.items ++ r ∷ []) within b.current k, b.current)
-
-  -- two records for one process
-  pub appended_twice : (t : ℕ) → appended p t (appended p r ps) ≡ slice_set ps (p % 32) (record (place ps p) { blocks = record { items = list_in ps p ++ r ∷ t ∷ [] } })
-  appended_twice t = grind (arith, nat_tests, place_here, within, list_in, append_assoc, own_list, set-set)
-
-  -- one each for two
-  pub appended_both : (q t : ℕ) → IsBusy ps q → p ≢ q →
-      appended q t (appended p r ps) ≡ slice_set (slice_set ps (p % 32) (record (place ps p) { blocks = record { items = list_in ps p ++ r ∷ [] } })) (q % 32)
-      (record (place (slice_set ps (p % 32) (record (place ps p) { blocks = record { items = list_in ps p ++ r ∷ [] } })) q) { blocks = record { items = list_in ps q ++ t ∷ [] } })
-  appended_both q t h n =
-      let first : appended p r ps ≡ slice_set ps (p % 32) (record (place ps p) { blocks = record { items = list_in ps p ++ r ∷ [] } }) = grind (arith, nat_tests, own_list) in
-      let same : list_in (appended p r ps) q ≡ list_in ps q = appended_list q ∙ rw (ne_eqb p q n) refl in
-      let items : (place (appended p r ps) q).blocks.items ≡ list_in ps q = sym (own_list (appended p r ps) q (appended_busy q h)) ∙ same in
-      grind (arith, nat_tests, list_in)
-
--- ---- the machine after it
+  pub longer_list : (k : ℕ) → list_in (with_last p r ps) k ≡ cond (p == k) (list_in ps k ++ r ∷ []) (list_in ps k)
+  longer_list k = grind (arith, nat_tests, list_set ps p ((place ps p).blocks.items ++ r ∷ []) within b.current k, b.current)
 
 -- how often a record stands in a list that may have got one more
 times_longer : (b : Bool) (r : ℕ) (xs : List ℕ) (j : ℕ) → times j (cond b (xs ++ r ∷ []) xs) ≡ times j xs + cond {A = ℕ} b (cond {A = ℕ} (r == j) 1 0) 0
 times_longer b r xs j = grind (arith, nat_tests, count_append j xs (r ∷ []), one_time j r)
 
--- r is the end of p and t the end of q of the next channel, in a store that says so
-abbrev pub connected : Store → ℕ → ℕ → ℕ → ℕ → Option (List Row) → Machine → Machine
-connected s p q r t contract m = record m {
-  store = s;
-  ends = slice_set (slice_set m.ends r (Some (2 * m.opened))) t (Some (2 * m.opened + 1));
-  places = appended q t (appended p r m.places);
-  lines = slice_set (slice_set m.lines (2 * m.opened) (new_line contract)) (2 * m.opened + 1) (new_line contract);
-  contracts = slice_set m.contracts m.opened contract;
-  opened = m.opened + 1;
-}
+-- ---- an end changes hands
 
-module _ (s : Store) (p q r t : ℕ) (contract : Option (List Row)) (m : Machine) (v : Connects s p q r t contract m) where
+-- what a process that keeps a record, or hands it over, leaves of a store
+pub end_moved : (p q t d : ℕ) (s : Store) → q < 65504 → d < 128 → holds s (Process p) t ≡ true → ((k : ℕ) → holds s (Process p) k ≡ true → 0 < len s k) → Went (Process q) (t ∷ []) s (moved p q t d s)
+end_moved p q t d s ql dl h full = elim (cases_eq p q) [
+  | inl e ↦ rw (eq-eqb p q e) (record { owners = λ k. grind (arith, nat_tests, one_time k t, same_process (owner s t) p h); many = refl; arenas = refl })
+  | inr n ↦ rw (ne_eqb p q n) (
+      let a : Went (Direction d) (t ∷ []) s (pass_all p d (t ∷ []) s) = passed_all p d (t ∷ []) s dl (λ k. grind (arith, nat_tests, one_time k t)) full in
+      let b : Went (Process q) (t ∷ []) (pass_all p d (t ∷ []) s) (accept_all q d (t ∷ []) (pass_all p d (t ∷ []) s)) = accepted_all q d (t ∷ []) (pass_all p d (t ∷ []) s) ql
+      (λ k. grind (arith, nat_tests, one_time k t, a.owners k)) in
+      record { owners = λ k. grind (arith, nat_tests, a.owners k, b.owners k); many = b.many ∙ a.many; arenas = b.arenas ∙ a.arenas })
+]
+
+-- ---- a channel is opened
+
+pub pair_there : (p a r t : ℕ) (s n : Store) → Paired p a r t s n → (k : ℕ) → ((k == r) || (k == t)) ≡ true → k < length s.owners
+pair_there p a r t s n v k y = let l : k < length n.owners = is_there n (Process p) k (grind (arith, nat_tests, v.owners k)) in let e = v.many in omega (arith, l, e)
+
+-- what is known once the two records have their blocks, and one of them went to q
+pub record Connects (p q a r t : ℕ) (contract : Option (List Row)) (m : Machine) : Type 0 where
+  pub whole : IsWhole m
+  pub runs_p : IsRunning m p
+  pub runs_q : IsRunning m q
+  pub more : m.opened < 64
+  pub sound : IsSound contract
+  pub pair : Paired p a r t m.store (with_pair p r t m.store)
+  pub lawful : IsLawful (wired p q r t contract m).store
+
+module _ (p q a r t : ℕ) (contract : Option (List Row)) (m : Machine) (v : Connects p q a r t contract m) where
   abbrev n : Machine
-  n = connected s p q r t contract m
+  n = wired p q r t contract m
+
+  abbrev pair : Store
+  pair = with_pair p r t m.store
 
   -- ---- who holds what
 
-  middle : ArePlaces (appended p r m.places)
-  middle = appended_places m.places p r v.whole.places (running_place m p v.runs_p)
+  full : (k : ℕ) → holds pair (Process p) k ≡ true → 0 < len pair k
+  full k h = grind (arith, nat_tests, v.pair.owners k, v.pair.head, v.pair.tail, v.pair.kept k, v.whole.full (Process p) k)
 
-  busy_q : IsBusy (appended p r m.places) q
-  busy_q = appended_busy m.places p r v.whole.places (running_place m p v.runs_p) q (running_place m q v.runs_q)
+  hand : Went (Process q) (t ∷ []) pair n.store
+  hand = end_moved p q t (2 * m.opened + 1) pair (current_range m q v.whole v.runs_q.0) (omega (arith, v.more)) (grind (arith, nat_tests, v.pair.owners t)) full
 
-  between : (h : ℕ) → list_in (appended p r m.places) h ≡ cond (p == h) (blocks m h ++ r ∷ []) (blocks m h)
-  between h = appended_list m.places p r v.whole.places (running_place m p v.runs_p) h
+  owners : (k : ℕ) → owner n.store k ≡ cond (k == t) (Some (Process q)) (cond (k == r) (Some (Process p)) (owner m.store k))
+  owners k = grind (arith, nat_tests, hand.owners k, one_time k t, v.pair.owners k)
 
-  lists : (h : ℕ) → blocks n h ≡ cond (q == h) (list_in (appended p r m.places) h ++ t ∷ []) (list_in (appended p r m.places) h)
-  lists h = appended_list (appended p r m.places) q t middle busy_q h
+  empty : (k : ℕ) → owner m.store k ≡ None → len m.store k ≡ 0
+  empty k e = no_bytes (owner m.store k) (len m.store k) e (v.whole.store.owned k)
+
+  lens : (k : ℕ) → len n.store k ≡ len pair k
+  lens k = same_len pair n.store k hand.arenas
+
+  many : length n.store.owners ≡ length m.store.owners
+  many = hand.many ∙ v.pair.many
+
+  middle : ArePlaces (with_last p r m.places)
+  middle = longer_places m.places p r v.whole.places (running_place m p v.runs_p)
+
+  busy_q : IsBusy (with_last p r m.places) q
+  busy_q = longer_busy m.places p r v.whole.places (running_place m p v.runs_p) q (running_place m q v.runs_q)
+
+  between : (h : ℕ) → list_in (with_last p r m.places) h ≡ cond (p == h) (blocks m h ++ r ∷ []) (blocks m h)
+  between h = longer_list m.places p r v.whole.places (running_place m p v.runs_p) h
+
+  lists : (h : ℕ) → blocks n h ≡ cond (q == h) (list_in (with_last p r m.places) h ++ t ∷ []) (list_in (with_last p r m.places) h)
+  lists h = longer_list (with_last p r m.places) q t middle busy_q h
 
   count : (h j : ℕ) → times j (blocks n h) ≡ times j (blocks m h) + cond {A = ℕ} (p == h) (cond {A = ℕ} (r == j) 1 0) 0 + cond {A = ℕ} (q == h) (cond {A = ℕ} (t == j) 1 0) 0
-  count h j = let a = times_longer (q == h) t (list_in (appended p r m.places) h) j in let b = times_longer (p == h) r (blocks m h) j in rw (lists h, a, between h, b) refl
+  count h j = let a = times_longer (q == h) t (list_in (with_last p r m.places) h) j in let b = times_longer (p == h) r (blocks m h) j in rw (lists h, a, between h, b) refl
 
   -- ---- the directions
 
@@ -194,45 +197,51 @@ module _ (s : Store) (p q r t : ℕ) (contract : Option (List Row)) (m : Machine
   ways : (d : ℕ) → on_way n d ≡ on_way m d
   ways d = grind (arith, nat_tests, line_new, line_old)
 
-  once_now : (h : Holder) (j : ℕ) → times j (listed n h) ≡ cond (holds s h j) 1 0
-  once_now (Process h) j = grind (arith, nat_tests, count h j, v.shared.owners j, v.whole.once (Process h) j, v.shared.free_r, v.shared.free_t, v.shared.apart)
-  once_now (Direction d) j = rw (ways d) (grind (arith, nat_tests, v.whole.once (Direction d) j, v.shared.owners j, v.shared.free_r, v.shared.free_t))
+  once_now : (h : Holder) (j : ℕ) → times j (listed n h) ≡ cond (holds n.store h j) 1 0
+  once_now (Process h) j = grind (arith, nat_tests, count h j, owners j, v.whole.once (Process h) j, v.pair.free.0, v.pair.free.1, v.pair.apart)
+  once_now (Direction d) j = rw (ways d) (grind (arith, nat_tests, v.whole.once (Direction d) j, owners j, v.pair.free.0, v.pair.free.1))
 
   -- ---- the endpoints
 
+  there : (k : ℕ) → ((k == r) || (k == t)) ≡ true → k < length m.ends
+  there k y = rw v.whole.kinds (pair_there p a r t m.store pair v.pair k y)
+
   end_is : (k : ℕ) → end_of n k ≡ cond (k == t) (Some (2 * m.opened + 1)) (cond (k == r) (Some (2 * m.opened)) (end_of m k))
-  end_is k = grind (arith, nat_tests, length-set, at_set)
+  end_is k =
+      let low : r < length m.ends = there r (grind (arith, nat_tests)) in
+      let high : t < length m.ends = there t (grind (arith, nat_tests)) in
+      grind (arith, nat_tests, length-set, at_set)
 
   drained : (d : ℕ) → (line n.lines d).shut ≡ true → waiting n d ≡ []
   drained d = grind (arith, nat_tests, line_is d, v.whole.reached.drained d)
 
   reached : (d : ℕ) → d < 2 * (m.opened + 1) → (line n.lines d).shut ≡ false → (e : ℕ) × (end_of n e ≡ Some d)
   reached d below not_shut = elim (cases_eq (d / 2) m.opened) [
-    | inl e ↦ (cond ((d % 2) == 0) r t, grind (arith, nat_tests, end_is r, end_is t, v.shared.apart))
+    | inl e ↦ (cond ((d % 2) == 0) r t, grind (arith, nat_tests, end_is r, end_is t, v.pair.apart))
     | inr a ↦ (
         let old = v.whole.reached.there d (grind (arith, nat_tests)) (grind (arith, nat_tests, line_is d)) in
-        (old.0, grind (arith, nat_tests, end_is old.0, old.1, (v.whole.ends old.0 d old.1).held, v.shared.free_r, v.shared.free_t)))
+        (old.0, grind (arith, nat_tests, end_is old.0, old.1, (v.whole.ends old.0 d old.1).held, v.pair.free.0, v.pair.free.1)))
   ]
 
   -- ---- all of it
 
   pub connected_whole : IsWhole n
   connected_whole = record {
-    store = v.shared.lawful;
+    store = v.lawful;
     once = once_now;
-    full = λ h k y. grind (arith, nat_tests, v.shared.owners k, v.shared.full_r, v.shared.full_t, v.shared.kept k, v.whole.full h k);
-    kinds = length-set (slice_set m.ends r (Some (2 * m.opened))) t (Some (2 * m.opened + 1)) ∙ (length-set m.ends r (Some (2 * m.opened)) ∙ (v.whole.kinds ∙ sym v.shared.many));
+    full = λ h k y. grind (arith, nat_tests, owners k, lens k, v.pair.head, v.pair.tail, v.pair.kept k, v.whole.full h k);
+    kinds = length-set (slice_set m.ends r (Some (2 * m.opened))) t (Some (2 * m.opened + 1)) ∙ (length-set m.ends r (Some (2 * m.opened)) ∙ (v.whole.kinds ∙ sym many));
     ends = λ k d e.
         let held : end_of m k ≡ Some d → is_some (owner m.store k) ≡ true = λ f. (v.whole.ends k d f).held in
         let below : (j : ℕ) → end_of m j ≡ Some d → d < 2 * m.opened = λ j f. (v.whole.ends j d f).opened in
         let alone : (j : ℕ) → end_of m k ≡ Some d → end_of m j ≡ Some d → j ≡ k = λ j f. (v.whole.ends k d f).alone j in record {
-          held = grind (arith, nat_tests, end_is k, v.shared.owners k, held);
+          held = grind (arith, nat_tests, end_is k, owners k, held);
           opened = grind (arith, nat_tests, end_is k, below k);
           alone = λ j f. grind (arith, nat_tests, end_is k, end_is j, below k, below j, alone j);
         };
-    buffers = v.whole.buffers ∙ sym v.shared.many;
-    bytes = grind (arith, nat_tests, no_bytes, end_is);
-    places = appended_places (appended p r m.places) q t middle busy_q;
+    buffers = v.whole.buffers ∙ sym many;
+    bytes = λ k. grind (arith, nat_tests, end_is k, lens k, v.pair.kept k, v.pair.free.0, v.pair.free.1, empty k, v.whole.bytes k);
+    places = longer_places (with_last p r m.places) q t middle busy_q;
     channels = record {
       long = length-set (slice_set m.lines (2 * m.opened) (new_line contract)) (2 * m.opened + 1) (new_line contract)
           ∙ (length-set m.lines (2 * m.opened) (new_line contract) ∙ v.whole.channels.long);
@@ -262,17 +271,10 @@ module _ (s : Store) (p q r t : ℕ) (contract : Option (List Row)) (m : Machine
 
   -- ---- the lists have room
 
-  pub room_q : length (place (appended p r m.places) q).blocks.items < 2048
-  room_q = grind (arith, nat_tests, room n q None connected_whole, lists q, length-append (list_in (appended p r m.places) q) (t ∷ []), own_list (appended p r m.places) q busy_q)
+  pub room_q : length (place (with_last p r m.places) q).blocks.items < 2048
+  room_q = grind (arith, nat_tests, room n q None connected_whole, lists q, length-append (list_in (with_last p r m.places) q) (t ∷ []), own_list (with_last p r m.places) q busy_q)
 
   pub room_p : length (place m.places p).blocks.items < 2048
   room_p =
-      let all = room n p None connected_whole in let one = length-append (list_in m.places p) (r ∷ []) in let more = length-append (list_in (appended p r m.places) p) (t ∷ []) in
+      let all = room n p None connected_whole in let one = length-append (list_in m.places p) (r ∷ []) in let more = length-append (list_in (with_last p r m.places) p) (t ∷ []) in
       grind (arith, nat_tests, lists p, between p, own_list m.places p (running_place m p v.runs_p))
-
--- ---- the command says the same
-
-pub connected_is : (p q r t : ℕ) (contract : Option (List Row)) (m : Machine) → IsWhole m → IsRunning m p → IsRunning m q →
-    connected (moved p q t (2 * m.opened + 1) (after (Cut p r t 32) (after (Carve p r 64) (after (Claim p t) (after (Claim p r) m.store))))) p q r t contract m ≡ wired p q r t contract m
-unfolding opened
-connected_is p q r t contract m w runs_p runs_q = grind (arith, nat_tests, eq-eqb, appended_twice, running_place, ne_eqb, appended_both)

@@ -4,7 +4,7 @@ use Rattle.xh_serial.proofs.Common.{accept_from, after, all_out, ap, arena_there
 use Rattle.xh_serial.proofs.Common.{end_of, eq-eqb, false, false≢true, get_or-le-sum_by, get_or-set_other, holds, inl, inr, is_some, is_there, len, len_back, len_back_else, length, length-append}
 use Rattle.xh_serial.proofs.Common.{length-set, line, listed, lt-ltb, nat_lt, nat_tests, ne_eqb, no_line, on_way, owner, refl, relisted, remove, same_direction, same_known, same_len, same_process}
 use Rattle.xh_serial.proofs.Common.{shut_in, slice_index_or, sum_by-remove, sweep, sweep_one, sym, times, true, way_in, ℕ, ◌*◌, ◌++◌, ◌+◌, ◌-◌, ◌/◌, ◌<◌, ◌==◌, ◌∙◌, ◌≡◌, ◌≢◌, ◌≤◌, ◌⊎◌}
-use Rattle.xh_serial.proofs.Accepting.{Accepted, accepted_all}
+use Rattle.xh_serial.proofs.Accepting.{Went, accepted_all}
 use Rattle.xh_model.specs.Arena.{ArenaState}
 use Rattle.std.proofs.lemmas.List.{get_or_append_left}
 use Rattle.xh_serial.proofs.Machines.{busy_place, current_blocks, current_generation, current_range, list_set, lists_current, place_there, places_set, relisted_again, relisted_list, way_else}
@@ -50,7 +50,7 @@ entry_room m p from o w l = grind (arith, nat_tests, current_blocks, lists_curre
 abbrev accepted_store : ℕ → ℕ → Machine → Store
 accepted_store p r m = accept_from p (end_of m r) (arriving m r) m.store
 
-came_from : (m : Machine) (p : ℕ) (e : Option ℕ) → IsWhole m → p < 65504 → Accepted p (on_way_to m e) m.store (accept_from p e (on_way_to m e) m.store)
+came_from : (m : Machine) (p : ℕ) (e : Option ℕ) → IsWhole m → p < 65504 → Went (Process p) (on_way_to m e) m.store (accept_from p e (on_way_to m e) m.store)
 came_from m p None w l = record { owners = λ q. refl; many = refl; arenas = refl }
 came_from m p (Some d) w l = accepted_all p d (on_way m d) m.store l (λ q. let e = w.once (Direction d) q in omega arith)
 
@@ -76,7 +76,7 @@ module _ (m : Machine) (p from : ℕ) (w : IsWhole m) (l : from < length (blocks
   held : holds m.store (Process p) r ≡ true
   held = entry_held m p from w l
 
-  accepted : Accepted p (arriving m r) m.store t
+  accepted : Went (Process p) (arriving m r) m.store t
   accepted = came_from m p (end_of m r) w (current_range m p w (lists_current m p from l))
 
   -- what it accepts changes no length

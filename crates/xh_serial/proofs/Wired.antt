@@ -93,12 +93,6 @@ wired_orderly m wired c rows is =
       step.1,
     )
 
-pub whole_orderly : (m n : Machine) → IsWhole m → m ≡ n → HasOrderlyLines n
-whole_orderly m n w e = subst HasOrderlyLines e (wired_orderly m w.channels.wired)
-
-pub whole_numbered : (m n : Machine) → IsWhole m → m ≡ n → (d : ℕ) → IsNumbered (line n.lines d)
-whole_numbered m n w e d = rw (← e) (w.channels.numbered d)
-
 -- so it is of each of the lines
 abbrev pub AllNumbered : List Line → Type 0
 AllNumbered lines = (d : ℕ) → IsNumbered (slice_index_or lines d no_line)

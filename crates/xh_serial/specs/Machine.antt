@@ -1,5 +1,5 @@
 -- The serial machine as a value, and what always holds of it.
-use Rattle.std.specs.Prelude.{◌≡◌, ℕ, ◌*◌, ◌/◌, ◌%◌, ◌<◌, ◌≤◌, ◌==◌, Bool, true, false, cond, List, [], Option, Some, None, is_some, length, slice_set, slice_index_or}
+use Rattle.std.specs.Prelude.{◌≡◌, ℕ, ◌*◌, ◌/◌, ◌%◌, ◌<◌, ◌≤◌, ◌==◌, Bool, true, false, cond, List, [], ◌∷◌, ◌++◌, Option, Some, None, is_some, length, slice_set, slice_index_or}
 use Rattle.xh_model.specs.declared.limits.TheConstants.{CHANNELS, DIRECTIONS, MAX_DEPTH, PLACES, USUAL_GENERATIONS}
 use Rattle.xh_model.specs.declared.event.Holder.{Holder}
 use Rattle.xh_model.specs.declared.event.Holder.TheVariants.{Process, Direction}
@@ -61,6 +61,10 @@ serial_status m p = status_of p (place m.places p).generation (place m.places p)
 -- the place of a process has another list, or another status
 abbrev pub relisted : ℕ → List ℕ → List Place → List Place
 relisted p rs places = slice_set places (p % PLACES) (record (place places p) { blocks = record { items = rs } })
+
+-- a record goes to the end of a list
+abbrev pub with_last : ℕ → ℕ → List Place → List Place
+with_last p r places = relisted p ((place places p).blocks.items ++ r ∷ []) places
 
 abbrev pub restated : ℕ → Status → List Place → List Place
 restated p s places = slice_set places (p % PLACES) (record (place places p) { status = s })

@@ -1,8 +1,8 @@
 //! All places of a machine. A process is at the place of its number's remainder by 32.
-ghost use Rattle.std.specs.Prelude.{◌≡◌, ◌+◌, ◌%◌, ◌<◌, ◌≤◌, ◌==◌, ◌++◌, ◌∷◌, [], IfOk, length, replicate, slice_index_or};
+ghost use Rattle.std.specs.Prelude.{◌≡◌, ◌+◌, ◌%◌, ◌<◌, ◌≤◌, ◌==◌, ◌++◌, IfOk, length, replicate, slice_index_or};
 ghost use Rattle.std.specs.List.{position, position_or_len, remove};
 ghost use Rattle.xh_serial.specs.EndingCommands.{last};
-ghost use Rattle.xh_serial.specs.Machine.{no_place, place, relisted, restated};
+ghost use Rattle.xh_serial.specs.Machine.{no_place, place, relisted, restated, with_last};
 ghost use Rattle.xh_serial.specs.MessageCommands.{without_records};
 ghost use Rattle.xh_serial.specs.PlaceCommands.{is_ready, started_at};
 ghost use Rattle.xh_core.specs.Statuses.{status_of};
@@ -117,7 +117,7 @@ impl Places {
     /// A record goes to the end of a list.
     pub(crate) fn add(&mut self, p: u16, r: u16)
         requires { length (place self.old p).blocks.items < MAX_HELD }
-        ensures { self.new ≡ relisted p ((place self.old p).blocks.items ++ r ∷ []) self.old }
+        ensures { self.new ≡ with_last p r self.old }
     {
         self.places[usize::from(p % STRIDE)].blocks.push(r);
     }

@@ -1,7 +1,6 @@
 //! Channels are opened, for one process or between two.
 ghost use Rattle.std.specs.Prelude.{◌≡◌, ◌+◌, ◌*◌, ◌<◌, Some, None, length};
 ghost use Rattle.xh_serial.specs.ChannelCommands.{open_channel, wire_channel, wire_heads};
-ghost use Rattle.xh_serial.specs.MessageCommands.{HasOrderlyLines};
 ghost use Rattle.xh_serial.specs.Commands.{IsRunning};
 ghost use Rattle.xh_core.specs.Refusing.{Tested};
 ghost use Rattle.xh_model.specs.declared.limits.TheConstants.{CHANNELS};
@@ -34,8 +33,7 @@ impl Serial {
         arena: u32,
         contract: Option<Contract>,
     ) -> Result<(Block, Block), Refused>
-        ensures is { wire_channel p q arena contract self.old ≡ (result, self.new) }
-        ensures orderly { HasOrderlyLines self.new }
+        ensures { wire_channel p q arena contract self.old ≡ (result, self.new) }
     {
         self.check_wire(p, q, arena)?;
         let (r, t) = self.plain.allocate_ends(p, arena)?;
@@ -60,24 +58,20 @@ impl Serial {
     /// A new channel, the lowest that was not opened, whose two ends `p` holds: side 0 and side 1,
     /// the halves of one run of 64 bytes of the arena. NoProcess, Ended, NoArena, NoChannel,
     /// NoRecord, NoSpace and Worn, in this order; each leaves all as it was.
-    #[tactic(auto, using(crate::proofs::Opening::same_process))]
     pub fn open(&mut self, p: u16, arena: u32) -> Result<(Block, Block), Refused>
-        ensures is { open_channel p arena None self.old ≡ (result, self.new) }
-        ensures orderly { HasOrderlyLines self.new }
+        ensures { open_channel p arena None self.old ≡ (result, self.new) }
     {
         self.connect(p, p, arena, None)
     }
 
     /// The same, and both ends go by a contract, from its first state on.
-    #[tactic(auto, using(crate::proofs::Opening::same_process))]
     pub fn open_with(
         &mut self,
         p: u16,
         arena: u32,
         contract: Contract,
     ) -> Result<(Block, Block), Refused>
-        ensures is { open_channel p arena (Some contract) self.old ≡ (result, self.new) }
-        ensures orderly { HasOrderlyLines self.new }
+        ensures { open_channel p arena (Some contract) self.old ≡ (result, self.new) }
     {
         self.connect(p, p, arena, Some(contract))
     }
@@ -85,8 +79,7 @@ impl Serial {
     /// A new channel as by `open`, of which `p` holds side 0 and `q` side 1. NoProcess and Ended of
     /// `p`, the same of `q`, and then as `open`. With `p` and `q` the same it is `open`.
     pub fn wire(&mut self, p: u16, q: u16, arena: u32) -> Result<(Block, Block), Refused>
-        ensures is { wire_channel p q arena None self.old ≡ (result, self.new) }
-        ensures orderly { HasOrderlyLines self.new }
+        ensures { wire_channel p q arena None self.old ≡ (result, self.new) }
     {
         self.connect(p, q, arena, None)
     }
@@ -99,8 +92,7 @@ impl Serial {
         arena: u32,
         contract: Contract,
     ) -> Result<(Block, Block), Refused>
-        ensures is { wire_channel p q arena (Some contract) self.old ≡ (result, self.new) }
-        ensures orderly { HasOrderlyLines self.new }
+        ensures { wire_channel p q arena (Some contract) self.old ≡ (result, self.new) }
     {
         self.connect(p, q, arena, Some(contract))
     }

@@ -11,15 +11,22 @@ use crate::several::{accept_all, describe, pass_all};
 use xh_core::Refused;
 
 impl Serial {
+    /// Between any two calls: under a contract the front message toward each end is one that its state allows, and
+    /// messages wait for one of the two ends at most; in each direction the numbers of those that wait are consecutive.
+    pub fn lines_are_orderly(&self)
+        ensures orderly { HasOrderlyLines self.now }
+        ensures numbered { (d : ℕ) → IsNumbered (line self.now.lines d) }
+    {
+        let _open = &self.plain;
+    }
+
     /// Puts a message at the back of the direction toward the other end. Its number there.
     ///
     /// NoProcess, Ended, NotOwned and NotEndpoint of `e`, TooMany (8 blocks at most), NotOwned of a
     /// block, Twice, Protocol, PeerClosed, Full. The last three hand all the blocks back.
     #[tactic(auto, unfolding(crate::specs::MessageCommands::give))]
     pub fn give(&mut self, p: u16, e: u16, tag: u16, blocks: &[u16]) -> Result<u64, Refused>
-        ensures is { give p e tag blocks.now self.old ≡ (result, self.new) }
-        ensures orderly { HasOrderlyLines self.new }
-        ensures numbered { (d : ℕ) → IsNumbered (line self.new.lines d) }
+        ensures { give p e tag blocks.now self.old ≡ (result, self.new) }
     {
         let _start = &self.plain;
         let own = self.check_give(p, e, tag, blocks)?;
@@ -38,8 +45,6 @@ impl Serial {
         ensures is { take p e self.old ≡ (result, self.new) }
         ensures allowed { IfOk result (λ taken.
             is_banned (contract_of self.old.contracts (toward self.old e)) (1 - toward self.old e % 2) (line self.old.lines (toward self.old e)).state taken.tag ≡ false) }
-        ensures orderly { HasOrderlyLines self.new }
-        ensures numbered { (d : ℕ) → IsNumbered (line self.new.lines d) }
     {
         let _start = &self.plain;
         let d = self.check_take(p, e)?;
@@ -59,8 +64,6 @@ impl Serial {
         ensures is { take p e self.old ≡ (result, self.new) }
         ensures allowed { IfOk result (λ taken.
             is_banned (contract_of self.old.contracts (toward self.old e)) (1 - toward self.old e % 2) (line self.old.lines (toward self.old e)).state taken.tag ≡ false) }
-        ensures orderly { HasOrderlyLines self.new }
-        ensures numbered { (d : ℕ) → IsNumbered (line self.new.lines d) }
     {
         self.take(p, e)
     }

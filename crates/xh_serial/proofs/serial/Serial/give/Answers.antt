@@ -2,7 +2,6 @@ use Rattle.xh_serial.proofs.Common.{IsWhole, Line, Machine, MayGive, ap, contrac
 use Rattle.xh_serial.proofs.Common.{told_line, toward, unwrap_or, ◌%◌, ◌≡◌}
 use Rattle.xh_serial.proofs.Machines.{peer_ne}
 use Rattle.xh_serial.proofs.Messages.{given_whole}
-use Rattle.xh_serial.proofs.Wired.{whole_numbered, whole_orderly}
 use Rattle.xh_serial.proofs.serial.Serial.give.Goals as goal
 
 -- ---- the machine before and after
@@ -41,14 +40,4 @@ invariant_of-self c = subst IsWhole (sym (made c)) (given_whole (was c) c.args.p
 
 pub returns : goal.returns
 unfolding give
-returns c = record {
-  is = rw (c.in_ok-own.ensures.0, ← c.self.view_is, made c, c.put.ensures.number, c.tell.ensures, c.peer-to.ensures.is, other c, (may_there c).toward) refl;
-  orderly = whole_orderly (is c) (is c) (invariant_of-self c) refl;
-  numbered = (invariant_of-self c).channels.numbered;
-}
-
-pub returns-in_err-own-clause-orderly : goal.returns-in_err-own-clause-orderly
-returns-in_err-own-clause-orderly c = whole_orderly _ _ c.self.invariant c.self.view_is
-
-pub returns-in_err-own-clause-numbered : goal.returns-in_err-own-clause-numbered
-returns-in_err-own-clause-numbered c = whole_numbered _ _ c.self.invariant c.self.view_is
+returns c = rw (c.in_ok-own.ensures.0, ← c.self.view_is, made c, c.put.ensures.number, c.tell.ensures, c.peer-to.ensures.is, other c, (may_there c).toward) refl

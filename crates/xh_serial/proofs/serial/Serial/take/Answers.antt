@@ -1,7 +1,6 @@
 use Rattle.xh_serial.proofs.Common.{IsWhole, Machine, MayTake, Message, Ok, ap, described, front_message, machine_of, refl, subst, sym, taken, toward, ◌∙◌, ◌≡◌}
 use Rattle.xh_serial.specs.MessageCommands.{take}
 use Rattle.xh_serial.proofs.Messages.{front_allowed, taken_room, taken_whole}
-use Rattle.xh_serial.proofs.Wired.{whole_numbered, whole_orderly}
 use Rattle.xh_serial.proofs.serial.Serial.take.Goals.{After-take_front-message}
 use Rattle.xh_serial.proofs.serial.Serial.take.Goals as goal
 
@@ -53,15 +52,7 @@ returns c =
     let m : Machine = was (begun c) in
     let same : front_message m c.args.e ≡ c.take_front-message.result = sym (first (begun c)) in
     let blocks : described m.store (front_message m c.args.e).blocks.items ≡ c.describe-blocks.result.items = ap (λ (x : Message). described m.store x.blocks.items) same ∙ sym c.describe-blocks.ensures in
-    let whole = invariant_of-self c in record {
+    record {
       is = rw (c.in_ok-d.ensures.0, ← c.self.view_is, made c) (λ i. (Ok (record { no = (same i).no; tag = (same i).tag; blocks = record { items = blocks i } }), taken c.args.p c.args.e m));
-      orderly = whole_orderly (is c) (is c) whole refl;
       allowed = rw (← c.self.view_is, first (begun c)) (front_allowed m c.args.p c.args.e c.self.invariant (may (begun c)) _ refl);
-      numbered = whole.channels.numbered;
     }
-
-pub returns-in_err-d-clause-orderly : goal.returns-in_err-d-clause-orderly
-returns-in_err-d-clause-orderly c = whole_orderly _ _ c.self.invariant c.self.view_is
-
-pub returns-in_err-d-clause-numbered : goal.returns-in_err-d-clause-numbered
-returns-in_err-d-clause-numbered c = whole_numbered _ _ c.self.invariant c.self.view_is
