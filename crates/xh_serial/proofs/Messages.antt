@@ -1,9 +1,9 @@
 -- A give and a take leave a whole machine.
-use Rattle.xh_serial.proofs.Common.{place, Bool, Direction, Holder, InStep, IsValid, IsWhole, Line, List, Machine, MayGive, MayTake, Message, None, Option, Pass, Process, Row, Some, Store, []}
-use Rattle.xh_serial.proofs.Common.{accept_all, after, allowed, ap, append-nil, arith, at_set, blocks, carried, change, cond, contract_of, count_append, done}
-use Rattle.xh_serial.proofs.Common.{false, false≢true, flat_map-append, front_message, get_or-set_other, get_or-set_same, given, has_twice, holds, is_banned, is_none, is_there, len, length, length-append}
-use Rattle.xh_serial.proofs.Common.{length-set, line, list_all, list_any, listed, lt-ltb, nat_lt, nat_tests, state_then, no_line, no_message, on_way, owner, pass_all, peer, put_line, put_step}
-use Rattle.xh_serial.proofs.Common.{refl, remove, same_len, slice_index_or, slice_set, subst, sym, tags_of, take_step, taken, taken_line, times, times-cons, told_line, toward, true, unwrap_or}
+use Rattle.xh_serial.proofs.Common.{place, Bool, Direction, Holder, InStep, IsValid, IsWhole, Line, List, Machine, MayGive, MayTake, Message, None, Option, Process, Row, Some, []}
+use Rattle.xh_serial.proofs.Common.{accept_all, allowed, ap, append-nil, arith, at_set, blocks, carried, cond, contract_of, count_append}
+use Rattle.xh_serial.proofs.Common.{false, false≢true, flat_map-append, front_message, get_or-set_other, get_or-set_same, given, has_twice, holds, is_banned, is_none, length, length-append}
+use Rattle.xh_serial.proofs.Common.{length-set, line, list_all, list_any, listed, nat_lt, nat_tests, state_then, no_line, no_message, on_way, pass_all, peer, put_line, put_step}
+use Rattle.xh_serial.proofs.Common.{refl, remove, slice_index_or, slice_set, subst, sym, tags_of, take_step, taken, taken_line, times, times-cons, told_line, toward, true, unwrap_or}
 use Rattle.xh_serial.proofs.Common.{waiting, without_records, ℕ, ◌%◌, ◌*◌, ◌++◌, ◌+◌, ◌-◌, ◌/◌, ◌<◌, ◌==◌, ◌∙◌, ◌∷◌, ◌≡◌, ◌≢◌, ◌≤◌}
 use Rattle.xh_serial.proofs.Accepting.{Went, accepted_all, passed_all}
 use Rattle.xh_serial.proofs.Room.{handed_whole, has, room}

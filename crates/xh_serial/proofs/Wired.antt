@@ -1,5 +1,5 @@
 -- The two ends of each channel with a contract stay in step, whichever of them puts, takes or is drained, and the messages that wait have consecutive numbers.
-use Rattle.xh_serial.proofs.Common.{AreNumbered, HasOrderlyLines, AreWired, Bool, HaveEnds, InStep, IsNumbered, IsValid, IsWhole, Line, List, Machine, Message, None, Option, Row, Some, [], allowed, ap}
+use Rattle.xh_serial.proofs.Common.{AreNumbered, HasOrderlyLines, AreWired, Bool, HaveEnds, InStep, IsNumbered, IsValid, Line, List, Machine, Message, None, Option, Row, Some, [], allowed, ap}
 use Rattle.xh_serial.proofs.Common.{arith, at_set, cases_Bool, cases_Option, cases_eq, contract_of, drain_step, drained_state, eq-eqb, front_step, get_or-set_other, get_or-set_same, inl, inr}
 use Rattle.xh_serial.proofs.Common.{length, line, nat_tests, no_line, none-some, peer, put_line, refl, same_Some, shut_in, shut_line, slice_index_or, slice_set, subst, sym, tags_of, taken_line}
 use Rattle.xh_serial.proofs.Common.{true, walk, ℕ, ◌%◌, ◌*◌, ◌++◌, ◌+◌, ◌-◌, ◌/◌, ◌<◌, ◌==◌, ◌∙◌, ◌∷◌, ◌≡◌, ◌≢◌}

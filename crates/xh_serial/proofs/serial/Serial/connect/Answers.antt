@@ -1,4 +1,4 @@
-use Rattle.xh_serial.proofs.Common.{IsLawful, IsWhole, Machine, None, Ok, Paired, Some, ap, eq-eqb, err_from_is_err_and, first_append, first_later, first_refusal, length, machine_of, moved, nat_tests}
+use Rattle.xh_serial.proofs.Common.{IsLawful, IsWhole, Machine, None, Ok, Paired, Some, err_from_is_err_and, first_append, first_later, first_refusal, length, machine_of, moved, nat_tests}
 use Rattle.xh_serial.proofs.Common.{pair_tests, refl, subst, sym, with_pair, ℕ, ◌*◌, ◌+◌, ◌<◌, ◌==◌, ◌∙◌, ◌≡◌, true, arith}
 use Rattle.xh_serial.specs.ChannelCommands.{ends_at, wire_channel, wire_heads, wired}
 use Rattle.xh_serial.proofs.Opening.{Connects, connected_whole, pair_there, room_p, room_q}
