@@ -1,4 +1,4 @@
-use Rattle.std.proofs.Common.{All, Ok, Some, ap, subst, ℕ, ◌+◌, ◌∙◌, ◌≡◌}
+use Rattle.std.proofs.Common.{Ok, Some, ap, subst, ℕ, ◌+◌, ◌∙◌, ◌≡◌}
 use Rattle.std.proofs.lemmas.List.Elements.{All-pop, All-push, All-same}
 use Rattle.xh_heap.specs.Plans.{IsHired}
 use Rattle.xh_heap.specs.declared.handle.Handle.{Handle}

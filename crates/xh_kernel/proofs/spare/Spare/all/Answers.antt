@@ -1,4 +1,4 @@
-use Rattle.std.proofs.Common.{All, rules, sym, ℕ, ◌≡◌}
+use Rattle.std.proofs.Common.{rules, sym, ℕ, ◌≡◌}
 use Rattle.std.proofs.lemmas.List.Elements.{All-head, All-nil, All-push, All-rest, All-same}
 use Rattle.std.specs.Slice.Iter.{iter_mut_rest}
 use Rattle.xh_kernel.specs.Accounts.{AccountOf, fresh}
