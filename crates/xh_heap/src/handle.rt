@@ -1,5 +1,5 @@
 //! A process of a kernel.
-ghost use Rattle.std.specs.Prelude.{◌≡◌, IfErr, IfOk, MatchResult, Ok};
+ghost use Rattle.std.specs.Prelude.{◌≡◌, IfOk, MatchResult, Ok};
 ghost use Rattle.xh_heap.specs.Plans.{IsStarted};
 ghost use Rattle.xh_kernel.specs.Waits.{SpawnsAt};
 
@@ -73,9 +73,8 @@ impl<'a, 'k, N: Names, R: Wait> Handle<'a, 'k, N, R> {
         spares: &'a Spares<'k, N>,
         spare: Spare<'k, N>,
     ) -> Result<Handle<'a, 'k, N, R>, Refused>
-        ensures started { IfOk result (λ p. SpawnsAt N.parts N.leads spare.entry.account.now p.account.now (Ok p.number)) }
+        ensures started { MatchResult result (λ p. SpawnsAt N.parts N.leads spare.entry.account.now p.account.now (Ok p.number)) (λ why. why ≡ Refused.NoPlace) }
         ensures own { IfOk result (λ p. p.started.number ≡ p.number) }
-        ensures none { IfErr result (λ why. why ≡ Refused.NoPlace) }
     {
         match spare.start(rt, kernel) {
             Ok((started, account)) => Ok(Handle {
