@@ -10,13 +10,14 @@ loop-lock-preserved g c =
     let was = c.loop-lock.invariant in let parts = g.N.Names.parts in let zs = parts.records.shape.names in let v : VaultOf = c.into_parts-vault.result.0 in
     let pen : PenOf VaultOf = c.into_parts-vault.result.1 in let kept : IsKeptVault parts v pen = c.into_parts-vault.ensures in let n = vec_len c.loop-lock.vaults in
     let here : pen.number ≡ n = search rules in let at : slice_get zs n ≡ Some v.id = subst (λ (k : ℕ). slice_get zs k ≡ Some v.id) here kept.1.0 in
-    let more : vec_len c.push.new.self ≡ n + 1 = search rules in let long = AllZip-long (IsKeptVault parts) c.loop-lock.vaults.items c.loop-lock.pens.items was.2 in (
+    let more : vec_len c.push.new.self ≡ n + 1 = search rules in let long = AllZip-long (IsKeptVault parts) c.loop-lock.vaults.items c.loop-lock.pens.items was.2 in
+    let count : n ≡ length c.loop-lock.vaults.items = first_of (search rules, grind rules) in (
       search rules,
       subst (λ (k : ℕ). vault_names c.push.new.self.items ≡ take k zs) (sym more) (rw c.in_ok-push.ensures.items
           (map_push (λ (z : VaultOf). z.id) _ v ∙ ap (λ l. l ++ v.id ∷ []) was.1
           ∙ sym (take_more zs n v.id (below_get zs n v.id at) ∙ ap (λ z. take n zs ++ z ∷ []) (get_or_from_slice_get zs n v.id v.id at)))),
       rw (c.in_ok-push.ensures.items, c.in_ok-push-2.ensures.items) (all_zipped_more (IsKeptVault parts) _ _ v pen was.2 kept),
-      rw c.in_ok-push-2.ensures.items (each_push (λ k (z : PenOf VaultOf). z.number ≡ k) _ pen was.3 (here ∙ sym long)),
+      rw c.in_ok-push-2.ensures.items (each_push (λ k (z : PenOf VaultOf). z.number ≡ k) _ pen was.3 (here ∙ count ∙ sym long)),
     )
 
 pub returns : goal.returns
