@@ -1,24 +1,11 @@
 //! Two works by turns, in slices of some 5 ms: a machine's clock goes up and down by a half from one second to the next,
 //! and both of a slice have the same.
-use std::alloc::Global;
-use std::sync::{Mutex, Wait};
-use std::thread::{self, Threads};
+
+use crate::bench::{Lines, Order};
+use crate::crew::Crew;
+use std::sync::Wait;
 use std::time::Clock;
-
-/// What measures run on.
-pub(crate) trait Runtime: Threads + Wait + Clock + Sync {}
-
-impl<R: Threads + Wait + Clock + Sync> Runtime for R {}
-
-/// What is done over and over. None where a call was refused.
-pub(crate) trait Stepping: Drop {
-    fn step<R: Wait>(&mut self, rt: &R) -> Option<()>;
-
-    /// Makes ready for so many steps at most, which is not timed.
-    fn ready(&mut self) -> Option<u64> {
-        Some(u64::MAX)
-    }
-}
+use xh_heap::Process;
 
 /// How many slices there are.
 const SLICES: usize = 101;
@@ -36,73 +23,105 @@ pub(crate) fn percent((own, other): Times) -> u64 {
         .unwrap_or(u64::MAX)
 }
 
-fn repeat<R: Wait, S: Stepping>(rt: &R, step: &mut S, rounds: u64) -> Option<()> {
-    for _ in 0..rounds {
-        step.step(rt)?;
+impl Lines {
+    /// Tells all threads, which wait for it.
+    pub(crate) fn tell<R: Wait>(&self, rt: &R, order: Order) {
+        *self.order.lock(rt) = order;
+        self.barrier.wait(rt);
     }
-    Some(())
 }
 
-// Does each so often, all at once: one in this thread, each other in one of its own.
-fn repeat_all<R: Runtime, S: Stepping + Send>(rt: &R, steps: &mut [S], rounds: u64) -> Option<()> {
-    let threads = steps.len().max(1);
-    let done = Mutex::new(Some(()));
-    thread::for_each_mut(
-        rt,
-        steps,
-        threads,
-        &|_, step: &mut S| {
-            if repeat(rt, step, rounds).is_none() {
-                *done.lock(rt) = None;
-            }
-        },
-    );
-    done.into_inner()
-}
-
-/// The picoseconds that a round took of so many, or of as many as all were ready for.
-pub(crate) fn slice<R: Runtime, S: Stepping + Send>(
-    rt: &R,
-    steps: &mut [S],
-    most: u64,
-) -> Option<u64> {
-    let mut rounds = most;
-    for step in steps.iter_mut() {
-        rounds = rounds.min(step.ready()?);
-    }
-    let start = rt.monotonic().ok()?;
-    repeat_all(rt, steps, rounds)?;
-    let time = rt.monotonic().ok()?.saturating_sub(start);
-    let nanos = u64::try_from(time.as_nanos()).ok()?;
-    nanos.saturating_mul(1000).checked_div(rounds)
-}
-
-// How many rounds a slice has, by the better of two.
-fn rounds_of<R: Runtime, S: Stepping + Send>(rt: &R, steps: &mut [S]) -> Option<u64> {
-    let mut rounds = 1u64;
-    for _ in 0..40 {
-        let time = slice(rt, steps, rounds)?.min(slice(rt, steps, rounds)?);
-        if time.saturating_mul(rounds) >= SLICE {
-            break;
+/// What each thread does but the first.
+pub(crate) fn follow<P: Process>(crew: Option<Crew<P>>, lines: &Lines, rt: P::Runtime) {
+    let mut crew = crew;
+    for _ in rt.forever() {
+        lines.barrier.wait(&rt);
+        let order = *lines.order.lock(&rt);
+        if order.1 == 0 {
+            return;
         }
-        rounds = rounds.saturating_mul(2);
+        if crew.as_mut().and_then(|crew| crew.act(order)).is_none() {
+            *lines.is_refused.lock(&rt) = true;
+        }
+        lines.barrier.wait(&rt);
     }
-    Some(rounds)
 }
 
-/// The times of the slices whose ratio is the median.
-pub(crate) fn by_turns<R: Runtime, S: Stepping + Send, T: Stepping + Send>(
-    rt: &R,
-    alloc: Global,
-    own: &mut [S],
-    other: &mut [T],
-) -> Option<Times> {
-    let (rounds, others) = (rounds_of(rt, own)?, rounds_of(rt, other)?);
-    let mut slices = Vec::new(alloc);
-    for _ in 0..SLICES {
-        let times = (slice(rt, own, rounds)?, slice(rt, other, others)?);
-        slices.push(times).ok()?;
+impl<'a, P: Process> Crew<'a, P> {
+    fn act(&mut self, (is_own, rounds): Order) -> Option<()> {
+        if is_own {
+            return self.call(rounds);
+        }
+        for _ in 0..rounds {
+            self.step()?;
+        }
+        Some(())
     }
-    slices.sort_unstable_by_key(|times| percent(*times));
-    slices.get(SLICES / 2).copied()
+
+    // Does so many rounds, all threads at once, or as many as it is ready for: how many, and in how many nanoseconds.
+    fn batch(&mut self, (is_own, most): Order) -> Option<(u64, u64)> {
+        let ready = if is_own { self.ready()? } else { most };
+        let order = (is_own, most.min(ready));
+        let (rt, lines) = (self.rt, self.lines);
+        let start = rt.monotonic().ok()?;
+        lines.tell(&rt, order);
+        let done = self.act(order);
+        lines.barrier.wait(&rt);
+        done?;
+        if *lines.is_refused.lock(&rt) {
+            return None;
+        }
+        let time = rt.monotonic().ok()?.saturating_sub(start);
+        Some((order.1, u64::try_from(time.as_nanos()).ok()?))
+    }
+
+    // The picoseconds of a round of so many.
+    fn slice(&mut self, (is_own, rounds): Order) -> Option<u64> {
+        let (mut done, mut nanos) = (0u64, 0u64);
+        for _ in 0..rounds {
+            if done >= rounds {
+                break;
+            }
+            let (more, time) = self.batch((is_own, rounds.saturating_sub(done)))?;
+            done = done.saturating_add(more);
+            nanos = nanos.saturating_add(time);
+        }
+        nanos.saturating_mul(1000).checked_div(rounds)
+    }
+
+    // How many rounds a slice has, by the better of two.
+    fn rounds_of(&mut self, is_own: bool, most: u64) -> Option<u64> {
+        let mut rounds = 1u64;
+        for _ in 0..40 {
+            let order = (is_own, rounds);
+            let time = self.slice(order)?.min(self.slice(order)?);
+            if time.saturating_mul(rounds) >= SLICE || rounds >= most {
+                break;
+            }
+            rounds = rounds.saturating_mul(2).min(most);
+        }
+        Some(rounds)
+    }
+
+    // The times of the slices whose ratio is the median.
+    fn by_turns(&mut self) -> Option<Times> {
+        let own = self.rounds_of(true, self.bench.work.most())?;
+        let beside = self.rounds_of(false, u64::MAX)?;
+        let mut slices = Vec::new(self.bench.alloc);
+        for _ in 0..SLICES {
+            let times = (self.slice((true, own))?, self.slice((false, beside))?);
+            slices.push(times).ok()?;
+        }
+        slices.sort_unstable_by_key(|times| percent(*times));
+        slices.get(SLICES / 2).copied()
+    }
+
+    /// What the first thread does: the times, or None where a call, the clock or a growth of memory was refused.
+    pub(crate) fn lead(&mut self) -> Option<Times> {
+        let Some((is_own, rounds)) = self.bench.alone else {
+            return self.by_turns();
+        };
+        let _warm = self.slice((is_own, 1))?;
+        self.slice((is_own, rounds)).map(|time| (time, 0))
+    }
 }
