@@ -55,7 +55,10 @@ impl<'a, P: Process> Crew<'a, P> {
         fill(own, &mut held, arena, count, 64)?;
         fill(own, &mut blocks, arena, given, bytes)?;
         let block = if given == 1 { blocks.pop() } else { None };
-        let items = blocks.into_iter().map(Item::Block).collect();
+        let mut items = Items::new();
+        for block in blocks {
+            items.try_push(Item::Block(block)).ok()?;
+        }
         let mut crew = Crew {
             rt: own.rt(),
             own,
