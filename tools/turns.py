@@ -40,9 +40,10 @@ NEIGHBOUR = (
      ".ok()?;\n                queue.pop(rt).map(drop)\n            }),\n"),
     ("calls.rt", "    Overview,\n", "    Near,\n"),
     ("calls.rt", "match self.bench.work {\n",
-     "            Work::Near => again(rounds, || {\n                let block = own.put(&mut "
-     "filled(alloc, &[7; 64])?).ok()?;\n                own.into_bytes(block).ok().map(drop)\n"
-     "            }),\n"),
+     "            Work::Near => {\n                let alloc = self.bench.alloc;\n"
+     "                again(rounds, || {\n                    let block = own.put(&mut "
+     "filled(alloc, &[7; 64])?).ok()?;\n                    own.into_bytes(block).ok()"
+     ".map(drop)\n                })\n            }\n"),
     ("rows.rt", "&[Row] = &[\n", "    (\"near\", 1, Work::Near, 900, &[(1, Near(64))]),\n"),
     ("rows.rt", "use crate::pieces::Piece::{\n    ", "Near, "),
 )
