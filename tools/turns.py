@@ -36,8 +36,8 @@ NEIGHBOUR = (
     ("pieces.rt", "    PushPop,\n", "    Near(usize),\n"),
     ("pieces.rt", "queue.pop(rt).map(drop)\n            }),\n",
      "            Piece::Near(count) => again(times, || {\n                let buffer = "
-     "filled(alloc, PAGE.get(..count)?)?;\n                queue.push(rt, [glanced(&buffer); 4])"
-     ".ok()?;\n                queue.pop(rt).map(drop)\n            }),\n"),
+     "filled(alloc, PAGE.get(..count)?)?;\n                queue.push(rt, buffer).ok()?;\n"
+     "                queue.pop(rt).map(drop)\n            }),\n"),
     ("calls.rt", "    Overview,\n", "    Near,\n"),
     ("calls.rt", "match self.bench.work {\n",
      "            Work::Near => {\n                let alloc = self.bench.alloc;\n"

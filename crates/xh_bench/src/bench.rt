@@ -2,7 +2,7 @@
 
 use crate::calls::Work;
 use crate::crew::Crew;
-use crate::pieces::{Letter, Pieces};
+use crate::pieces::Pieces;
 use crate::turns::{Times, follow};
 use crossbeam_channel::{Receiver, Sender, bounded};
 use crossbeam_queue::ArrayQueue;
@@ -13,9 +13,6 @@ use xh_heap::{Config, End, Job, Process, Refused, Team, one_arena};
 /// As many messages as wait in a direction.
 const DEPTH: usize = 16;
 
-/// How many buffers a pool has: a channel's, and one in the hands of each thread.
-pub(crate) const POOL: usize = DEPTH + 2;
-
 /// Whether the process does its work, or what stands beside it; and how often. 0: no more.
 pub(crate) type Order = (bool, u64);
 
@@ -23,10 +20,8 @@ pub(crate) type Order = (bool, u64);
 #[derive(Drop)]
 pub(crate) struct Line {
     pub(crate) ends: (End, End),
-    pub(crate) vectors: (Sender<Vec<u8>>, Receiver<Vec<u8>>),
-    pub(crate) there: (Sender<Letter>, Receiver<Letter>),
-    pub(crate) back: (Sender<Letter>, Receiver<Letter>),
-    pub(crate) queue: ArrayQueue<Letter, Global>,
+    pub(crate) there: (Sender<Vec<u8>>, Receiver<Vec<u8>>),
+    pub(crate) back: (Sender<Vec<u8>>, Receiver<Vec<u8>>),
     pub(crate) free: ArrayQueue<Vec<u8>, Global>,
 }
 
@@ -71,11 +66,9 @@ impl Job for Bench {
             let other = threads.saturating_sub(1).min(index.wrapping_add(1));
             lines.push(Line {
                 ends: team.wire(index, other)?,
-                vectors: bounded(alloc, DEPTH)?,
                 there: bounded(alloc, DEPTH)?,
                 back: bounded(alloc, DEPTH)?,
-                queue: ArrayQueue::new(alloc, DEPTH)?,
-                free: ArrayQueue::new(alloc, POOL)?,
+                free: ArrayQueue::new(alloc, 2 * DEPTH)?,
             })?;
         }
         Ok(Lines {

@@ -1,7 +1,6 @@
 //! A thread with its process, and what both work on.
 
-use crate::bench::{Bench, Line, Lines, POOL};
-use crate::pieces::Piece;
+use crate::bench::{Bench, Line, Lines};
 use std::sync::Mutex;
 use std::sync::atomic::AtomicU64;
 use xh_heap::{Block, Item, Items, Process};
@@ -59,7 +58,7 @@ impl<'a, P: Process> Crew<'a, P> {
         for block in blocks {
             items.try_push(Item::Block(block)).ok()?;
         }
-        let mut crew = Crew {
+        Some(Crew {
             rt: own.rt(),
             own,
             bench,
@@ -76,20 +75,6 @@ impl<'a, P: Process> Crew<'a, P> {
             count: Mutex::new(0),
             word: AtomicU64::new(0),
             sum: 0,
-        };
-        crew.fill_pool()?;
-        Some(crew)
-    }
-
-    fn fill_pool(&mut self) -> Option<()> {
-        if let Some((_, Piece::Pooled(bytes))) = self.bench.beside.first()
-            && self.sends
-        {
-            for _ in 0..POOL {
-                let buffer = Vec::with_capacity(self.bench.alloc, *bytes).ok()?;
-                self.line.free.push(&self.rt, buffer).ok()?;
-            }
-        }
-        Some(())
+        })
     }
 }

@@ -17,36 +17,29 @@ pub(crate) enum Piece {
     Zeroed(usize),
     /// So many bytes are copied.
     Copied(usize),
-    /// A message is pushed to a queue of `crossbeam_queue` and popped.
+    /// A vector is pushed to a queue of `crossbeam_queue` and popped.
     PushPop,
-    /// The first of two threads sends a message by a channel of `crossbeam_channel`, and the second receives it.
-    Pass,
-    /// The first sends a message and waits for one; the second waits for it and sends one.
+    /// The first of two threads sends a message by a channel of `crossbeam_channel` and waits for one; the second waits for it
+    /// and sends one.
     ToAndFro,
     /// The first fills a vector of so many bytes and sends it by a channel of `crossbeam_channel`; the second receives it,
     /// looks at each of its cache lines and drops it. One thread does both.
     Vector(usize),
-    /// The same of a buffer that is popped from a queue of free ones, and pushed back there.
+    /// The same of a buffer that is popped from a queue of free ones, where there is one, and pushed back there.
     Pooled(usize),
 }
 
 /// What is done in a step, each piece so often.
 pub(crate) type Pieces = &'static [(u32, Piece)];
 
-/// As many bytes as a message of the heap has.
-pub(crate) type Letter = [u64; 4];
-
-const MESSAGE: Letter = [7; 4];
-
 const PAGE: &[u8] = &[1; 4096];
 
 /// Does something so often, until it is refused. Each closure has a copy of this function for itself, which isn't inlined: so
 /// what else the program does leaves the time that it takes as it is.
 #[inline(never)]
-pub(crate) fn again<F: FnMut() -> Option<()>>(times: u64, f: F) -> Option<()>
+pub(crate) fn again<F: FnMut() -> Option<()>>(times: u64, mut f: F) -> Option<()>
     requires { F.IsAlwaysCallable f }
 {
-    let mut f = f;
     for _ in 0..times {
         f()?;
     }
@@ -80,7 +73,7 @@ impl<'a, P: Process> Crew<'a, P> {
     }
 
     fn once(&mut self, times: u64, piece: Piece) -> Option<()> {
-        let (rt, alloc, queue) = (&self.rt, self.bench.alloc, &self.line.queue);
+        let (rt, alloc, queue) = (&self.rt, self.bench.alloc, &self.line.free);
         let (count, word, bytes) = (&self.count, &self.word, &mut self.bytes);
         match piece {
             Piece::Lock => again(times, || {
@@ -96,7 +89,7 @@ impl<'a, P: Process> Crew<'a, P> {
                 Some(())
             }),
             Piece::PushPop => again(times, || {
-                queue.push(rt, MESSAGE).ok()?;
+                queue.push(rt, Vec::new(alloc)).ok()?;
                 queue.pop(rt).map(drop)
             }),
             _ => self.pass(times, piece),
@@ -110,39 +103,37 @@ impl<'a, P: Process> Crew<'a, P> {
         let (bytes, sum) = (&self.bytes, &mut self.sum);
         match piece {
             Piece::ToAndFro if sends => again(times, || {
-                line.there.0.send(rt, MESSAGE).ok()?;
+                line.there.0.send(rt, Vec::new(alloc)).ok()?;
                 line.back.1.recv(rt).ok().map(drop)
             }),
             Piece::ToAndFro => again(times, || {
                 line.there.1.recv(rt).ok()?;
-                line.back.0.send(rt, MESSAGE).ok()
+                line.back.0.send(rt, Vec::new(alloc)).ok()
             }),
             Piece::Vector(_) => again(times, || {
                 if sends {
-                    line.vectors.0.send(rt, filled(alloc, bytes)?).ok()?;
+                    line.there.0.send(rt, filled(alloc, bytes)?).ok()?;
                 }
                 if receives {
-                    let buffer = line.vectors.1.recv(rt).ok()?;
+                    let buffer = line.there.1.recv(rt).ok()?;
                     *sum = sum.wrapping_add(glanced(&buffer));
                 }
                 Some(())
             }),
-            Piece::Pooled(_) => again(times, || {
+            _ => again(times, || {
                 if sends {
-                    let mut buffer = line.free.pop(rt)?;
+                    let mut buffer = line.free.pop(rt).unwrap_or(Vec::new(alloc));
                     buffer.extend_from_slice(bytes).ok()?;
-                    line.vectors.0.send(rt, buffer).ok()?;
+                    line.there.0.send(rt, buffer).ok()?;
                 }
                 if receives {
-                    let mut buffer = line.vectors.1.recv(rt).ok()?;
+                    let mut buffer = line.there.1.recv(rt).ok()?;
                     *sum = sum.wrapping_add(glanced(&buffer));
                     buffer.clear();
                     line.free.push(rt, buffer).ok()?;
                 }
                 Some(())
             }),
-            _ if sends => again(times, || line.there.0.send(rt, MESSAGE).ok()),
-            _ => again(times, || line.there.1.recv(rt).ok().map(drop)),
         }
     }
 }

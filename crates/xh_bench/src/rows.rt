@@ -3,7 +3,7 @@
 use crate::calls::Work;
 use crate::calls::Work::{AllocFree, GiveTake, Kill, Message, Overview, Read, Write};
 use crate::pieces::Piece::{
-    Copied, Exchange, Load, Lock, Pass, Pooled, PushPop, ToAndFro, Vector, Zeroed,
+    Copied, Exchange, Load, Lock, Pooled, PushPop, ToAndFro, Vector, Zeroed,
 };
 use crate::pieces::Pieces;
 
@@ -66,6 +66,6 @@ pub(crate) const ROWS: &[Row] = &[
     ("kill_256", 1, Kill(256), 240, KILL_256),
     ("overview", 1, Overview, 500, LOOK),
     ("ping_pong", 2, Work::ToAndFro, 130, &[(1, ToAndFro)]),
-    ("stream", 2, Work::Pass, 150, &[(1, Pass)]),
-    ("pairs_4", 4, Work::Pass, 200, &[(1, Pass)]),
+    ("stream", 2, Work::Pass, 150, &[(1, Vector(0))]),
+    ("pairs_4", 4, Work::Pass, 200, &[(1, Vector(0))]),
 ];
