@@ -64,10 +64,10 @@ pub(crate) fn glanced(bytes: &[u8]) -> u64 {
 }
 
 impl<'a, P: Process> Crew<'a, P> {
-    /// Does all pieces, each so often.
-    pub(crate) fn step(&mut self) -> Option<()> {
+    /// Does all pieces so often, one after the other.
+    pub(crate) fn beside(&mut self, rounds: u64) -> Option<()> {
         for (times, piece) in self.bench.beside {
-            self.once(u64::from(*times), *piece)?;
+            self.once(rounds.saturating_mul(u64::from(*times)), *piece)?;
         }
         Some(())
     }

@@ -50,12 +50,10 @@ pub(crate) fn follow<P: Process>(crew: Option<Crew<P>>, lines: &Lines, rt: P::Ru
 impl<'a, P: Process> Crew<'a, P> {
     fn act(&mut self, (is_own, rounds): Order) -> Option<()> {
         if is_own {
-            return self.call(rounds);
+            self.call(rounds)
+        } else {
+            self.beside(rounds)
         }
-        for _ in 0..rounds {
-            self.step()?;
-        }
-        Some(())
     }
 
     // Does so many rounds, all threads at once, or as many as it is ready for: how many, and in how many nanoseconds.
