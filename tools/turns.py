@@ -34,16 +34,15 @@ BURST = 30e9
 # What a neighbour adds: where, behind which line, and what.
 NEIGHBOUR = (
     ("pieces.rt", "    PushPop,\n", "    Near(usize),\n"),
-    ("pieces.rt", "queue.pop(rt).map(drop)\n            }),\n",
+    ("pieces.rt", "self.line.free.pop(&self.rt).map(drop)\n            }),\n",
      "            Piece::Near(count) => again(times, || {\n                let buffer = "
-     "filled(alloc, PAGE.get(..count)?)?;\n                queue.push(rt, buffer).ok()?;\n"
-     "                queue.pop(rt).map(drop)\n            }),\n"),
+     "filled(alloc, PAGE.get(..count)?)?;\n                self.line.free.push(&self.rt, buffer)"
+     ".ok()?;\n                self.line.free.pop(&self.rt).map(drop)\n            }),\n"),
     ("calls.rt", "    Overview,\n", "    Near,\n"),
     ("calls.rt", "match self.bench.work {\n",
-     "            Work::Near => {\n                let alloc = self.bench.alloc;\n"
-     "                again(rounds, || {\n                    let block = own.put(&mut "
-     "filled(alloc, &[7; 64])?).ok()?;\n                    own.into_bytes(block).ok()"
-     ".map(drop)\n                })\n            }\n"),
+     "            Work::Near => again(rounds, || {\n                let mut bytes = filled(self"
+     ".bench.alloc, &[7; 64])?;\n                let block = self.own.put(&mut bytes).ok()?;\n"
+     "                self.own.into_bytes(block).ok().map(drop)\n            }),\n"),
     ("rows.rt", "&[Row] = &[\n", "    (\"near\", 1, Work::Near, 900, &[(1, Near(64))]),\n"),
     ("rows.rt", "use crate::pieces::Piece::{\n    ", "Near, "),
 )

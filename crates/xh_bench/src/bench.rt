@@ -3,7 +3,7 @@
 use crate::calls::Work;
 use crate::crew::Crew;
 use crate::pieces::Pieces;
-use crate::turns::{Times, follow};
+use crate::turns::Times;
 use crossbeam_channel::{Receiver, Sender, bounded};
 use crossbeam_queue::ArrayQueue;
 use std::alloc::Global;
@@ -82,11 +82,19 @@ impl Job for Bench {
     fn work<P: Process>(&self, lines: &Lines, index: usize, own: &mut P) -> Option<Times> {
         let rt = own.rt();
         let crew = Crew::new(*self, lines, index, own);
-        if index > 0 {
-            follow(crew, lines, rt);
+        if crew.is_none() {
+            *lines.is_refused.lock(&rt) = true;
+        }
+        lines.barrier.wait(&rt);
+        let mut crew = crew?;
+        if *lines.is_refused.lock(&rt) {
             return None;
         }
-        let times = crew.and_then(|mut crew| crew.lead());
+        if index > 0 {
+            crew.follow();
+            return None;
+        }
+        let times = crew.lead();
         lines.tell(&rt, (true, 0));
         times
     }

@@ -60,6 +60,7 @@ impl<'a, P: Process> Crew<'a, P> {
             return Some(u64::MAX);
         };
         self.victims.clear();
+        self.numbers.clear();
         self.held.clear();
         for number in 0..VICTIMS {
             let mut victim = self.own.spawn().ok()?;
@@ -70,6 +71,7 @@ impl<'a, P: Process> Crew<'a, P> {
                 blocks,
                 16,
             )?;
+            self.numbers.push(victim.number()).ok()?;
             self.victims.push(victim).ok()?;
         }
         Some(u64::from(VICTIMS))
@@ -77,71 +79,76 @@ impl<'a, P: Process> Crew<'a, P> {
 
     /// Does its work so often.
     pub(crate) fn call(&mut self, rounds: u64) -> Option<()> {
-        let (own, arena, (low, high)) = (
-            &mut *self.own,
-            self.arena,
-            (&self.line.ends.0, &self.line.ends.1),
-        );
-        let (block, items, bytes) = (&mut self.block, &mut self.items, &mut self.bytes);
-        let (mut victims, sum) = (self.victims.iter(), &mut self.sum);
         match self.bench.work {
             Work::AllocFree(bytes, _) => again(rounds, || {
-                let block = own.alloc_in(arena, bytes).ok()?;
-                own.free(block).ok().map(drop)
+                let block = self.own.alloc_in(self.arena, bytes).ok()?;
+                self.own.free(block).ok().map(drop)
             }),
             Work::GiveTake(1) => again(rounds, || {
-                give(own, low, block.take()?)?;
-                *block = Some(own.take(high).ok()?.block().ok()?);
+                give(self.own, self.gives, self.block.take()?)?;
+                self.block = Some(self.own.take(self.takes).ok()?.block().ok()?);
                 Some(())
             }),
             Work::GiveTake(_) => again(rounds, || {
-                own.give(low, 1, take(items)).ok()?;
-                *items = own.take(high).ok()?.items;
+                let load = take(&mut self.items);
+                self.own.give(self.gives, 1, load).ok()?;
+                self.items = self.own.take(self.takes).ok()?.items;
                 Some(())
             }),
-            Work::Read(_) => again(rounds, || own.read(block.as_ref()?, 0, bytes).ok()),
-            Work::Write(_) => again(rounds, || own.write(block.as_ref()?, 0, bytes).ok()),
+            Work::Read(_) => again(rounds, || {
+                let block = self.block.as_ref()?;
+                self.own.read(block, 0, &mut self.bytes).ok()
+            }),
+            Work::Write(_) => again(rounds, || {
+                let block = self.block.as_ref()?;
+                self.own.write(block, 0, &self.bytes).ok()
+            }),
             Work::Kill(_) => again(rounds, || {
-                let killed = own.kill(victims.next()?.number());
-                killed.ok().map(drop)
+                let number = self.numbers.pop()?;
+                self.own.kill(number).ok().map(drop)
             }),
             Work::Overview => again(rounds, || {
-                *sum = sum.wrapping_add(own.overview().places.len() as u64);
+                let places = self.own.overview().places.len() as u64;
+                self.sum = self.sum.wrapping_add(places);
                 Some(())
             }),
-            _ => self.pass_call(rounds),
+            _ => self.call_two(rounds),
         }
     }
 
     // The works of which each of two threads may do its half.
-    fn pass_call(&mut self, rounds: u64) -> Option<()> {
-        let (own, alloc, ends) = (&mut *self.own, self.bench.alloc, &self.line.ends);
-        let (sends, receives) = (self.sends, self.receives);
-        let (block, bytes, sum) = (&mut self.block, &self.bytes, &mut self.sum);
+    fn call_two(&mut self, rounds: u64) -> Option<()> {
         match self.bench.work {
             Work::Message(_, _) => again(rounds, || {
-                if sends {
-                    send(own, &ends.0, &mut filled(alloc, bytes)?)?;
+                if self.sends {
+                    let mut bytes = filled(self.bench.alloc, &self.bytes)?;
+                    send(self.own, self.gives, &mut bytes)?;
                 }
-                if receives {
-                    *sum = sum.wrapping_add(glanced(&receive(own, &ends.1)?));
+                if self.receives {
+                    let bytes = receive(self.own, self.takes)?;
+                    self.sum = self.sum.wrapping_add(glanced(&bytes));
                 }
-                Some(())
-            }),
-            Work::ToAndFro if sends => again(rounds, || {
-                give(own, &ends.0, block.take()?)?;
-                *block = Some(own.take_wait(&ends.0).ok()?.block().ok()?);
                 Some(())
             }),
             Work::ToAndFro => again(rounds, || {
-                let block = own.take_wait(&ends.1).ok()?.block().ok()?;
-                give(own, &ends.1, block)
+                if self.sends {
+                    give(self.own, self.gives, self.block.take()?)?;
+                }
+                self.block = Some(self.own.take_wait(self.takes).ok()?.block().ok()?);
+                if self.receives {
+                    give(self.own, self.gives, self.block.take()?)?;
+                }
+                Some(())
             }),
-            _ if sends => again(rounds, || {
-                let given = own.give_wait(&ends.0, 1, Items::new());
-                given.ok().map(drop)
+            _ => again(rounds, || {
+                if self.sends {
+                    self.own.give_wait(self.gives, 1, Items::new()).ok()?;
+                }
+                if self.receives {
+                    self.own.take_wait(self.takes).ok()?;
+                }
+                Some(())
             }),
-            _ => again(rounds, || own.take_wait(&ends.1).ok().map(drop)),
         }
     }
 }

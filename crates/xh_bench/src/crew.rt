@@ -3,7 +3,7 @@
 use crate::bench::{Bench, Line, Lines};
 use std::sync::Mutex;
 use std::sync::atomic::AtomicU64;
-use xh_heap::{Block, Item, Items, Process};
+use xh_heap::{Block, End, Item, Items, Process};
 
 /// Of a work that two threads do it does its half, one alone both. It has blocks that it holds meanwhile, one or several that it
 /// works on, and processes that it is to kill.
@@ -14,6 +14,8 @@ pub(crate) struct Crew<'a, P: Process> {
     pub(crate) bench: Bench,
     pub(crate) lines: &'a Lines,
     pub(crate) line: &'a Line,
+    pub(crate) gives: &'a End,
+    pub(crate) takes: &'a End,
     pub(crate) sends: bool,
     pub(crate) receives: bool,
     pub(crate) arena: u32,
@@ -21,6 +23,7 @@ pub(crate) struct Crew<'a, P: Process> {
     pub(crate) block: Option<Block>,
     pub(crate) items: Items,
     pub(crate) victims: Vec<P>,
+    pub(crate) numbers: Vec<u16>,
     pub(crate) bytes: Vec<u8>,
     pub(crate) count: Mutex<u64>,
     pub(crate) word: AtomicU64,
@@ -58,19 +61,24 @@ impl<'a, P: Process> Crew<'a, P> {
         for block in blocks {
             items.try_push(Item::Block(block)).ok()?;
         }
+        let line = lines.lines.get(index / 2)?;
+        let (sends, receives) = (index % 2 == 0, index % 2 == 1 || bench.threads == 1);
         Some(Crew {
             rt: own.rt(),
             own,
             bench,
             lines,
-            line: lines.lines.get(index / 2)?,
-            sends: index % 2 == 0,
-            receives: index % 2 == 1 || bench.threads == 1,
+            line,
+            gives: if sends { &line.ends.0 } else { &line.ends.1 },
+            takes: if receives { &line.ends.1 } else { &line.ends.0 },
+            sends,
+            receives,
             arena,
             held,
             block,
             items,
             victims: Vec::new(alloc),
+            numbers: Vec::new(alloc),
             bytes: vec![in alloc; 7u8; bytes as usize].ok()?,
             count: Mutex::new(0),
             word: AtomicU64::new(0),

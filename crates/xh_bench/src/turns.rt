@@ -31,28 +31,28 @@ impl Lines {
     }
 }
 
-/// What each thread does but the first.
-pub(crate) fn follow<P: Process>(crew: Option<Crew<P>>, lines: &Lines, rt: P::Runtime) {
-    let mut crew = crew;
-    for _ in rt.forever() {
-        lines.barrier.wait(&rt);
-        let order = *lines.order.lock(&rt);
-        if order.1 == 0 {
-            return;
-        }
-        if crew.as_mut().and_then(|crew| crew.act(order)).is_none() {
-            *lines.is_refused.lock(&rt) = true;
-        }
-        lines.barrier.wait(&rt);
-    }
-}
-
 impl<'a, P: Process> Crew<'a, P> {
     fn act(&mut self, (is_own, rounds): Order) -> Option<()> {
         if is_own {
             self.call(rounds)
         } else {
             self.beside(rounds)
+        }
+    }
+
+    /// What each thread does but the first.
+    pub(crate) fn follow(&mut self) {
+        let (rt, lines) = (self.rt, self.lines);
+        for _ in rt.forever() {
+            lines.barrier.wait(&rt);
+            let order = *lines.order.lock(&rt);
+            if order.1 == 0 {
+                return;
+            }
+            if self.act(order).is_none() {
+                *lines.is_refused.lock(&rt) = true;
+            }
+            lines.barrier.wait(&rt);
         }
     }
 
