@@ -34,15 +34,15 @@ BURST = 30e9
 # What a neighbour adds: where, behind which line, and what.
 NEIGHBOUR = (
     ("pieces.rt", "    PushPop,\n", "    Near(usize),\n"),
-    ("pieces.rt", "self.line.free.pop(&self.rt).map(drop)\n            }),\n",
+    ("pieces.rt", "queue.pop(rt).map(drop)\n            }),\n",
      "            Piece::Near(count) => again(times, || {\n                let buffer = "
-     "filled(alloc, PAGE.get(..count)?)?;\n                self.line.free.push(&self.rt, buffer)"
-     ".ok()?;\n                self.line.free.pop(&self.rt).map(drop)\n            }),\n"),
+     "filled(alloc, PAGE.get(..count)?)?;\n                queue.push(rt, buffer).ok()?;\n"
+     "                queue.pop(rt).map(drop)\n            }),\n"),
     ("calls.rt", "    Overview,\n", "    Near,\n"),
-    ("calls.rt", "match self.bench.work {\n",
-     "            Work::Near => again(rounds, || {\n                let mut bytes = filled(self"
-     ".bench.alloc, &[7; 64])?;\n                let block = self.own.put(&mut bytes).ok()?;\n"
-     "                self.own.into_bytes(block).ok().map(drop)\n            }),\n"),
+    ("calls.rt", "numbers.pop()?).ok().map(drop)),\n",
+     "            Work::Near => again(rounds, || own.put(bytes).ok().and_then(|block| {\n"
+     "                *bytes = own.into_bytes(block).ok()?;\n                Some(())\n"
+     "            })),\n"),
     ("rows.rt", "&[Row] = &[\n", "    (\"near\", 1, Work::Near, 900, &[(1, Near(64))]),\n"),
     ("rows.rt", "use crate::pieces::Piece::{\n    ", "Near, "),
 )
@@ -77,8 +77,8 @@ def build_pin() -> None:
     subprocess.run([*words, "-ldl"], check=True)
 
 
-def burst(words: Sequence[str], threads: int) -> int:
-    """Runs it on as many processors as it has threads: the picoseconds of a step."""
+def alone(words: Sequence[str], threads: int) -> tuple[str, str]:
+    """What it prints, and as errors, on as many processors as it has threads."""
     processors = sorted(os.sched_getaffinity(0))[-threads:]
     pins = ",".join(map(str, processors))
     env = {**os.environ, "LD_PRELOAD": f"{ROOM}/pin.so", "PIN": pins}
@@ -87,7 +87,12 @@ def burst(words: Sequence[str], threads: int) -> int:
         kept += ["chrt", "-f", "1"]
     ran = subprocess.run([*kept, *words], env=env, capture_output=True, text=True, timeout=120)
     claim(ran.returncode == 0, f"{words}: {ran.stderr}")
-    return int(ran.stderr.split()[-1])
+    return ran.stdout, ran.stderr
+
+
+def burst(words: Sequence[str], threads: int) -> int:
+    """The picoseconds of a step."""
+    return int(alone(words, threads)[1].split()[-1])
 
 
 def by_turns(all_words: Sequence[Sequence[str]], threads: int, turns: int) -> list[list[int]]:

@@ -80,75 +80,69 @@ impl<'a, P: Process> Crew<'a, P> {
     /// Does its work so often.
     pub(crate) fn call(&mut self, rounds: u64) -> Option<()> {
         match self.bench.work {
-            Work::AllocFree(bytes, _) => again(rounds, || {
-                let block = self.own.alloc_in(self.arena, bytes).ok()?;
-                self.own.free(block).ok().map(drop)
-            }),
-            Work::GiveTake(1) => again(rounds, || {
-                give(self.own, self.gives, self.block.take()?)?;
-                self.block = Some(self.own.take(self.takes).ok()?.block().ok()?);
-                Some(())
-            }),
-            Work::GiveTake(_) => again(rounds, || {
-                let load = take(&mut self.items);
-                self.own.give(self.gives, 1, load).ok()?;
-                self.items = self.own.take(self.takes).ok()?.items;
-                Some(())
-            }),
-            Work::Read(_) => again(rounds, || {
-                let block = self.block.as_ref()?;
-                self.own.read(block, 0, &mut self.bytes).ok()
-            }),
-            Work::Write(_) => again(rounds, || {
-                let block = self.block.as_ref()?;
-                self.own.write(block, 0, &self.bytes).ok()
-            }),
-            Work::Kill(_) => again(rounds, || {
-                let number = self.numbers.pop()?;
-                self.own.kill(number).ok().map(drop)
-            }),
-            Work::Overview => again(rounds, || {
-                let places = self.own.overview().places.len() as u64;
-                self.sum = self.sum.wrapping_add(places);
-                Some(())
-            }),
-            _ => self.call_two(rounds),
+            Work::Message(_, _) | Work::Pass | Work::ToAndFro => self.call_two(rounds),
+            _ => self.call_one(rounds),
         }
     }
 
-    // The works of which each of two threads may do its half.
+    fn call_one(&mut self, rounds: u64) -> Option<()> {
+        let (own, arena, ends) = (&mut *self.own, self.arena, &self.line.ends);
+        let (block, items, bytes) = (&mut self.block, &mut self.items, &mut self.bytes);
+        let (numbers, sum) = (&mut self.numbers, &mut self.sum);
+        match self.bench.work {
+            Work::AllocFree(bytes, _) => again(rounds, || {
+                let block = own.alloc_in(arena, bytes).ok()?;
+                own.free(block).ok().map(drop)
+            }),
+            Work::GiveTake(1) => again(rounds, || {
+                give(own, &ends.0, block.take()?)?;
+                *block = Some(own.take(&ends.1).ok()?.block().ok()?);
+                Some(())
+            }),
+            Work::GiveTake(_) => again(rounds, || {
+                own.give(&ends.0, 1, take(items)).ok()?;
+                *items = own.take(&ends.1).ok()?.items;
+                Some(())
+            }),
+            Work::Read(_) => again(rounds, || own.read(block.as_ref()?, 0, bytes).ok()),
+            Work::Write(_) => again(rounds, || own.write(block.as_ref()?, 0, bytes).ok()),
+            Work::Kill(_) => again(rounds, || own.kill(numbers.pop()?).ok().map(drop)),
+            _ => again(rounds, || {
+                *sum = sum.wrapping_add(own.overview().places.len() as u64);
+                Some(())
+            }),
+        }
+    }
+
+    // Does its work, one of which each of two threads may do its half.
     fn call_two(&mut self, rounds: u64) -> Option<()> {
+        let (own, alloc, ends) = (&mut *self.own, self.bench.alloc, &self.line.ends);
+        let (sends, receives) = (self.sends, self.receives);
+        let (block, bytes, sum) = (&mut self.block, &self.bytes, &mut self.sum);
         match self.bench.work {
             Work::Message(_, _) => again(rounds, || {
-                if self.sends {
-                    let mut bytes = filled(self.bench.alloc, &self.bytes)?;
-                    send(self.own, self.gives, &mut bytes)?;
+                if sends {
+                    send(own, &ends.0, &mut filled(alloc, bytes)?)?;
                 }
-                if self.receives {
-                    let bytes = receive(self.own, self.takes)?;
-                    self.sum = self.sum.wrapping_add(glanced(&bytes));
+                if receives {
+                    *sum = sum.wrapping_add(glanced(&receive(own, &ends.1)?));
                 }
+                Some(())
+            }),
+            Work::ToAndFro if sends => again(rounds, || {
+                give(own, &ends.0, block.take()?)?;
+                *block = Some(own.take_wait(&ends.0).ok()?.block().ok()?);
                 Some(())
             }),
             Work::ToAndFro => again(rounds, || {
-                if self.sends {
-                    give(self.own, self.gives, self.block.take()?)?;
-                }
-                self.block = Some(self.own.take_wait(self.takes).ok()?.block().ok()?);
-                if self.receives {
-                    give(self.own, self.gives, self.block.take()?)?;
-                }
-                Some(())
+                let block = own.take_wait(&ends.1).ok()?.block().ok()?;
+                give(own, &ends.1, block)
             }),
-            _ => again(rounds, || {
-                if self.sends {
-                    self.own.give_wait(self.gives, 1, Items::new()).ok()?;
-                }
-                if self.receives {
-                    self.own.take_wait(self.takes).ok()?;
-                }
-                Some(())
+            _ if sends => again(rounds, || {
+                let given = own.give_wait(&ends.0, 1, Items::new());
+                given.ok().map(drop)
             }),
+            _ => again(rounds, || own.take_wait(&ends.1).ok().map(drop)),
         }
     }
 }

@@ -3,7 +3,7 @@
 use crate::bench::{Bench, Line, Lines};
 use std::sync::Mutex;
 use std::sync::atomic::AtomicU64;
-use xh_heap::{Block, End, Item, Items, Process};
+use xh_heap::{Block, Item, Items, Process};
 
 /// Of a work that two threads do it does its half, one alone both. It has blocks that it holds meanwhile, one or several that it
 /// works on, and processes that it is to kill.
@@ -14,8 +14,6 @@ pub(crate) struct Crew<'a, P: Process> {
     pub(crate) bench: Bench,
     pub(crate) lines: &'a Lines,
     pub(crate) line: &'a Line,
-    pub(crate) gives: &'a End,
-    pub(crate) takes: &'a End,
     pub(crate) sends: bool,
     pub(crate) receives: bool,
     pub(crate) arena: u32,
@@ -69,8 +67,6 @@ impl<'a, P: Process> Crew<'a, P> {
             bench,
             lines,
             line,
-            gives: if sends { &line.ends.0 } else { &line.ends.1 },
-            takes: if receives { &line.ends.1 } else { &line.ends.0 },
             sends,
             receives,
             arena,

@@ -73,63 +73,64 @@ impl<'a, P: Process> Crew<'a, P> {
     }
 
     fn once(&mut self, times: u64, piece: Piece) -> Option<()> {
-        let alloc = self.bench.alloc;
+        let (rt, alloc, queue) = (&self.rt, self.bench.alloc, &self.line.free);
+        let (count, word, bytes) = (&self.count, &self.word, &mut self.bytes);
         match piece {
             Piece::Lock => again(times, || {
-                *self.count.lock(&self.rt) = 1;
+                *count.lock(rt) = 1;
                 Some(())
             }),
-            Piece::Exchange => again(times, || Some(drop(self.word.swap(1, SeqCst)))),
-            Piece::Load => again(times, || Some(drop(self.word.load(SeqCst)))),
+            Piece::Exchange => again(times, || Some(drop(word.swap(1, SeqCst)))),
+            Piece::Load => again(times, || Some(drop(word.load(SeqCst)))),
             Piece::Zeroed(bytes) => again(times, || vec![in alloc; 0u8; bytes].ok().map(drop)),
             Piece::Copied(count) => again(times, || {
-                let room = self.bytes.as_mut_slice().get_mut(..count)?;
+                let room = bytes.as_mut_slice().get_mut(..count)?;
                 room.copy_from_slice(PAGE.get(..count)?);
                 Some(())
             }),
             Piece::PushPop => again(times, || {
-                self.line.free.push(&self.rt, Vec::new(alloc)).ok()?;
-                self.line.free.pop(&self.rt).map(drop)
+                queue.push(rt, Vec::new(alloc)).ok()?;
+                queue.pop(rt).map(drop)
             }),
-            _ => self.once_two(times, piece),
+            _ => self.pass(times, piece),
         }
     }
 
     // The pieces of which each of two threads may do its half.
-    fn once_two(&mut self, times: u64, piece: Piece) -> Option<()> {
-        let (alloc, there, back) = (self.bench.alloc, &self.line.there, &self.line.back);
+    fn pass(&mut self, times: u64, piece: Piece) -> Option<()> {
+        let (rt, alloc, line) = (&self.rt, self.bench.alloc, self.line);
+        let (sends, receives) = (self.sends, self.receives);
+        let (bytes, sum) = (&self.bytes, &mut self.sum);
         match piece {
+            Piece::ToAndFro if sends => again(times, || {
+                line.there.0.send(rt, Vec::new(alloc)).ok()?;
+                line.back.1.recv(rt).ok().map(drop)
+            }),
             Piece::ToAndFro => again(times, || {
-                if self.sends {
-                    there.0.send(&self.rt, Vec::new(alloc)).ok()?;
-                    back.1.recv(&self.rt).ok().map(drop)
-                } else {
-                    there.1.recv(&self.rt).ok()?;
-                    back.0.send(&self.rt, Vec::new(alloc)).ok()
-                }
+                line.there.1.recv(rt).ok()?;
+                line.back.0.send(rt, Vec::new(alloc)).ok()
             }),
             Piece::Vector(_) => again(times, || {
-                if self.sends {
-                    let vector = filled(alloc, &self.bytes)?;
-                    there.0.send(&self.rt, vector).ok()?;
+                if sends {
+                    line.there.0.send(rt, filled(alloc, bytes)?).ok()?;
                 }
-                if self.receives {
-                    let vector = there.1.recv(&self.rt).ok()?;
-                    self.sum = self.sum.wrapping_add(glanced(&vector));
+                if receives {
+                    let buffer = line.there.1.recv(rt).ok()?;
+                    *sum = sum.wrapping_add(glanced(&buffer));
                 }
                 Some(())
             }),
             _ => again(times, || {
-                if self.sends {
-                    let mut buffer = self.line.free.pop(&self.rt).unwrap_or(Vec::new(alloc));
-                    buffer.extend_from_slice(&self.bytes).ok()?;
-                    there.0.send(&self.rt, buffer).ok()?;
+                if sends {
+                    let mut buffer = line.free.pop(rt).unwrap_or(Vec::new(alloc));
+                    buffer.extend_from_slice(bytes).ok()?;
+                    line.there.0.send(rt, buffer).ok()?;
                 }
-                if self.receives {
-                    let mut buffer = there.1.recv(&self.rt).ok()?;
-                    self.sum = self.sum.wrapping_add(glanced(&buffer));
+                if receives {
+                    let mut buffer = line.there.1.recv(rt).ok()?;
+                    *sum = sum.wrapping_add(glanced(&buffer));
                     buffer.clear();
-                    self.line.free.push(&self.rt, buffer).ok()?;
+                    line.free.push(rt, buffer).ok()?;
                 }
                 Some(())
             }),
