@@ -14,3 +14,6 @@ loop-account-preserved g c =
           subst (λ (z : List (PenOf Entry) × List (PenOf VaultOf) × AccountOf). HasSeenAll z.0 z.1 z.2) (λ i. (l.invariant.0 i, l.invariant.1 i, same i)) c.compare_account.ensures.seen),
       λ k d above. grind (arith, common_steps),
     )
+
+pub returns-clause-seen : goal.returns-clause-seen
+returns-clause-seen g c = λ k d below. c.loop-account.invariant.3 k (grind (arith, common_steps)) d
