@@ -32,4 +32,4 @@ pub use status::Status;
 pub use talk::Talk;
 pub use turn::Turn;
 pub use twice::is_twice;
-pub use xh_model::{Config, Event, Holder, Outcome, Row};
+pub use xh_model::{Config, Event, Holder, Limit, Outcome, Row};

@@ -23,5 +23,5 @@ pub use starter::Starter;
 pub use std::time::Duration;
 pub use values::{Answered, AsEnd, Block, End, Item, Items, Load, Message, Returned};
 pub use xh_books::Books;
-pub use xh_core::{Config, Contract, Glance, Refused, Row, Status};
+pub use xh_core::{Config, Contract, Glance, Limit, Refused, Row, Status};
 pub use xh_kernel::{Awaited, Overview, PlaceNow, Spot};

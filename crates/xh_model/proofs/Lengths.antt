@@ -1,5 +1,5 @@
 -- The lengths of an arena's records as a list, and what a change of one or two records makes of it.
-use Rattle.std.proofs.Common.{◌≡◌, ℕ, ◌<◌, ◌∷◌, cond, length, map, refl, sym, ap, ◌∙◌, Some, None, arith, zero-add, inl, inr, get_or-set_same, get_or-set_other}
+use Rattle.std.proofs.Common.{◌≡◌, ℕ, ◌<◌, cond, length, map, refl, sym, ap, ◌∙◌, Some, None, arith, zero-add, inl, inr, get_or-set_same, get_or-set_other}
 use Rattle.std.specs.Prelude.{◌≢◌, ◌==◌, slice_set, slice_get, replicate, sum}
 use Rattle.std.specs.List.{range_with_len, sum_by}
 use Rattle.std.proofs.lemmas.Bool.Decides.{nat_tests}
