@@ -156,6 +156,7 @@ impl<B: Fits + Drop> Records<B> {
             table,
             arenas: _,
             records: _,
+            hints: _,
         } = self;
         Ok(unload(table.close_with(token), held, words, lots))
     }

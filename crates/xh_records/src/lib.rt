@@ -2,6 +2,7 @@
 #![tactic(auto)]
 
 mod closing;
+mod hints;
 mod laws;
 mod lending;
 mod making;

@@ -13,6 +13,7 @@ ghost use Rattle.xh_records.specs.History.{IsOneLog};
 ghost use Rattle.xh_records.specs.Seats.{SawTaken};
 ghost use Rattle.xh_records.specs.inner.Events.{taking, giving, IsAway, IsHomeLot};
 
+use crate::hints::Hints;
 use crate::making::{LotTable, seats_of, table_of};
 use crate::plays::{LooksAtRecord, Notes, Renews};
 use crate::refused::Refused;
@@ -34,6 +35,7 @@ pub struct Records<B: Fits> {
     pub(crate) table: LotTable<B>,
     pub(crate) arenas: u8,
     pub(crate) records: u16,
+    pub(crate) hints: Hints,
 }
 
 impl<B: Fits> Model for Records<B> {
@@ -46,6 +48,9 @@ impl<B: Fits> Model for Records<B> {
 
     ghost invariant = { λ r. IsTable r.table.shared.table_id r.table.shared.key r.arenas r.records };
 }
+
+// A claim that goes so far past a hint moves it. With up to so many blocks in an arena no hint is stored.
+const FAR: u16 = 16;
 
 // The number of a record of an arena.
 fn number_at(arena: u8, index: u16) -> u16
@@ -91,6 +96,7 @@ impl<B: Fits + Drop> Records<B> {
             table,
             arenas: arenas as u8,
             records,
+            hints: Hints::new(),
         };
         Ok((all, seats))
     }
@@ -185,7 +191,7 @@ impl<B: Fits + Drop> Records<B> {
         self.take(seat, number, OwnerWord::Free)
     }
 
-    // The same in one round, which gathers the words.
+    // The same from index 0 on, in one round, which gathers the words.
     fn claim_seen(&self, seat: &mut Seat<B>, arena: u8) -> Result<u16, Seen>
         requires own { IsSeatOf self.now seat.old }
         requires arena { arena < length self.now.shape.names }
@@ -203,15 +209,19 @@ impl<B: Fits + Drop> Records<B> {
         for index in 0..records {
             let number = number_at(arena, index);
             match self.claim_at(seat, usize::from(start) + usize::from(index), number) {
-                Ok(()) => return Ok(number),
+                Ok(()) => {
+                    self.hints.set(arena, index);
+                    return Ok(number);
+                }
                 Err(word) => seen.words.push(word),
             }
         }
         Err(seen)
     }
 
-    /// Takes the first record of the arena that it finds free, from index 0 on. Its lot is empty: no
-    /// bytes, and a blank body. The error has a word for each record, as it was at some moment of the call, none of them free.
+    /// Takes a record of the arena that it finds free. It begins at a hint, and looks at all where it
+    /// finds none from there on: on one thread it takes the lowest. Its lot is empty: no bytes, and a
+    /// blank body. The error has a word for each record, as it was at some moment of the call, none of them free.
     // (The words' room is 2 KiB. Gathered in the first round it would be cleared at each claim, and not inlined moved where
     // nobody reads it.)
     #[inline(always)]
@@ -226,10 +236,16 @@ impl<B: Fits + Drop> Records<B> {
     {
         let records = self.records;
         let first = self.slot_of(number_at(arena, 0));
-        for index in 0..records {
+        let hint = self.hints.of(arena);
+        for index in hint..records {
             let r = number_at(arena, index);
             match self.claim_at(seat, usize::from(first) + usize::from(index), r) {
-                Ok(()) => return Ok(r),
+                Ok(()) => {
+                    if index - hint >= FAR {
+                        self.hints.set(arena, index);
+                    }
+                    return Ok(r);
+                }
                 Err(_word) => (),
             }
         }
@@ -270,6 +286,7 @@ impl<B: Fits + Drop> Records<B> {
         ensures vacated { (l : LotOf B) × (value_at number seat.old.lots ≡ Some l) × HasLost (Vacate seat.old.process number) l seat.old seat.new }
     {
         self.give(seat, number, OwnerWord::Free);
+        self.hints.lower(number);
     }
 
     // The word at a slot, which is the record's.

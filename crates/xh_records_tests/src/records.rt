@@ -4,6 +4,7 @@ ghost use Rattle.xh_model.specs.declared.limits.TheConstants.{MAX_RECORDS};
 ghost use Rattle.xh_records.specs.Seats.{IsSeatOf};
 ghost use Rattle.xh_records_tests.specs.Benches.{IsNewBench};
 
+mod lowest;
 mod rounds;
 mod threads;
 

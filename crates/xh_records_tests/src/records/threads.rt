@@ -13,12 +13,12 @@ use xh_arena::Lot;
 use xh_records::{Records, Refused, Seat};
 
 /// Claims until no record is free.
-fn claim_all(records: &Records<Any>, mut seat: Seat<Any>) -> (Seat<Any>, ArrayVec<u16, 16>)
+fn claim_all(records: &Records<Any>, mut seat: Seat<Any>) -> (Seat<Any>, ArrayVec<u16, 64>)
     requires { IsSeatOf records.now seat × (0 < length records.now.shape.names) }
     ensures { IsSeatOf records.now result.0 }
 {
     let mut claimed = ArrayVec::new();
-    for round in 0..16_usize {
+    for round in 0..64_usize {
         let Ok(number) = records.claim(&mut seat, 0) else {
             return (seat, claimed);
         };
@@ -34,8 +34,8 @@ fn claim_both<R: Threads + Sync>(
     first: Seat<Any>,
     second: Seat<Any>,
 ) -> (
-    (Seat<Any>, ArrayVec<u16, 16>),
-    (Seat<Any>, ArrayVec<u16, 16>),
+    (Seat<Any>, ArrayVec<u16, 64>),
+    (Seat<Any>, ArrayVec<u16, 64>),
 )
     requires { IsSeatOf all.now first × IsSeatOf all.now second × (0 < length all.now.shape.names) }
     ensures { IsSeatOf all.now result.0.0 × IsSeatOf all.now result.1.0 }
@@ -53,23 +53,23 @@ fn claim_both<R: Threads + Sync>(
     )
 }
 
-/// Each of eight records was claimed once.
-fn assert_once(rt: &impl Abort, one: &ArrayVec<u16, 16>, other: &ArrayVec<u16, 16>) {
-    for number in 0..8_u16 {
+/// Each of forty records was claimed once.
+fn assert_once(rt: &impl Abort, one: &ArrayVec<u16, 64>, other: &ArrayVec<u16, 64>) {
+    for number in 0..40_u16 {
         let (here, there) = (one.contains(&number), other.contains(&number));
         assert_same(rt, (number, here), (number, !there));
     }
-    assert_same(rt, one.len() + other.len(), 8);
+    assert_same(rt, one.len() + other.len(), 40);
 }
 
-/// Unless a growth was refused, eight words are left, each of one of the two processes.
+/// Unless a growth was refused, forty words are left, each of one of the two processes.
 fn assert_owned(
     rt: &impl Abort,
     closed: Result<(Vec<u64>, Vec<Lot<Any>>), Refused>,
 ) -> Result<(), Refused> {
     match closed {
         Ok((words, _lots)) => {
-            assert_same(rt, words.len(), 8);
+            assert_same(rt, words.len(), 40);
             for word in &words {
                 assert!(rt; *word == 1 || *word == 5);
             }
@@ -79,14 +79,14 @@ fn assert_owned(
     }
 }
 
-/// Eight records, and two threads: each record is claimed once.
+/// Forty records, and two threads: each record is claimed once.
 fn claim_each<R: Abort + Threads + Sync>(rt: &R, alloc: Global) -> Result<(), Refused> {
     let Bench {
         records,
         first,
         second,
         ..
-    } = make_bench(alloc, 128, 8, 1000).expect(rt, "a bench");
+    } = make_bench(alloc, 128, 40, 1000).expect(rt, "a bench");
     let (one, other) = claim_both(rt, &records, first, second);
     assert_once(rt, &one.1, &other.1);
     let closed = close_both(alloc, records, one.0, other.0);
