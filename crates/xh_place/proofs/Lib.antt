@@ -13,4 +13,3 @@ pub mod Shown
 pub mod Givens
 pub mod Swept
 pub mod Drained
-pub mod Stayed
