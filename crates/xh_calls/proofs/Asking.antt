@@ -4,7 +4,7 @@ use Rattle.xh_calls.proofs.Common.{Bool, IsLack, Status, arith, cond, false, len
 use Rattle.xh_calls.proofs.Common.{VaultOf, ap, first_refusal, inr, ℕ, ⊎_elim, ◌*◌, ◌<◌, ◌≡◌, ◌⊎◌}
 use Rattle.std.proofs.lemmas.Bool.Decides.{nat_tests}
 use Rattle.std.specs.Prelude.{◌≢◌}
-use Rattle.xh_arena.specs.declared.refused.Refused.{Refused as Reason}
+use Rattle.xh_arena.specs.declared.refused.Refused.{Refused as ArenaRefused}
 use Rattle.xh_arena.specs.declared.refused.Refused.TheVariants as arena
 use Rattle.xh_calls.specs.Channels.{IsNoChannel}
 use Rattle.xh_calls.specs.Vaults.{AsksVault}
@@ -45,7 +45,7 @@ module _ (parts : PartsOf) (a n : ℕ) (f g : FrontOf VaultOf) (Same : Type 0) (
       → IfErr result (λ why. why ≢ refused.NoSpace → why ≢ refused.Worn → Same) → g ≡ f
   unasked result e is space worn still = is_same (subst (λ (r : Result Block Refused). IfErr r (λ why. why ≢ refused.NoSpace → why ≢ refused.Worn → Same)) is still space worn)
 
-  asks : (full same : Type 0) (P : Reason → Type 0) (w x y z : Bool) (result : Result Block Refused) → ((why : Reason) → P why → IsRefusedBy parts a n f g why)
+  asks : (full same : Type 0) (P : ArenaRefused → Type 0) (w x y z : Bool) (result : Result Block Refused) → ((why : ArenaRefused) → P why → IsRefusedBy parts a n f g why)
       → IfErr result (λ why. why ≢ refused.NoSpace → why ≢ refused.Worn → Same)
       → MatchOption (cond w (Some refused.NoProcess) (cond x (Some refused.Ended) (cond y (Some refused.NoArena) (cond z (Some refused.BadSize) None)))) (IfErr result (IsLack full P))
       (λ e. (result ≡ Err e) × same) → IfErr result (AsksVault parts a n f g)

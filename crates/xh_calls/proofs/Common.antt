@@ -19,9 +19,9 @@ pub use Rattle.xh_core.specs.{declared.refused.Refused.TheVariants.NotEndpoint, 
 pub use Rattle.xh_core.specs.{declared.status.Status.Status}
 pub use Rattle.xh_history.specs.{Histories.FrontOf, Histories.HasSeen, Histories.History, Histories.PenOf, Histories.at, Histories.fresh_pen}
 pub use Rattle.xh_model.specs.{declared.limits.TheConstants.END_BYTES, declared.limits.TheConstants.MAX_RECORDS}
-pub use Rattle.xh_place.proofs.{Counted.none_back, Events.stays_itself, Seeing.did_starts}
+pub use Rattle.xh_place.proofs.{Counted.none_back, Deeds.stays_itself, Seeing.did_starts}
 pub use Rattle.xh_place.specs.{Bodies.Content, Bodies.IsEndAt, Bodies.bytes, Bodies.endpoint, Bodies.fits_in, Bodies.kind_of, Calls.Closes, Calls.IsLack}
-pub use Rattle.xh_place.specs.{Calls.SpaceOf, Ending.HasGivenBack, Ending.IsClosed, Endpoints.EndDoes, Ends.Accepts, Ends.RefusedOr}
+pub use Rattle.xh_place.specs.{Calls.SpaceOf, Reclaiming.HasGivenBack, Reclaiming.IsClosed, Endpoints.EndDoes, Accepting.Accepts, Calls.RefusedOr}
 pub use Rattle.xh_place.specs.{Messages.IsUntaken, Messages.TakesAt, Places.PlaceSeen}
 pub use Rattle.xh_place.specs.{Places.found, Places.header_of, Seen.Becomes, Seen.FindsFull, Seen.IsSamePlace, Seen.IsSeen, Seen.Stays}
 pub use Rattle.xh_place.specs.{Tallies.gave, Tallies.ids_of, declared.body.Body.Body}

@@ -7,7 +7,7 @@ use Rattle.xh_place.specs.Vaults.{AsksEach, BringsBack}
 use Rattle.xh_calls.specs.Places.{GivesBack}
 use Rattle.xh_calls.specs.declared.heap.Till.{Till}
 
--- an endpoint that came to a place, or was turned away
+-- an endpoint that came to a place, or came too late
 module _ {V : Type 0} {from to : V} (changes : V → V → ℕ → VaultOf → VaultOf → Type 0) (tallies : V → List TallyOf) where
   pub received : (q r d : ℕ) (old new : PlaceSeen) (result : Result Block Refused) → Accepts changes tallies q r d old new from to result
       → (bytes : ℕ) × ReceivesOr q d r bytes old new result × BringsBack changes tallies bytes from to

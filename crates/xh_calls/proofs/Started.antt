@@ -1,7 +1,7 @@
 -- A call whose first tests refused: it did nothing. And a start, which does nothing to records.
 use Rattle.xh_calls.proofs.Common.{Block, Err, List, Ok, OnErr, PlaceSeen, RefusedOr, Refused, Result, Some, SpaceOf, Stays, Status, Tests, [], alloc_tests, arith}
 use Rattle.xh_calls.proofs.Common.{first_append, first_refusal, refl, start, subst, sym, stays_itself, ℕ, ◌++◌, ◌≡◌}
-use Rattle.xh_place.proofs.Events.{acts_itself}
+use Rattle.xh_place.proofs.Deeds.{acts_itself}
 use Rattle.xh_place.specs.Calls.{Makes}
 use Rattle.xh_place.specs.Places.{started}
 use Rattle.xh_place.specs.Seen.{LeavesIt}

@@ -3,7 +3,7 @@ use Rattle.std.proofs.Common.{set}
 use Rattle.std.proofs.lemmas.Grind.{common_steps}
 use Rattle.std.proofs.lemmas.List.{set-get_or}
 use Rattle.std.proofs.lemmas.Option.{gets}
-use Rattle.xh_arena.specs.declared.refused.Refused.{Refused}
+use Rattle.xh_arena.specs.declared.refused.Refused.{Refused as ArenaRefused}
 use Rattle.xh_place.specs.Vaults.{ByTally}
 use Rattle.xh_place.specs.Tallies.{took}
 use Rattle.xh_calls.proofs.Common.{◌≡◌, ℕ, zero, suc, ◌+◌, ◌<◌, List, [], ◌∷◌, length, get_or, sym, ap}
@@ -53,7 +53,7 @@ module _ (ts : List TallyOf) {names : List TableId} (i : ℕ) {a : ℕ} {id : Ta
       let all = set_as ts i n t here.0 in let from = e ∙ ap (λ (z : TallyOf). record z { back = z.back + n }) value in
       (all.2 u (ap (λ (z : TallyOf). z.id) from) ∙ own, (ap (set ts i) from ∙ all.1 ∙ (λ k. gave (is k) n ts), subst (λ (j : ℕ). j < length ts) is here.0))
 
-  pub taken_or_not : (result : Result ℕ Refused) (n : ℕ) (P : ℕ → Type 0) (Q : Refused → Type 0) → ((at : ℕ) → P at → u ≡ record t { taken = t.taken + n }) → ((e : Refused) → Q e → u ≡ t)
+  pub taken_or_not : (result : Result ℕ ArenaRefused) (n : ℕ) (P : ℕ → Type 0) (Q : ArenaRefused → Type 0) → ((at : ℕ) → P at → u ≡ record t { taken = t.taken + n }) → ((e : ArenaRefused) → Q e → u ≡ t)
       → MatchResult result P (λ _. Unit {0}) → MatchResult result (λ _. Unit {0}) Q → (ids_of (set ts i u) ≡ names) × MatchResult result (λ _. set ts i u ≡ took a n ts) (λ _. set ts i u ≡ ts)
   taken_or_not (Ok at) n P Q more same done refused = taken n (more at done)
   taken_or_not (Err e) n P Q more same done refused = let still = ap (set ts i) (same e refused ∙ value) ∙ set-get_or ts i t in (ap ids_of still ∙ own, still)

@@ -1,7 +1,7 @@
 -- The vault of an arena's lock stays one of that arena under each call, and its history ends in it.
 use Rattle.xh_calls.proofs.Common.{All-push, AreTheirs, EndsIn, Enters, Err, FrontOf, HasSeen, History, IfErr, IfOk, IsKeptVault, IsVaultOf, Leaves, LotOf, Ok, PartsOf, PenOf, Result}
 use Rattle.xh_calls.proofs.Common.{TallyOf, VaultOf, [], ap, at, length, refl, slice_set, subst, sym, ℕ, ◌++◌, ◌<◌, ◌∙◌, ◌∷◌, ◌≡◌}
-use Rattle.xh_arena.specs.declared.refused.Refused.{Refused}
+use Rattle.xh_arena.specs.declared.refused.Refused.{Refused as ArenaRefused}
 use Rattle.xh_arena.specs.Refusals.{RefusesCarve}
 use Rattle.xh_arena.specs.Sharing.{IsVaultCarved, IsVaultCut, IsVaultGivenBack}
 use Rattle.xh_model.specs.Arena.{ArenaState}
@@ -41,7 +41,7 @@ module _ (p : PartsOf) (a : ℕ) where
   stays v w back is books records size limit = (let e = is.0 in cc, ((let e = is.1.0 in cc), (let e = is.1.1 in cc), is.1.2, records ∙ is.1.3, size ∙ is.1.4, limit ∙ is.1.5))
 
   module _ {B : Type 0} where
-    pub carve_stays : (n : ℕ) (v w : VaultOf) (lot lot' : LotOf B) (tally tally' : TallyOf) (result : Result ℕ Refused) → IsVaultOf p a v
+    pub carve_stays : (n : ℕ) (v w : VaultOf) (lot lot' : LotOf B) (tally tally' : TallyOf) (result : Result ℕ ArenaRefused) → IsVaultOf p a v
         → IfOk result (λ at. IsVaultCarved n at v w lot lot' tally tally')
         → IfErr result (λ e. RefusesCarve n v.arena e × (w ≡ v) × (lot' ≡ lot) × (tally' ≡ tally)) → IsVaultOf p a w
     carve_stays n v w lot lot' tally tally' (Ok at) is done refused =

@@ -4,9 +4,9 @@ use Rattle.xh_calls.proofs.Common.{Result, Some, Stays, [], ap, arith, end_tests
 use Rattle.xh_calls.proofs.Common.{ℕ, ◌∙◌, ◌∷◌, ◌≡◌, ◌≤◌}
 use Rattle.std.proofs.lemmas.Bool.{eqb-true}
 use Rattle.xh_model.specs.Keyed.{value_at, without}
-use Rattle.xh_place.proofs.Events.{becomes_twice}
+use Rattle.xh_place.proofs.Deeds.{becomes_twice}
 use Rattle.xh_place.specs.Bodies.{content_of}
-use Rattle.xh_place.specs.Events.{passed_on}
+use Rattle.xh_place.specs.Deeds.{passed_on}
 use Rattle.xh_place.specs.Places.{item_of}
 use Rattle.xh_records.specs.Showing.{IsFull}
 use Rattle.xh_place.specs.Seen.{less}

@@ -11,7 +11,7 @@ use Rattle.xh_core.specs.Refusing.{first_refusal}
 use Rattle.xh_model.specs.declared.limits.TheConstants.{END_BYTES}
 use Rattle.xh_model.specs.declared.row.Row.{Row}
 use Rattle.xh_model.specs.Rows.{row_at}
-use Rattle.xh_place.specs.Ends.{HasBoth, IsEndIn}
+use Rattle.xh_place.specs.Opening.{HasBoth, IsEndIn}
 use Rattle.xh_place.specs.Places.{PlaceSeen}
 use Rattle.xh_place.specs.Seen.{FindsFull, LeavesIt, Stays}
 use Rattle.xh_calls.specs.Calls.{space_of}

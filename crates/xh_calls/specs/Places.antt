@@ -6,7 +6,7 @@ use Rattle.xh_core.specs.declared.status.Status.{Status}
 use Rattle.xh_core.specs.declared.status.Status.TheVariants.{Ended}
 use Rattle.xh_core.specs.Statuses.{status_of}
 use Rattle.xh_model.specs.Words.{generation_of}
-use Rattle.xh_place.specs.Ending.{HasGivenBack}
+use Rattle.xh_place.specs.Reclaiming.{HasGivenBack}
 use Rattle.xh_place.specs.Places.{PlaceSeen}
 use Rattle.xh_place.specs.Seen.{Stays}
 use Rattle.xh_place.specs.Tallies.{ids_of}

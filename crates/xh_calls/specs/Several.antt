@@ -6,7 +6,7 @@ use Rattle.xh_core.specs.Several.{has_twice}
 use Rattle.xh_core.specs.declared.header.Header.{Header}
 use Rattle.xh_core.specs.declared.refused.Refused.{Refused}
 use Rattle.xh_core.specs.declared.refused.Refused.TheVariants.{Empty, PeerClosed, TooMany, Twice}
-use Rattle.xh_place.specs.Ends.{RefusedOr}
+use Rattle.xh_place.specs.Calls.{RefusedOr}
 use Rattle.xh_place.specs.Places.{PlaceSeen, found}
 use Rattle.xh_place.specs.Seen.{Stays}
 use Rattle.xh_calls.specs.declared.several.AnsweredAt.{AnsweredAt}

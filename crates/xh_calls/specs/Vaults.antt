@@ -1,7 +1,7 @@
 -- The history of each arena: what its vault was at the end of each call under its lock, beside the number of the worker that made the call.
 use Rattle.std.specs.Prelude.{◌≡◌, ◌⊎◌, ◌<◌, ◌≤◌, ℕ, List, [], ◌∷◌, ◌++◌, All, length, slice_index_or, slice_set}
 use Rattle.std.specs.List.{AllZip}
-use Rattle.xh_arena.specs.declared.refused.Refused.{Refused as Reason}
+use Rattle.xh_arena.specs.declared.refused.Refused.{Refused as ArenaRefused}
 use Rattle.xh_arena.specs.declared.refused.Refused.TheVariants as arena
 use Rattle.xh_arena.specs.Refusals.{RefusesCarve}
 use Rattle.xh_arena.specs.Views.{VaultOf}
@@ -81,7 +81,7 @@ abbrev pub DoesTo : PartsOf → ℕ → FrontOf VaultOf → FrontOf VaultOf → 
 DoesTo parts a old new does = (v : VaultOf) × (w : VaultOf) × Leaves parts old new a v w × does v w
 
 -- the vault of the arena, as the call found it, refused to carve n bytes for this reason, and stayed what it was; the call stands in the arena's history
-abbrev pub IsRefusedBy : PartsOf → ℕ → ℕ → FrontOf VaultOf → FrontOf VaultOf → Reason → Type 0
+abbrev pub IsRefusedBy : PartsOf → ℕ → ℕ → FrontOf VaultOf → FrontOf VaultOf → ArenaRefused → Type 0
 IsRefusedBy parts a n old new e = (v : VaultOf) × Leaves parts old new a v v × IsLawfulArena v.arena × RefusesCarve n v.arena e
 
 -- a look at the arena, which left the vault as it was, and tells what the ledger would say of it

@@ -12,9 +12,9 @@ use Rattle.xh_model.specs.declared.row.Row.{Row}
 use Rattle.xh_model.specs.Keyed.{value_at, without}
 use Rattle.xh_place.specs.Bodies.{IsEndAt, content_of}
 use Rattle.xh_place.specs.declared.body.Body.{Body}
-use Rattle.xh_place.specs.Ending.{IsClosed}
-use Rattle.xh_place.specs.Ends.{ending_again, is_here, IsTooLate}
-use Rattle.xh_place.specs.Events.{passed_on}
+use Rattle.xh_place.specs.Reclaiming.{IsClosed}
+use Rattle.xh_place.specs.Accepting.{ending_again, is_here, IsTooLate}
+use Rattle.xh_place.specs.Deeds.{passed_on}
 use Rattle.xh_place.specs.Places.{IsBlock, PlaceSeen, item_of}
 use Rattle.xh_records.specs.Seats.{SawAt}
 use Rattle.xh_place.specs.Seen.{Stays, Becomes, Gains, IsElsewhere, IsSeen, brings, less}
@@ -49,16 +49,16 @@ Receives q d r old new b = (is_here old q ≡ true) × (b.rec ≡ r)
     × ((l : LotOf Body) × (l.len ≡ b.len) × Gains d r l old new × IsBlock old.seat.shape r l × IsSeen old.seat new.seat r (brings d (item_of l)))
 
 -- nobody has q's place; or another word was seen than "in flight on the direction"; or q doesn't run there, and it was swept: no fewer bytes came back than it has
-abbrev pub TurnsAway : ℕ → ℕ → ℕ → PlaceSeen → PlaceSeen → ℕ → Type 0
-TurnsAway q d r old new bytes =
+abbrev pub ComesTooLate : ℕ → ℕ → ℕ → PlaceSeen → PlaceSeen → ℕ → Type 0
+ComesTooLate q d r old new bytes =
     ((Stays old new × (bytes ≡ 0)) × ((old.state ≡ Vacant) ⊎ IsElsewhere (SawAt old.seat.shape old.seat.front new.seat.front) d r))
     ⊎ ((is_here old q ≡ false) × (old.state ≢ Vacant) × IsTooLate d r (ending_again old.state (length new.list)) old new bytes)
 
--- it was received; or turned away, and then Ended is the answer
+-- it was received; or came too late, and then Ended is the answer
 abbrev pub ReceivesOr : ℕ → ℕ → ℕ → ℕ → PlaceSeen → PlaceSeen → Result Block Refused → Type 0
-ReceivesOr q d r bytes old new result = MatchResult result (λ b. (bytes ≡ 0) × Receives q d r old new b) (λ why. (why ≡ Ended) × TurnsAway q d r old new bytes)
+ReceivesOr q d r bytes old new result = MatchResult result (λ b. (bytes ≡ 0) × Receives q d r old new b) (λ why. (why ≡ Ended) × ComesTooLate q d r old new bytes)
 
--- ---- side 0, of the record r of p, once side 1 was turned away
+-- ---- side 0, of the record r of p, once side 1 came too late
 
 -- p doesn't run any more; or has it no more; or it runs, has it, and it was closed: no fewer bytes came back than it has
 abbrev pub ClosesAgain : ℕ → ℕ → ℕ → PlaceSeen → PlaceSeen → ℕ → Type 0

@@ -17,7 +17,7 @@ use crossbeam_utils::CachePadded;
 use std::alloc::{AllocError, Global};
 use std::hint;
 use std::sync::{Mutex, MutexGuard, Wait};
-use xh_arena::{Lot, Refused, Vault};
+use xh_arena::{Lot, Refused as ArenaRefused, Vault};
 use xh_core::ArenaLine;
 use xh_history::{Front, Histories, NobodyLooks, Pen};
 use xh_place::{Body, Vaults};
@@ -213,7 +213,7 @@ impl<'a, N: Names, R: Wait> Vaults for Lent<'a, N, R> {
     }
 
     #[inline(always)]
-    fn carve(&mut self, arena: u8, lot: &mut Lot<Body>, n: u32) -> Result<u32, Refused> {
+    fn carve(&mut self, arena: u8, lot: &mut Lot<Body>, n: u32) -> Result<u32, ArenaRefused> {
         let mut guard = self.arenas.kept(self.rt, arena);
         let kept: &mut Kept<N> = &mut guard;
         let Till { tallies, seen } = &mut self.till;

@@ -27,7 +27,7 @@ pub enum Call {
     /// The second: side 1 of the channel, by its record, comes to the process. With the bytes that came
     /// back where it was swept.
     Receive(u16, u16, u8, u64, Result<Block, Refused>),
-    /// The third, where side 1 was turned away: side 0, by its record, and the bytes that came back.
+    /// The third, where side 1 came too late: side 0, by its record, and the bytes that came back.
     CloseAgain(u16, u16, u8, u64),
     Give(u16, u16, u16, LinkedList<u16>, Result<u64, Refused>),
     Take(u16, u16, Result<Taken, Refused>),

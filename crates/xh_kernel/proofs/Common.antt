@@ -13,7 +13,7 @@ pub use Rattle.xh_core.specs.declared.refused.Refused.TheVariants.{Empty}
 pub use Rattle.xh_history.specs.Histories.{FrontOf, HasSeen, History, LookOf, PenOf, StartsWith, at, fresh_front, fresh_pen}
 pub use Rattle.xh_calls.specs.Leading.{Leading}
 pub use Rattle.xh_calls.specs.Places.{status_at}
-pub use Rattle.xh_place.proofs.Events.{stays_again, stays_itself}
+pub use Rattle.xh_place.proofs.Deeds.{stays_again, stays_itself}
 pub use Rattle.xh_place.proofs.Seeing.{did_starts}
 pub use Rattle.xh_kernel.specs.Accounts.{AccountOf, AreFresh, IsStill}
 pub use Rattle.xh_kernel.specs.Calls.{Calls, Steps}
@@ -28,7 +28,7 @@ pub use Rattle.xh_calls.specs.declared.call.Entry.{Entry}
 pub use Rattle.xh_calls.specs.declared.call.Call.TheVariants.{Close, CloseAgain, Receive, Stop, Take, TakeAny}
 pub use Rattle.xh_kernel.specs.inner.Making.{IsFirstSeat}
 pub use Rattle.xh_model.specs.declared.limits.TheConstants.{END_BYTES, PLACES}
-pub use Rattle.xh_place.specs.Ending.{HasGivenBack}
+pub use Rattle.xh_place.specs.Reclaiming.{HasGivenBack}
 pub use Rattle.xh_place.specs.Places.{PlaceSeen, glance_of, total_of}
 pub use Rattle.xh_place.specs.Seen.{IsSamePlace, Stays}
 pub use Rattle.std.proofs.Math.Logic.{∥∥₁_elim, ∥∥₁_map}

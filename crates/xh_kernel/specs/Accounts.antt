@@ -8,7 +8,7 @@ use Rattle.xh_core.specs.declared.refused.Refused.{Refused}
 use Rattle.xh_history.specs.Histories.{FrontOf, History, LookOf, fresh_front}
 use Rattle.xh_calls.specs.declared.call.Entry.{Entry}
 use Rattle.xh_model.specs.declared.limits.TheConstants.{PLACES}
-use Rattle.xh_place.specs.Ending.{HasGivenBack}
+use Rattle.xh_place.specs.Reclaiming.{HasGivenBack}
 use Rattle.xh_place.specs.Tallies.{took, gave}
 
 -- a worker's number, its tallies by arena, what it has seen of the histories of the places, by place, how often it looked at one, and what it has seen of those of the arenas

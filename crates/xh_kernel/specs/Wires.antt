@@ -26,7 +26,7 @@ abbrev pub OpensOne : PartsOf → Leading → ℕ → ℕ → Option (List Row) 
 OpensOne parts leads p arena contract old new result = Calls leads (place_of p) (call.OpenToward p arena contract result)
     (TakesBytes parts arena (2 * END_BYTES) (arena ∷ arena ∷ []) (λ _. 2 * END_BYTES) result) (λ from to. OpensToward parts p arena contract from to result) old new
 
--- side 1 of the channel came to q, or was turned away
+-- side 1 of the channel came to q, or came too late
 abbrev pub ReceivesOne : Leading → (q r channel : ℕ) → AccountOf → AccountOf → Result Block Refused → Type 0
 ReceivesOne leads q r channel old new result = (bytes : ℕ)
     × Calls leads (place_of q) (call.Receive q r channel bytes result) (HasBack bytes) (λ from to. ReceivesOr q (toward_high channel) r bytes from to result) old new
@@ -36,7 +36,7 @@ abbrev pub ClosesOne : Leading → ℕ → Wired → AccountOf → AccountOf →
 ClosesOne leads p w old new = (bytes : ℕ)
     × Calls leads (place_of p) (call.CloseAgain p w.low.rec w.channel bytes) (HasBack bytes) (λ from to. ClosesAgain p w.channel w.low.rec from to bytes) old new
 
--- side 1 came to q; or it was turned away, and then p closed side 0 again
+-- side 1 came to q; or too late, and then p closed side 0 again
 abbrev pub HandsOver : Leading → ℕ → ℕ → Wired → AccountOf → AccountOf → Result (Block × Block) Refused → Type 0
 HandsOver leads p q w old new result = (mid : AccountOf) × (received : Result Block Refused) × ReceivesOne leads q w.high.rec w.channel old mid received
     × MatchResult received (λ _. (result ≡ Ok (w.low, w.high)) × (new ≡ mid)) (λ _. (result ≡ Err Ended) × ClosesOne leads p w mid new)

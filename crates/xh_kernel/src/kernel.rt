@@ -25,7 +25,7 @@ mod memory;
 mod messages;
 
 use crate::account::Account;
-use crate::held::Held;
+use crate::locked_place::LockedPlace;
 use crate::looking::{Waits, bell_of};
 use crate::overview::Awaited;
 use crate::parts::{Look, Parts};
@@ -52,7 +52,7 @@ use xh_records::{Records, Seat};
 #[derive(Drop)]
 pub struct Kernel<N: Names> {
     pub(crate) shared: Shared<N>,
-    places: Vec<CachePadded<Mutex<Held<N>>>>,
+    places: Vec<CachePadded<Mutex<LockedPlace<N>>>>,
     // of each place which process sleeps there, and what it awaits
     pub(crate) awaiting: [CachePadded<LockedCell<Option<(u16, Awaited)>>>; PLACE_LINES],
     ghost all: { vec_len places ≡ PLACES },
@@ -77,7 +77,7 @@ fn lock_place<N: Names>(
     records: &Records<Body>,
     seat: Seat<Body>,
     pen: Pen<Entry>,
-) -> Result<CachePadded<Mutex<Held<N>>>, Refused>
+) -> Result<CachePadded<Mutex<LockedPlace<N>>>, Refused>
     requires records { records.now ≡ N.parts.records }
     requires seat { IsFirstSeat N.parts.records seat.process seat × (seat.process < PLACES) }
     requires history { pen ≡ fresh_pen N.parts.histories seat.process }
@@ -85,7 +85,7 @@ fn lock_place<N: Names>(
 {
     let room = u16::from(records.arenas()) * records.per_arena();
     let place = Place::new(alloc, seat, room)?;
-    Ok(CachePadded::new(Mutex::new(Held {
+    Ok(CachePadded::new(Mutex::new(LockedPlace {
         scribe: Scribe::new(pen, &place),
         place,
         waits: Waits::default(),
@@ -99,7 +99,7 @@ fn lock_places<N: Names>(
     records: &Records<Body>,
     seats: Vec<Seat<Body>>,
     pens: Vec<Pen<Entry>>,
-) -> Result<Vec<CachePadded<Mutex<Held<N>>>>, Refused>
+) -> Result<Vec<CachePadded<Mutex<LockedPlace<N>>>>, Refused>
     requires records { records.now ≡ N.parts.records }
     requires seats { AreFirstSeats N.parts.records seats.items }
     requires pens { ArePens N.parts.histories pens.items }
@@ -143,7 +143,7 @@ fn name_accounts<N: Names>(
 // The places out of their locks, and the pens of their histories.
 fn unlock_places<N: Names>(
     alloc: Global,
-    locks: Vec<CachePadded<Mutex<Held<N>>>>,
+    locks: Vec<CachePadded<Mutex<LockedPlace<N>>>>,
 ) -> Result<(Vec<Place>, Vec<Pen<Entry>>), AllocError>
     ensures count { IfOk result (λ r. vec_len r.0 ≡ vec_len locks) }
     ensures named { IfOk result (λ r. All (λ p. IsSeatOf N.parts.records p.seat) r.0.items) }
@@ -195,7 +195,7 @@ impl<N: Names> Kernel<N> {
 
     // What lies behind the lock of the process's place, which knows its number.
     #[inline(always)]
-    pub(crate) fn held<R: Wait>(&self, rt: &R, p: u16) -> MutexGuard<'_, Held<N>>
+    pub(crate) fn held<R: Wait>(&self, rt: &R, p: u16) -> MutexGuard<'_, LockedPlace<N>>
         ensures { (mutex_guard_value result).scribe.pen.number ≡ place_of p }
     {
         let number = p % u16::from(PLACES);
@@ -234,7 +234,7 @@ impl<N: Names> Kernel<N> {
         ensures { Calls N.leads number (Spawn result) IsStill (λ old new. Spawns N.parts.generations old new result) account.old account.new }
     {
         let mut guard = self.held(rt, u16::from(number));
-        let held: &mut Held<N> = &mut guard;
+        let held: &mut LockedPlace<N> = &mut guard;
         let answer = self.shared.heap.spawn(&mut held.place);
         let about = &answer;
         held.scribe.note(&self.shared, &held.place, &mut account.front, about, false);

@@ -3,8 +3,8 @@
 
 mod account;
 mod finishing;
-mod held;
 mod kernel;
+mod locked_place;
 mod looking;
 mod overview;
 mod parts;

@@ -10,7 +10,7 @@ ghost use Rattle.xh_model.specs.declared.limits.TheConstants.{PLACES};
 ghost use Rattle.xh_place.specs.Seen.{Stays};
 
 use crate::account::Account;
-use crate::held::Held;
+use crate::locked_place::LockedPlace;
 use crate::shared::Shared;
 use std::sync::Wait;
 use xh_calls::{AnsweredAt, Names, check_start};
@@ -51,7 +51,7 @@ fn is_in_vain(answer: &Result<u64, Refused>, given: &[u16]) -> bool
     }
 }
 
-impl<N: Names> Held<N> {
+impl<N: Names> LockedPlace<N> {
     // Who waits here looks again: its process ended, or an endpoint may have left it.
     pub(crate) fn wake<R: Wait>(&mut self, rt: &R, shared: &Shared<N>)
         ensures { (self.new.place ≡ self.old.place) × (self.new.scribe ≡ self.old.scribe) }

@@ -9,7 +9,6 @@ mod answers;
 #[cfg(test)]
 mod bytes;
 #[cfg(test)]
-mod fronts;
 #[cfg(test)]
 mod growths;
 #[cfg(test)]
@@ -22,6 +21,7 @@ mod machines;
 mod places;
 #[cfg(test)]
 mod points;
+mod prefixes;
 #[cfg(test)]
 mod several;
 #[cfg(test)]

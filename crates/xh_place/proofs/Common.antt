@@ -16,7 +16,7 @@ pub use Rattle.xh_place.proofs.Listing.{distinct_unless, keys_without, less_abse
 pub use Rattle.xh_place.proofs.Steps.{are_blocks, block_small, changes, count_bound, enough, gains, holds_nothing, list_room, listed_at, lot_at, loses, none_there, now_as, now_is, over_running}
 pub use Rattle.xh_place.proofs.Steps.{quiet_alive, some_of, there, total_bound}
 pub use Rattle.xh_place.proofs.Gained.{changed, full_now, has, lot_is, none_claimed, one_gone, unmoved, word_holds}
-pub use Rattle.xh_place.proofs.Events.{now_of, acts_again, acts_itself, acts_lent, acts_none, acts_of, acts_then, acts_twice, becomes, claim_acts, empty_item, full_since, lets_since, vacate_acts}
+pub use Rattle.xh_place.proofs.Deeds.{now_of, acts_again, acts_itself, acts_lent, acts_none, acts_of, acts_then, acts_twice, becomes, claim_acts, empty_item, full_since, lets_since, vacate_acts}
 pub use Rattle.xh_place.proofs.Seeing.{did_more, did_none, did_starts, full_wide, saw_wide, starts_more, starts_same}
 pub use Rattle.xh_place.proofs.Parted.{another, data_of, is_patched, lent, overwritten, parted, runs, tested_range}
 pub use Rattle.xh_place.proofs.Shown.{less_shown, shown_append, shown_gain, shown_long, shown_same}
@@ -28,11 +28,11 @@ pub use Rattle.xh_place.proofs.Words.{EndpointShuts, EndpointTakes}
 pub use Rattle.xh_place.proofs.Words.{Changes, Clears, Drains, EndsWith, GainsAll, IsClosed, IsSamePlace, IsSeen, IsSent, IsSwept, IsTaken, IsUntaken, LeavesIt, MAX_BUDGET, Message, RefusedOr}
 pub use Rattle.xh_place.proofs.Words.{Sweeps, Taken, TakesEach, content_of, direction_toward}
 pub use Rattle.xh_place.proofs.Words.{End, among_back, among_front, without_other, arena_tests, end_block, end_tests, ending_again, items_of, list_all, map, map-append, ap₂, reclaimed, stop}
-pub use Rattle.xh_place.proofs.Events.{becomes_same, becomes_state, becomes_twice, acts_same, gains_none, gains_twice, late_state, own_becomes, same_then, stays_again, stays_itself}
+pub use Rattle.xh_place.proofs.Deeds.{becomes_same, becomes_state, becomes_twice, acts_same, gains_none, gains_twice, late_state, own_becomes, same_then, stays_again, stays_itself}
 pub use Rattle.xh_place.proofs.Seeing.{all_fetched_as, all_got_as, away_as, ends_as, seen_wide, starts_more, sweeps_as, swept_as, word_wide}
 pub use Rattle.xh_place.proofs.Steps.{count_room, end_held, moves}
 pub use Rattle.xh_place.proofs.Listing.{less_long}
-pub use Rattle.xh_place.proofs.Ends.{end_kind, is_long, same_len, still_block}
+pub use Rattle.xh_place.proofs.EndLots.{end_kind, is_long, same_len, still_block}
 pub use Rattle.xh_place.proofs.Swept.{again_over, again_same, unrefused}
 pub use Rattle.xh_place.proofs.Drained.{is_end, kind_at, told_none, told_some, tried_place, when_end, when_not}
 pub use Rattle.xh_place.proofs.Gained.{both_put, full_after, has_first, has_other, two_gone}

@@ -13,8 +13,8 @@ use Rattle.xh_model.specs.declared.limits.TheConstants.{MAX_MESSAGES}
 use Rattle.xh_records.specs.Deeds.{Deed}
 use Rattle.xh_place.proofs.Listing.{put_front}
 use Rattle.xh_place.proofs.Seeing.{after_wide, all_fetched_as, all_got_as, did_more, did_starts, fetched, fetched_both, seen_wide, starts_same}
-use Rattle.xh_place.proofs.Events.{came_twice, did_since, looked_at, now_of, stays_again}
-use Rattle.xh_place.proofs.Ends.{empty_keeps, same_len, still_block}
+use Rattle.xh_place.proofs.Deeds.{came_twice, did_since, looked_at, now_of, stays_again}
+use Rattle.xh_place.proofs.EndLots.{empty_keeps, same_len, still_block}
 use Rattle.xh_place.proofs.Steps.{changes, now_is}
 use Rattle.xh_place.proofs.Swept.{unrefused}
 use Rattle.xh_place.proofs.Words.{Bool, IfErr, IsPlace, MatchBool, MatchOption, MatchResult, None, Option, Running, Stays, end_tests, first_refusal, found, header_of, option_map, start}
@@ -205,8 +205,8 @@ draining_none e l p old at was = (l, l, [], record { before = p; after = p; was 
 -- an endpoint was shut, and then drained
 pub cleared : (r : ℕ) (l s : LotOf Body) (ms : List Message) (old mid new : PlaceSeen) → value_at r old.seat.lots ≡ Some l → EndDoes EndpointShuts l s
     → mid ≡ record old { seat = with_lots old.seat (put r s old.seat.lots) } → (is : Drains (IsDrained 0) r ms mid new) → Clears r l is.1 is.2 old new
-cleared r l s ms old mid new at shut turned is =
-    let here : value_at r mid.seat.lots ≡ Some s = ap (λ (p : PlaceSeen). value_at r p.seat.lots) turned ∙ put_at r s l old.seat.lots at in
+cleared r l s ms old mid new at shut is_mid is =
+    let here : value_at r mid.seat.lots ≡ Some s = ap (λ (p : PlaceSeen). value_at r p.seat.lots) is_mid ∙ put_at r s l old.seat.lots at in
     let both : Some is.0 ≡ Some s = sym is.4.0 ∙ here in let same : is.0 ≡ s = cc in
     let before : l.body ≡ End shut.before = shut.was in
     let one : is.3.before ≡ shut.after = one_end s.body is.3.before shut.after (ap (λ (z : LotOf Body). z.body) (sym same) ∙ is.3.was) (ap (λ (z : LotOf Body). z.body) shut.becomes) in
@@ -214,10 +214,10 @@ cleared r l s ms old mid new at shut turned is =
     ap (λ (b : Body). direction_toward (content_of b)) is.3.was ∙ ap (λ (p : EndpointOf). direction_toward (endpoint p)) one ∙ way_shut shut.before shut.after shut.did
     ∙ sym (ap (λ (b : Body). direction_toward (content_of b)) before) in
     let saw = IsSeen old.seat new.seat in
-    let wide = subst (λ (p : PlaceSeen). AreFetched (IsSeen p.seat new.seat) (direction_toward (content_of is.0.body)) (flat_map (λ (m : Message). m.blocks.items) ms) (items_of is.2)) turned is.5 in
+    let wide = subst (λ (p : PlaceSeen). AreFetched (IsSeen p.seat new.seat) (direction_toward (content_of is.0.body)) (flat_map (λ (m : Message). m.blocks.items) ms) (items_of is.2)) is_mid is.5 in
     let got = subst (λ (n : ℕ). AreFetched saw n (flat_map (λ (m : Message). m.blocks.items) ms) (items_of is.2)) (way ∙ ap (λ (b : Body). direction_toward (content_of b)) before) wide in
     let moved = subst (λ (p : PlaceSeen). Becomes (put r is.1 p.seat.lots ++ is.2) (p.list ++ keys is.2) (accepted_on p.seat.process (direction_toward (content_of is.0.body)) (items_of is.2)) p
-    new) turned is.4.1 in
+    new) is_mid is.4.1 in
     let lots : put r is.1 (put r s old.seat.lots) ++ is.2 ≡ put r is.1 old.seat.lots ++ is.2 = ap (λ (z : List (ℕ × LotOf Body)). z ++ is.2) (put_twice r is.1 s old.seat.lots) in (
       (
         at,

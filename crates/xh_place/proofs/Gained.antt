@@ -5,11 +5,11 @@ use Rattle.xh_place.proofs.Words.{without, last_at, last_put, last_without, IsLo
 use Rattle.xh_place.proofs.Words.{is_some, word_of, Process}
 use Rattle.xh_place.proofs.Words.{◌≢◌, ◌+◌, ◌*◌, ◌%◌, ◌-◌, ◌==◌, ⊎_elim, length-append, length-replicate, replicate, refl, keys_push, Knows, SawAt, slice_index, false, dite, ℕ_discrete}
 use Rattle.xh_place.proofs.Words.{append_assoc, Status, among_either, last_other, put_split, IsRecord, IsPlace, Item, is_over, item_of, option_map}
-use Rattle.xh_place.specs.inner.Opening.{AreMade, HasTwoMore}
+use Rattle.xh_place.specs.inner.TwoRecords.{AreMade, HasTwoMore}
 use Rattle.xh_place.proofs.Steps.{gains, list_room, now_is}
 use Rattle.xh_place.specs.Calls.{padded}
 use Rattle.xh_place.proofs.Words.{◌/◌, Acts, HasLooked, SawFull, SawTaken, FindsFull, LetsGo, append-nil, claimed, vacated}
-use Rattle.xh_place.proofs.Events.{acts_of, acts_twice, now_of}
+use Rattle.xh_place.proofs.Deeds.{acts_of, acts_twice, now_of}
 use Rattle.xh_place.proofs.Listing.{unequal}
 use Rattle.xh_place.proofs.Seeing.{did_starts, full_wide}
 

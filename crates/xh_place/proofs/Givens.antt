@@ -16,7 +16,7 @@ use Rattle.xh_place.proofs.Seeing.{all_got_as, arrived_wide, did_starts, got_bot
 use Rattle.xh_place.specs.Seen.{Arrived, Sight, bears, brings}
 use Rattle.xh_place.specs.declared.got.Got.TheVariants.{Here, Missing}
 use Rattle.xh_records.specs.Deeds.{Deed, deeds_by}
-use Rattle.xh_place.proofs.Events.{acts_none, acts_twice, own_acts}
+use Rattle.xh_place.proofs.Deeds.{acts_none, acts_twice, own_acts}
 use Rattle.xh_place.proofs.Shown.{shown_append, shown_same}
 use Rattle.xh_place.proofs.Steps.{some_of}
 use Rattle.xh_place.proofs.Words.{first_refusal}

@@ -3,12 +3,12 @@ pub mod Common
 pub mod Listing
 pub mod Steps
 pub mod Seeing
-pub mod Events
+pub mod Deeds
 pub mod Gained
 pub mod Counted
 pub mod Parted
 pub mod Settled
-pub mod Ends
+pub mod EndLots
 pub mod Shown
 pub mod Givens
 pub mod Swept

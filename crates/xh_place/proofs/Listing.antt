@@ -86,7 +86,7 @@ lens_most r (x ∷ xs) f a = ⊎_elim
     (λ e. let one : len_at (f r) ≡ len_at (f x) = ap (λ (q : ℕ). len_at (f q)) e in omega (arith, one))
     (λ b. omega (arith, lens_most r xs f b)) a
 
--- what stands at a record of the front is changed there
+-- what stands at a record of the first part is changed there
 pub put_front : {X : Type 0} (r : ℕ) (y z : X) (xs ys : List (ℕ × X)) → value_at r xs ≡ Some z → put r y (xs ++ ys) ≡ put r y xs ++ ys
 put_front r y z [] ys at = absurd (cc)
 put_front r y z (x ∷ xs) ys at = grind (arith, nat_tests, put_front r y z xs ys)

@@ -5,7 +5,7 @@ use Rattle.xh_place.proofs.Words.{IsLotOf, Held, IsRecord, IsSeatOf, RecordsOf, 
 use Rattle.xh_place.proofs.Words.{Did, claimed, item_of, found, IsBlock, IsPlace, length-append, Shape, patched}
 use Rattle.xh_model.specs.Arena.{IsGoodCut}
 use Rattle.xh_place.proofs.Listing.{put_front}
-use Rattle.xh_place.proofs.Events.{acts_lent, now_of}
+use Rattle.xh_place.proofs.Deeds.{acts_lent, now_of}
 use Rattle.xh_place.proofs.Gained.{fits_bytes, has}
 use Rattle.xh_core.specs.declared.header.Kind.TheVariants as kind
 use Rattle.std.specs.Prelude.{Err, Ok, OnErr, Option, Result, is_none, option_map}

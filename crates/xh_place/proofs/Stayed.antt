@@ -3,7 +3,7 @@ use Rattle.xh_place.proofs.Words.{◌≡◌, ℕ, List, ◌++◌, Bool, None, So
 use Rattle.xh_place.proofs.Words.{PlaceSeen, RefusedOr, Status, Stays, Taken, end_tests, first_refusal, found, given_tests, start, stop}
 use Rattle.xh_place.specs.Calls.{Closes, Stops}
 use Rattle.xh_place.specs.Messages.{Gives, TakesAt}
-use Rattle.xh_place.proofs.Events.{acts_same, becomes_same}
+use Rattle.xh_place.proofs.Deeds.{acts_same, becomes_same}
 
 -- whether it was refused or not
 either_way : {A X : Type 0} (tests : List (Bool × Refused)) (result : Result A Refused) (same done : Type 0) → (same → X) → (done → X) → RefusedOr tests result same done → X

@@ -6,7 +6,7 @@ use Rattle.xh_place.proofs.Words.{HasGivenBack, IsSwept, RefusedOr, ending_again
 use Rattle.xh_place.proofs.Words.{value_at, put, without, direction_toward, accepted_on, EndsWith, Sweeps, ⊎_elim, ◌⊎◌, LotOf, Body, Lists, less, shown, item_of, items_of, item_in, front_at}
 use Rattle.xh_place.proofs.Words.{put_other}
 use Rattle.xh_place.proofs.Words.{without_other, among_back, among_front, next, put_keys}
-use Rattle.xh_place.specs.Ending.{IsSweptSo, came_by, gone_by}
+use Rattle.xh_place.specs.Reclaiming.{IsSweptSo, came_by, gone_by}
 use Rattle.std.proofs.Common.{length-take}
 use Rattle.xh_place.proofs.Words.{append-nil}
 use Rattle.xh_place.proofs.Counted.{none_back}
@@ -81,12 +81,12 @@ module _ (saw : ℕ → Sight → Type 0) (p : ℕ) where
   pub swept_all : (budget bytes : ℕ) (log : List (Event × Item)) (old new : List (ℕ × Item)) → IsSwept saw p 0 budget old new bytes log → Sweeps saw p budget old new bytes log
   swept_all budget bytes log old new is = subst (λ (l : List (ℕ × Item)). Sweeps saw p budget old l bytes log) (sym is.2) is.1
 
-  pub swept_end : (front end : List (ℕ × Item)) (budget bytes : ℕ) (log : List (Event × Item)) (old new : List (ℕ × Item)) → old ≡ front ++ end
-      → IsSwept saw p (length front) budget old new bytes log → (left : List (ℕ × Item)) × Sweeps saw p budget end left bytes log × (new ≡ front ++ left)
-  swept_end front end budget bytes log old new whole is = (
+  pub swept_end : (kept end : List (ℕ × Item)) (budget bytes : ℕ) (log : List (Event × Item)) (old new : List (ℕ × Item)) → old ≡ kept ++ end
+      → IsSwept saw p (length kept) budget old new bytes log → (left : List (ℕ × Item)) × Sweeps saw p budget end left bytes log × (new ≡ kept ++ left)
+  swept_end kept end budget bytes log old new whole is = (
     is.0,
-    subst (λ (l : List (ℕ × Item)). Sweeps saw p budget l is.0 bytes log) (ap (drop (length front)) whole ∙ drop-append_seam front end) is.1,
-    is.2 ∙ ap (λ (l : List (ℕ × Item)). l ++ is.0) (ap (take (length front)) whole ∙ take-append_seam front end),
+    subst (λ (l : List (ℕ × Item)). Sweeps saw p budget l is.0 bytes log) (ap (drop (length kept)) whole ∙ drop-append_seam kept end) is.1,
+    is.2 ∙ ap (λ (l : List (ℕ × Item)). l ++ is.0) (ap (take (length kept)) whole ∙ take-append_seam kept end),
   )
 
   -- no block went

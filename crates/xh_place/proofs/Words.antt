@@ -29,14 +29,15 @@ pub use Rattle.xh_model.specs.declared.event.Holder.TheVariants.{Process}
 pub use Rattle.xh_model.specs.declared.limits.TheConstants.{END_BYTES, MAX_BUDGET}
 pub use Rattle.xh_place.specs.Bodies.{Content, away, bytes, content_of, endpoint, fits_in, head_of, kind_of, bytes_part, patched, tail_of, direction_toward}
 pub use Rattle.xh_place.specs.Desk.{IsSameDesk, IsSeatAt}
-pub use Rattle.xh_place.specs.Ending.{HasGivenBack, IsClosed, IsSwept, Sweeps}
-pub use Rattle.xh_place.specs.Events.{accepted_on, claimed, let_go, passed_on, vacated}
+pub use Rattle.xh_place.specs.Reclaiming.{HasGivenBack, IsClosed, IsSwept, Sweeps}
+pub use Rattle.xh_place.specs.Deeds.{accepted_on, claimed, let_go, passed_on, vacated}
 pub use Rattle.xh_place.specs.Places.{AreBlocks, AreWhole, IsBlock, IsPlace, IsQuiet, Item, Lists, PlaceSeen, found, header_of, item_of, lens, shown, total_of}
 pub use Rattle.xh_place.specs.Seen.{Acts, Arrived, Becomes, Did, FindsFull, Gains, IsElsewhere, IsSamePlace, IsSeen, IsSeenAfter, LeavesIt, LetsGo, SawFull, Stays, less, less_all}
 pub use Rattle.xh_core.specs.Calls.{start, stop}
-pub use Rattle.xh_place.specs.Ends.{RefusedOr, ending_again}
+pub use Rattle.xh_place.specs.Accepting.{ending_again}
+pub use Rattle.xh_place.specs.Calls.{RefusedOr}
 pub use Rattle.xh_place.specs.Messages.{IsSent, IsTaken, IsUntaken}
-pub use Rattle.xh_place.specs.inner.Reclaiming.{Changes, Clears, Drains, GainsAll, TakesEach}
+pub use Rattle.xh_place.specs.inner.Draining.{Changes, Clears, Drains, GainsAll, TakesEach}
 pub use Rattle.xh_place.specs.declared.got.Taken.{Taken}
 pub use Rattle.xh_channel.specs.declared.message.Message.{Message}
 pub use Rattle.xh_place.specs.Tallies.{gave, ids_of, took}

@@ -2,7 +2,7 @@
 use Rattle.std.specs.Borrow.{Bor, MutBor}
 use Rattle.std.specs.Fn.{CalledAt, CalledAtMut, Mut}
 use Rattle.std.specs.Prelude.{◌≡◌, ℕ, ◌-◌, ◌/◌, ◌==◌, cond, List, [], ◌∷◌, ◌++◌, length, replicate, Some, Result, Err, IfErr, IfOk, MatchOption, OnErr, option_map}
-use Rattle.xh_arena.specs.declared.refused.Refused.{Refused as Uncarved}
+use Rattle.xh_arena.specs.declared.refused.Refused.{Refused as ArenaRefused}
 use Rattle.xh_arena.specs.declared.refused.Refused.TheVariants as arena
 use Rattle.xh_arena.specs.Views.{LotOf, VaultOf}
 use Rattle.xh_core.specs.declared.block.Block.{Block}
@@ -12,7 +12,7 @@ use Rattle.xh_core.specs.declared.status.Status.{Status}
 use Rattle.xh_core.specs.declared.status.Status.TheVariants.{Ending, Ended}
 use Rattle.xh_core.specs.Calls.{alloc_tests, data_tests, end_tests, range_tests, reclaimed, split_tests, start, stop}
 use Rattle.xh_core.specs.Headers.{len_in}
-use Rattle.xh_core.specs.Refusing.{Tested, first_refusal}
+use Rattle.xh_core.specs.Refusing.{Tested, Tests, first_refusal}
 use Rattle.xh_core.specs.Space.{rounded}
 use Rattle.xh_model.specs.declared.limits.TheConstants.{MAX_RECORDS}
 use Rattle.xh_model.specs.declared.event.Event.{Event}
@@ -20,13 +20,16 @@ use Rattle.xh_model.specs.Keyed.{put, value_at, without}
 use Rattle.xh_records.specs.Seats.{Held}
 use Rattle.xh_place.specs.declared.body.Body.{Body}
 use Rattle.xh_place.specs.Bodies.{Content, bytes, content_of, endpoint, bytes_part, patched}
-use Rattle.xh_place.specs.Ending.{IsClosed, Sweeps}
-use Rattle.xh_place.specs.Ends.{RefusedOr}
-use Rattle.xh_place.specs.Events.{claimed, vacated}
+use Rattle.xh_place.specs.Reclaiming.{IsClosed, Sweeps}
+use Rattle.xh_place.specs.Deeds.{claimed, vacated}
 use Rattle.xh_place.specs.Places.{Item, PlaceSeen, found, item_of, shown}
 use Rattle.xh_place.specs.Seen.{Becomes, FindsFull, IsSeen, LeavesIt, Stays, less}
 use Rattle.xh_place.specs.Splitting.{IsSplit, IsUncut}
 use Rattle.xh_place.specs.Vaults.{IsRefusedAt}
+
+-- the call answers the first refusal whose test is true, and then these stay as they were; where none is, it does what is said
+abbrev pub RefusedOr : {A : Type 0} → Tests → Result A Refused → Type 0 → Type 0 → Type 0
+RefusedOr tests result same done = MatchOption (first_refusal tests) done (λ refused. (result ≡ Err refused) × same)
 
 -- ---- alloc
 
@@ -34,14 +37,14 @@ use Rattle.xh_place.specs.Vaults.{IsRefusedAt}
 pub record SpaceOf : Type 1 where
   pub arenas : ℕ
   pub size : ℕ
-  pub refuses : ℕ → ℕ → Uncarved → Type 0
+  pub refuses : ℕ → ℕ → ArenaRefused → Type 0
 
 -- so do the vaults say from old to new
 abbrev pub space_at : {V : Type 0} → (V → V → ℕ → VaultOf → VaultOf → Type 0) → (V → ℕ) → ℕ → V → V → SpaceOf
 space_at changes extent arenas old new = record { arenas = arenas; size = extent old; refuses = IsRefusedAt changes old new }
 
 -- no record was free, as `full` says, or no memory was had; or the vault refused
-abbrev pub IsLack : Type 0 → (Uncarved → Type 0) → Refused → Type 0
+abbrev pub IsLack : Type 0 → (ArenaRefused → Type 0) → Refused → Type 0
 IsLack full refuses NoRecord = full
 IsLack full refuses OutOfMemory = Unit {0}
 IsLack full refuses NoSpace = refuses arena.NoSpace

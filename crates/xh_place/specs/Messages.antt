@@ -18,8 +18,8 @@ use Rattle.xh_channel.specs.Calls.{EndpointPuts, EndpointTakes}
 use Rattle.xh_place.specs.declared.body.Body.{Body}
 use Rattle.xh_place.specs.Bodies.{away, content_of, direction_toward}
 use Rattle.xh_place.specs.Endpoints.{AreFetched, AreGot, EndDoes, record_got}
-use Rattle.xh_place.specs.Ends.{RefusedOr}
-use Rattle.xh_place.specs.Events.{accepted_on, passed_on}
+use Rattle.xh_place.specs.Calls.{RefusedOr}
+use Rattle.xh_place.specs.Deeds.{accepted_on, passed_on}
 use Rattle.xh_place.specs.declared.got.Taken.{Taken}
 use Rattle.xh_place.specs.Places.{Item, PlaceSeen, found, item_of, shown}
 use Rattle.xh_place.specs.Seen.{Becomes, IsSeen, IsSeenAfter, Stays, less_all}

@@ -12,7 +12,7 @@ use Rattle.xh_records.specs.Deeds.{Deed, IsLeft, deeds_by}
 use Rattle.xh_records.specs.History.{StartsWith}
 use Rattle.xh_records.specs.Seats.{Held, IsRecord, SawAt}
 use Rattle.xh_place.specs.declared.body.Body.{Body}
-use Rattle.xh_place.specs.Events.{accepted_on, let_go}
+use Rattle.xh_place.specs.Deeds.{accepted_on, let_go}
 use Rattle.xh_place.specs.Places.{Item, PlaceSeen, item_of}
 
 -- what was added from the one front to the other has just these deeds of the place of the process p, in this order, each with the block of its record as it was then

@@ -8,7 +8,7 @@ use Rattle.xh_model.specs.declared.limits.TheConstants.{MAX_RECORDS}
 use Rattle.xh_model.specs.Keyed.{put, value_at}
 use Rattle.xh_place.specs.declared.body.Body.{Body}
 use Rattle.xh_place.specs.Bodies.{content_of, head_of, tail_of}
-use Rattle.xh_place.specs.Events.{claimed}
+use Rattle.xh_place.specs.Deeds.{claimed}
 use Rattle.xh_place.specs.Places.{PlaceSeen, item_of}
 use Rattle.xh_place.specs.Seen.{Becomes}
 

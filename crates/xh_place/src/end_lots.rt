@@ -17,7 +17,7 @@ use crate::desk::Desk;
 use arrayvec::ArrayVec;
 use std::sync::Wait;
 use xh_arena::Lot;
-use xh_channel::{Message, Refused as Untaken, Spot, Unsent};
+use xh_channel::{Message, Refused as NoMessage, Spot, Unsent};
 use xh_records::{Records, Seat};
 
 // The channel and side of the record's block, if it is an endpoint.
@@ -87,14 +87,14 @@ pub(crate) fn put_at<R: Wait, V, G>(
     )
 }
 
-// Takes the message at the front for the record's block, if it is an endpoint: with the answer goes the direction. The answer is
+// Takes the first message for the record's block, if it is an endpoint: with the answer goes the direction. The answer is
 // large: it is put where the caller lends room, and in a function of its own, since each move of it costs.
 #[inline(never)]
 pub(crate) fn take_at<R: Wait, V, G>(
     desk: &Desk<'_, R, V, G>,
     seat: &mut Seat<Body>,
     e: u16,
-) -> (Result<Message, Untaken>, Option<u8>)
+) -> (Result<Message, NoMessage>, Option<u8>)
     requires own { IsSeatOf desk.now.records.now seat.old × IsRecord desk.now.records.now.shape e }
     requires held { (l : LotOf Body) × (value_at e seat.old.lots ≡ Some l) × IsLotOf seat.old.shape e l × IsFull fits_in l }
     ensures direction { (l : LotOf Body) → value_at e seat.old.lots ≡ Some l
@@ -104,7 +104,7 @@ pub(crate) fn take_at<R: Wait, V, G>(
         → (m : LotOf Body) × MatchOption result.1 (m ≡ l) (λ _. EndDoes (EndpointTakes result.0) l m) × (seat.new ≡ with_lots seat.old (put e m seat.old.lots)) }
 {
     let (rt, channels) = (desk.rt, desk.channels);
-    let mut taken = Err(Untaken::Empty);
+    let mut taken = Err(NoMessage::Empty);
     let direction = desk.records.with_lot(
         seat,
         e,

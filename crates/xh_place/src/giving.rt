@@ -13,7 +13,7 @@ ghost use Rattle.xh_place.specs.declared.got.Got.{Got};
 ghost use Rattle.xh_place.specs.declared.body.Body.{Body};
 ghost use Rattle.xh_records.specs.Seats.{IsSeatOf, IsRecord};
 ghost use Rattle.arrayvec.specs.ArrayVec.{ArrayVec};
-ghost use Rattle.xh_place.specs.Events.{accepted_on, passed_on};
+ghost use Rattle.xh_place.specs.Deeds.{accepted_on, passed_on};
 ghost use Rattle.xh_place.specs.inner.Lots.{item_in};
 ghost use Rattle.xh_place.specs.inner.Lists.{AreBack, CameBack, IsSeenBy};
 

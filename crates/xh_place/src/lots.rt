@@ -16,7 +16,7 @@ ghost use Rattle.xh_place.specs.declared.body.Body.{Body};
 ghost use Rattle.xh_place.specs.inner.Lots.{CutsLot, IsData};
 ghost use Rattle.xh_records.specs.Seats.{IsSeatOf, IsRecord, SawAt, with_lots};
 ghost use Rattle.xh_records.specs.Showing.{IsLotOf, IsFull};
-ghost use Rattle.xh_place.specs.Events.{accepted_on, claimed, passed_on, vacated};
+ghost use Rattle.xh_place.specs.Deeds.{accepted_on, claimed, passed_on, vacated};
 ghost use Rattle.xh_place.specs.inner.Answers.{reason_of};
 ghost use Rattle.xh_place.specs.declared.body.Body.TheVariants.{Nothing};
 ghost use Rattle.xh_core.specs.declared.header.Kind.TheVariants as kind;
@@ -29,8 +29,8 @@ use crate::outlet::Outlet;
 use crate::vaults::Vaults;
 use std::alloc::Global;
 use std::mem;
-use xh_arena::{Lot, Refused};
-use xh_core::{Header, Kind, Refused as Reason};
+use xh_arena::{Lot, Refused as ArenaRefused};
+use xh_core::{Header, Kind, Refused};
 use xh_model::limits::{MAX_RECORDS, PLACES};
 use xh_records::{Records, Seat};
 
@@ -65,7 +65,7 @@ fn fill<R, V: Vaults, G>(
     r: u16,
     n: u32,
     buffer: &mut Vec<u8>,
-) -> Result<(), Refused>
+) -> Result<(), ArenaRefused>
     requires at { IsSeatAt V.names desk.old seat.old }
     requires held { (l : LotOf Body) × (value_at r seat.old.lots ≡ Some l) × (l.len ≡ 0) × IsRecord seat.old.shape r × IsLotOf seat.old.shape r l }
     requires size { (0 < n) × (n % UNIT ≡ 0) }
@@ -84,7 +84,7 @@ fn fill<R, V: Vaults, G>(
     desk.records.with_lot(
         seat,
         r,
-        &mut |lot: &mut Lot<Body>| -> Result<(), Refused>
+        &mut |lot: &mut Lot<Body>| -> Result<(), ArenaRefused>
             requires ids { slice_get (V.names vaults.now) arena ≡ Some lot.old.id }
             requires empty { lot.old.len ≡ 0 }
             requires size { (0 < n) × (n % UNIT ≡ 0) }
@@ -141,15 +141,15 @@ fn empty<R, V: Vaults, G, E: Outlet<V>>(
     )
 }
 
-pub(crate) fn reason(refused: Refused) -> Reason
+pub(crate) fn reason(refused: ArenaRefused) -> Refused
     ensures { result ≡ reason_of refused }
 {
     match refused {
-        Refused::OutOfMemory => Reason::OutOfMemory,
-        Refused::BadSize => Reason::BadSize,
-        Refused::NoSpace => Reason::NoSpace,
-        Refused::BadCut => Reason::BadCut,
-        Refused::Worn => Reason::Worn,
+        ArenaRefused::OutOfMemory => Refused::OutOfMemory,
+        ArenaRefused::BadSize => Refused::BadSize,
+        ArenaRefused::NoSpace => Refused::NoSpace,
+        ArenaRefused::BadCut => Refused::BadCut,
+        ArenaRefused::Worn => Refused::Worn,
     }
 }
 
@@ -167,7 +167,7 @@ pub(crate) fn make_block<R, V: Vaults, G: Gate>(
     buffer: &mut Vec<u8>,
     n: u32,
     arena: u8,
-) -> Result<u16, Reason>
+) -> Result<u16, Refused>
     requires at { IsSeatAt V.names desk.old seat.old }
     requires arena { arena < length seat.old.shape.names }
     requires size { (0 < n) × (n % UNIT ≡ 0) × (n ≤ MAX_BYTES) × (length buffer.old.items ≤ n) }
@@ -183,12 +183,12 @@ pub(crate) fn make_block<R, V: Vaults, G: Gate>(
     ensures why { IfErr result (IsNoBlock V.changes desk.old.vaults desk.new.vaults arena n (FindsFull 0 seat.old seat.new arena)) }
 {
     let Ok(r) = desk.records.claim(seat, arena) else {
-        return Err(Reason::NoRecord);
+        return Err(Refused::NoRecord);
     };
     desk.gate.between(place_of(seat), Point::Claimed);
     if !fit(buffer, n as usize) {
         desk.records.vacate(seat, r);
-        return Err(Reason::OutOfMemory);
+        return Err(Refused::OutOfMemory);
     }
     let filled = fill(desk, seat, r, n, buffer);
     let Err(refused) = filled else {
@@ -339,7 +339,7 @@ pub(crate) fn cut_block<R, V: Vaults, G: Gate>(
     seat: &mut Seat<Body>,
     r: u16,
     k: u32,
-) -> Result<u16, Reason>
+) -> Result<u16, Refused>
     requires own { IsSeatOf desk.old.records.now seat.old }
     requires names { V.names desk.old.vaults ≡ seat.old.shape.names }
     requires held { (l : LotOf Body) × (value_at r seat.old.lots ≡ Some l) × IsBlock seat.old.shape r l × IsData l × IsGoodCut k l.len }
@@ -351,12 +351,12 @@ pub(crate) fn cut_block<R, V: Vaults, G: Gate>(
     ensures why { IfErr result (IsUncut (FindsFull 0 seat.old seat.new (r / MAX_RECORDS))) }
 {
     let Ok(t) = desk.records.claim(seat, (r / MAX_RECORDS) as u8) else {
-        return Err(Reason::NoRecord);
+        return Err(Refused::NoRecord);
     };
     desk.gate.between(place_of(seat), Point::Claimed);
     let Some(buffer) = rest_of(alloc, desk.records, seat, r, k as usize) else {
         desk.records.vacate(seat, t);
-        return Err(Reason::OutOfMemory);
+        return Err(Refused::OutOfMemory);
     };
     let mut body = Body::Data(buffer);
     part(desk, seat, (r, t), k, &mut body);

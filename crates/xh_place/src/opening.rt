@@ -3,7 +3,7 @@ ghost use Rattle.std.specs.Prelude.{◌≡◌, ◌≢◌, ℕ, ◌∷◌, ◌++�
 ghost use Rattle.xh_arena.specs.Views.{LotOf};
 ghost use Rattle.xh_channel.specs.Endpoint.{EndpointOf};
 ghost use Rattle.xh_model.specs.Keyed.{Among, keys, put, value_at, without};
-ghost use Rattle.xh_place.specs.Events.{vacated};
+ghost use Rattle.xh_place.specs.Deeds.{vacated};
 ghost use Rattle.xh_model.specs.declared.limits.TheConstants.{END_BYTES, MAX_RECORDS};
 ghost use Rattle.xh_place.specs.Bodies.{fits_in};
 ghost use Rattle.xh_place.specs.Desk.{IsSameDesk, IsSeatAt};
@@ -17,7 +17,7 @@ ghost use Rattle.xh_records.specs.History.{StartsWith};
 ghost use Rattle.xh_records.specs.Seats.{IsRecord, IsSeatOf, with_lots};
 ghost use Rattle.xh_records.specs.Showing.{IsEmpty};
 ghost use Rattle.xh_place.specs.declared.body.Body.TheVariants.{End};
-ghost use Rattle.xh_place.specs.inner.Opening.{AreClaimed, AreEmpty, AreMade};
+ghost use Rattle.xh_place.specs.inner.TwoRecords.{AreClaimed, AreEmpty, AreMade};
 
 use crate::body::Body;
 use crate::desk::Desk;
@@ -25,16 +25,16 @@ use crate::gate::{Gate, Point};
 use crate::lots::{place_of, reason};
 use crate::vaults::Vaults;
 use std::mem;
-use xh_arena::{Lot, Refused};
+use xh_arena::{Lot, Refused as ArenaRefused};
 use xh_channel::Endpoint;
-use xh_core::Refused as Reason;
+use xh_core::Refused;
 use xh_model::limits::{END_BYTES, MAX_RECORDS};
 use xh_records::{Records, Seat};
 
 /// Why an open was refused. It hands the ends back.
 #[derive(Drop)]
 pub struct Unopened {
-    pub why: Reason,
+    pub why: Refused,
     pub low: Endpoint,
     pub high: Endpoint,
 }
@@ -46,7 +46,7 @@ fn halve<R, V: Vaults, G>(
     pair: (u16, u16),
     first: &mut Body,
     second: &mut Body,
-) -> Result<(), Refused>
+) -> Result<(), ArenaRefused>
     requires at { IsSeatAt V.names desk.old seat.old }
     requires held { (l m : LotOf Body) × AreEmpty seat.old pair.0 pair.1 l m }
     ensures same { IsSameDesk V.names V.extent desk.old desk.new }
@@ -63,7 +63,7 @@ fn halve<R, V: Vaults, G>(
         seat,
         pair.0,
         pair.1,
-        &mut |low: &mut Lot<Body>, high: &mut Lot<Body>| -> Result<(), Refused>
+        &mut |low: &mut Lot<Body>, high: &mut Lot<Body>| -> Result<(), ArenaRefused>
             requires ids { (slice_get (V.names vaults.now) arena ≡ Some low.old.id) × (high.old.id ≡ low.old.id) }
             requires empty { (low.old.len ≡ 0) × (high.old.len ≡ 0) }
             ensures same { (V.names vaults.exit.now ≡ V.names vaults.entry.now) × (V.extent vaults.exit.now ≡ V.extent vaults.entry.now) }
@@ -182,7 +182,7 @@ pub(crate) fn make_ends<R, V: Vaults, G: Gate>(
     ensures seen { StartsWith seat.new.front seat.old.front }
 {
     let Some((r, t)) = claim_two(desk.records, seat, arena, desk.gate) else {
-        let why = Reason::NoRecord;
+        let why = Refused::NoRecord;
         return Err(Unopened { why, low, high });
     };
     let fitted = fit_ends(desk, seat, (r, t), low, high);

@@ -18,7 +18,7 @@ pub use Rattle.xh_script.specs.Numbering.{are_known, rows_in, words_in}
 pub use Rattle.xh_script.specs.Scripts.{Fails, after_line, after_lines, at_line, nothing_read}
 pub use Rattle.xh_script.specs.Steps.{◌>>=◌}
 pub use Rattle.xh_script.specs.Texts.{answer_texts, arena_texts, flight_texts, hex_text, length_text, line_text, place_texts, reply_text, words_text}
-pub use Rattle.xh_script.specs.Watching.{WritesBytes, WritesFront, WritesOrFails, inner_of}
+pub use Rattle.xh_script.specs.Watching.{WritesBytes, WritesPrefix, WritesOrFails, inner_of}
 pub use Rattle.xh_script.specs.Words.{hex_bytes, hex_value, value_of}
 pub use Rattle.xh_script.specs.declared.fault.Fault.{Fault}
 pub use Rattle.xh_script.specs.declared.fault.FaultKind.{FaultKind}

@@ -1,5 +1,5 @@
 -- Lemmas on what is written in several calls.
-use Rattle.xh_script.proofs.Common.{Err, Fault, IsErrAnd, List, None, Ok, Option, Result, Some, WritesBytes, WritesFront, WritesOrFails, add-one, answer_texts, ap, append_assoc, drop, drop-cons}
+use Rattle.xh_script.proofs.Common.{Err, Fault, IsErrAnd, List, None, Ok, Option, Result, Some, WritesBytes, WritesPrefix, WritesOrFails, add-one, answer_texts, ap, append_assoc, drop, drop-cons}
 use Rattle.xh_script.proofs.Common.{get_or, inner_of, length, reply_text, suc, sym, ℕ, ◌++◌, ◌+◌, ◌<◌, ◌∙◌, ◌≡◌}
 use Rattle.xh_script.specs.declared.replies.NumberedReply.{NumberedReply}
 use Rattle.std.specs.Io.KnownBytes.{Appends}
@@ -18,29 +18,29 @@ module _ {T : Type 0} (contents : T → Option (List ℕ)) where
     still = q.still ∙ p.still;
   }
 
-  -- a front of what follows is a front of the whole
-  pub WritesFront-then : (a b c : Watched T) (x y : List ℕ) → WritesBytes contents a b x → WritesFront contents b c y → WritesFront contents a c (x ++ y)
-  WritesFront-then a b c x y p q = record {
-    front = x ++ q.front;
+  -- a prefix of what follows is a prefix of the whole
+  pub WritesPrefix-then : (a b c : Watched T) (x y : List ℕ) → WritesBytes contents a b x → WritesPrefix contents b c y → WritesPrefix contents a c (x ++ y)
+  WritesPrefix-then a b c x y p q = record {
+    prefix = x ++ q.prefix;
     rest = q.rest;
-    whole = ap (λ t. x ++ t) q.whole ∙ sym (append_assoc x q.front q.rest);
-    held = Appends-then (contents (inner_of a)) (contents (inner_of b)) (contents (inner_of c)) x q.front p.held q.held;
+    whole = ap (λ t. x ++ t) q.whole ∙ sym (append_assoc x q.prefix q.rest);
+    held = Appends-then (contents (inner_of a)) (contents (inner_of b)) (contents (inner_of c)) x q.prefix p.held q.held;
     failed = λ e. q.failed (e ∙ sym p.still);
   }
 
   -- nothing that follows is written
-  pub WritesFront-stops : (a b : Watched T) (x y : List ℕ) → WritesFront contents a b x → WritesFront contents a b (x ++ y)
-  WritesFront-stops a b x y q = record {
-    front = q.front;
+  pub WritesPrefix-stops : (a b : Watched T) (x y : List ℕ) → WritesPrefix contents a b x → WritesPrefix contents a b (x ++ y)
+  WritesPrefix-stops a b x y q = record {
+    prefix = q.prefix;
     rest = q.rest ++ y;
-    whole = ap (λ t. t ++ y) q.whole ∙ append_assoc q.front q.rest y;
+    whole = ap (λ t. t ++ y) q.whole ∙ append_assoc q.prefix q.rest y;
     held = q.held;
     failed = q.failed;
   }
 
   pub WritesOrFails-then : (a b c : Watched T) (r : Result (Unit {0}) Fault) (x y : List ℕ) → WritesBytes contents a b x → WritesOrFails contents b c r y → WritesOrFails contents a c r (x ++ y)
   WritesOrFails-then a b c (Ok u) x y p q = Writes-then a b c x y p q
-  WritesOrFails-then a b c (Err e) x y p q = (q.0, WritesFront-then a b c x y p q.1)
+  WritesOrFails-then a b c (Err e) x y p q = (q.0, WritesPrefix-then a b c x y p q.1)
 
   -- so much of a whole was written that this rest of it is left
   abbrev pub Wrote : Watched T → Watched T → List ℕ → List ℕ → Type 0
@@ -60,7 +60,7 @@ module _ {T : Type 0} (contents : T → Option (List ℕ)) where
   passes a b (Err f) e x h q = (h ∙ q.0, q.1)
 
   pub stops : (a b : Watched T) (r : Result (Unit {0}) Fault) (e : Fault) (x y : List ℕ) → IsErrAnd r (λ f. f ≡ e) → WritesOrFails contents a b (Err e) x → WritesOrFails contents a b r (x ++ y)
-  stops a b r e x y h q = passes a b r e (x ++ y) h (q.0, WritesFront-stops a b x y q.1)
+  stops a b r e x y h q = passes a b r e (x ++ y) h (q.0, WritesPrefix-stops a b x y q.1)
 
   pub stops_at : (a b c : Watched T) (r : Result (Unit {0}) Fault) (e : Fault) (piece more rest whole : List ℕ) → Wrote a b whole rest → rest ≡ piece ++ more → IsErrAnd r (λ f. f ≡ e) →
       WritesOrFails contents b c (Err e) piece → WritesOrFails contents a c r whole

@@ -23,15 +23,15 @@ module _ {T : Type 0} where
     pub held : Appends (contents (inner_of old)) (contents (inner_of new)) bytes
     pub still : failures new ≡ failures old
 
-  -- a front of these bytes was written, and then a call of the writer failed
-  pub record WritesFront (contents : T → Option (List ℕ)) (old new : Watched T) (bytes : List ℕ) : Type 0 where
-    pub front : List ℕ
+  -- a prefix of these bytes was written, and then a call of the writer failed
+  pub record WritesPrefix (contents : T → Option (List ℕ)) (old new : Watched T) (bytes : List ℕ) : Type 0 where
+    pub prefix : List ℕ
     pub rest : List ℕ
-    pub whole : bytes ≡ front ++ rest
-    pub held : Appends (contents (inner_of old)) (contents (inner_of new)) front
+    pub whole : bytes ≡ prefix ++ rest
+    pub held : Appends (contents (inner_of old)) (contents (inner_of new)) prefix
     pub failed : failures new ≢ failures old
 
-  -- all of the bytes were written at Ok, and a front of them at Err, which is Write
+  -- all of the bytes were written at Ok, and a prefix of them at Err, which is Write
   abbrev pub WritesOrFails : (T → Option (List ℕ)) → Watched T → Watched T → Result (Unit {0}) Fault → List ℕ → Type 0
   WritesOrFails contents old new (Ok done) bytes = WritesBytes contents old new bytes
-  WritesOrFails contents old new (Err e) bytes = (e ≡ Write) × WritesFront contents old new bytes
+  WritesOrFails contents old new (Err e) bytes = (e ≡ Write) × WritesPrefix contents old new bytes

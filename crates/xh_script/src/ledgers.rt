@@ -102,7 +102,7 @@ fn put_sums<W: Write>(writer: &mut Watched<W>, ledger: &Ledger) -> Result<(), Fa
 }
 
 /// Writes a ledger, with the name of the latest process of each place. Where the writer fails, or
-/// takes no byte, a front of the text was written, and the fault is `Write`.
+/// takes no byte, a prefix of the text was written, and the fault is `Write`.
 pub fn write_ledger<W: Write>(
     writer: &mut Watched<W>,
     ledger: &Ledger,
@@ -130,7 +130,7 @@ fn put_flight<W: Write>(writer: &mut Watched<W>, line: &FlightLine) -> Result<()
 }
 
 /// Writes what is in flight, a line for each direction. Where the writer fails, or takes no byte, a
-/// front of the text was written, and the fault is `Write`.
+/// prefix of the text was written, and the fault is `Write`.
 pub fn write_flight<W: Write>(writer: &mut Watched<W>, lines: &[FlightLine]) -> Result<(), Fault>
     ensures { WritesOrFails W.contents writer.old writer.new result (flight_texts lines.now) }
 {

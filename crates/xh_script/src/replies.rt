@@ -166,7 +166,7 @@ fn put_refusal<W: Write>(
     }
 }
 
-/// Writes the reply to the command of a line. Where the writer fails, or takes no byte, a front of
+/// Writes the reply to the command of a line. Where the writer fails, or takes no byte, a prefix of
 /// the text was written, and the fault is `Write`.
 #[tactic(auto, unfolding(crate::specs::Texts::reply_text))]
 pub fn write_reply<W: Write>(writer: &mut Watched<W>, line: u32, reply: &Reply) -> Result<(), Fault>

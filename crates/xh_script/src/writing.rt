@@ -8,7 +8,7 @@ use crate::{Fault, Watched};
 use itoa::Buffer;
 use std::io::Write;
 
-/// Writes bytes, by as many calls as it takes. Where the writer fails, or takes no byte, a front of them
+/// Writes bytes, by as many calls as it takes. Where the writer fails, or takes no byte, a prefix of them
 /// was written, and the fault is `Write`.
 pub fn put<W: Write>(writer: &mut Watched<W>, bytes: &[u8]) -> Result<(), Fault>
     ensures { WritesOrFails W.contents writer.old writer.new result bytes.now }

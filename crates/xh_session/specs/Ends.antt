@@ -5,7 +5,7 @@ use Rattle.xh_script.specs.declared.fault.Fault.{Fault}
 use Rattle.xh_script.specs.declared.fault.Fault.TheVariants.{Write}
 use Rattle.xh_script.specs.declared.streams.Watched.{Watched}
 use Rattle.xh_script.specs.Scripts.{Listing}
-use Rattle.xh_script.specs.Watching.{WritesBytes, WritesFront}
+use Rattle.xh_script.specs.Watching.{WritesBytes, WritesPrefix}
 use Rattle.xh_session.specs.Reading.{GivesScript, Unread}
 
 -- the reader gave a script to its end; of what a run writes for it, this was written
@@ -22,9 +22,9 @@ module _ {R W : Type 0} (remaining : R → Option (List ℕ)) (contents : W → 
   abbrev pub Done : Watched R → Watched R → Watched W → Watched W → Type 0
   Done reader reader' writer writer' = Wrote remaining IsFor reader reader' (WritesBytes contents writer writer')
 
-  -- what a fault says: at Write the writer failed after a front of it, and at any other nothing was written
+  -- what a fault says: at Write the writer failed after a prefix of it, and at any other nothing was written
   abbrev pub Stopped : Config → Watched R → Watched R → Watched W → Watched W → Fault → Type 0
-  Stopped config reader reader' writer writer' Write = Wrote remaining IsFor reader reader' (WritesFront contents writer writer')
+  Stopped config reader reader' writer writer' Write = Wrote remaining IsFor reader reader' (WritesPrefix contents writer writer')
   Stopped config reader reader' writer writer' fault = Unread remaining config reader reader' fault × (writer' ≡ writer)
 
   -- the status of a program's run: 0 where all was written, else that of the fault

@@ -25,10 +25,10 @@ pub(crate) struct Stage<'a> {
 }
 
 impl<'a> Model for Stage<'a> {
-    ghost use Rattle.xh_serial.specs.Machine.{Machine as Held};
+    ghost use Rattle.xh_serial.specs.Machine.{Machine as MachineOf};
     ghost use Rattle.xh_session.specs.Plans.{World, world_of};
 
-    ghost Value = { World Held };
+    ghost Value = { World MachineOf };
 
     ghost view = { λ s. world_of (λ m. m) s.session };
 }

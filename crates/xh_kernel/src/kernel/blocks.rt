@@ -4,8 +4,8 @@ ghost use Rattle.xh_kernel.specs.Did.{DidAlloc, DidFree, DidRead, DidSplit, DidW
 ghost use Rattle.xh_kernel.specs.Lends.{LendsAll, LendsAllMut};
 
 use crate::account::Account;
-use crate::held::Held;
 use crate::kernel::Kernel;
+use crate::locked_place::LockedPlace;
 use std::alloc::Global;
 use std::sync::Wait;
 use xh_calls::Names;
@@ -30,7 +30,7 @@ impl<N: Names> Kernel<N> {
         ensures { DidAlloc N.parts N.leads p n arena result account.old account.new }
     {
         let mut guard = self.held(rt, p);
-        let held: &mut Held<N> = &mut guard;
+        let held: &mut LockedPlace<N> = &mut guard;
         let heap = &self.shared.heap;
         let till = &mut account.till;
         let answer = heap.alloc(rt, alloc, &mut held.place, p, n, arena, till, gate);
@@ -57,7 +57,7 @@ impl<N: Names> Kernel<N> {
         ensures { DidSplit N.leads p r k result account.old account.new }
     {
         let mut guard = self.held(rt, p);
-        let held: &mut Held<N> = &mut guard;
+        let held: &mut LockedPlace<N> = &mut guard;
         let heap = &self.shared.heap;
         let answer = heap.split(rt, alloc, &mut held.place, p, r, k, &mut account.till, gate);
         let about = (p, r, k, &answer);
@@ -83,7 +83,7 @@ impl<N: Names> Kernel<N> {
         ensures refused { OnErr result (out.new ≡ out.old) }
     {
         let mut guard = self.held(rt, p);
-        let held: &mut Held<N> = &mut guard;
+        let held: &mut LockedPlace<N> = &mut guard;
         let answer = self.shared.heap.read(&mut held.place, p, r, at, out);
         let about = (p, r, at, &*out, &answer);
         held.scribe.note(&self.shared, &held.place, &mut account.front, &about, true);
@@ -106,7 +106,7 @@ impl<N: Names> Kernel<N> {
         ensures { DidWrite N.leads p r at bytes.now result account.old account.new }
     {
         let mut guard = self.held(rt, p);
-        let held: &mut Held<N> = &mut guard;
+        let held: &mut LockedPlace<N> = &mut guard;
         let answer = self.shared.heap.write(&mut held.place, p, r, at, bytes);
         let about = (p, r, at, bytes, &answer);
         held.scribe.note(&self.shared, &held.place, &mut account.front, &about, false);
@@ -130,7 +130,7 @@ impl<N: Names> Kernel<N> {
         ensures { LendsAll N.leads F.FnMut p r f.old f.new account.old account.new result }
     {
         let mut guard = self.held(rt, p);
-        let held: &mut Held<N> = &mut guard;
+        let held: &mut LockedPlace<N> = &mut guard;
         let answer = self.shared.heap.with_bytes(&mut held.place, p, r, f);
         let about = (p, r, &answer);
         held.scribe.note(&self.shared, &held.place, &mut account.front, &about, true);
@@ -151,7 +151,7 @@ impl<N: Names> Kernel<N> {
         ensures { LendsAllMut N.leads F.FnMut p r f.old f.new account.old account.new result }
     {
         let mut guard = self.held(rt, p);
-        let held: &mut Held<N> = &mut guard;
+        let held: &mut LockedPlace<N> = &mut guard;
         let answer = self.shared.heap.with_bytes_mut(&mut held.place, p, r, f);
         let about = (p, r, &answer);
         held.scribe.note(&self.shared, &held.place, &mut account.front, &about, false);
@@ -172,7 +172,7 @@ impl<N: Names> Kernel<N> {
         ensures { DidFree N.leads p r result account.old account.new }
     {
         let mut guard = self.held(rt, p);
-        let held: &mut Held<N> = &mut guard;
+        let held: &mut LockedPlace<N> = &mut guard;
         let heap = &self.shared.heap;
         let answer = heap.free(rt, &mut held.place, p, r, &mut account.till, gate);
         let about = (p, r, &answer);

@@ -4,8 +4,8 @@ ghost use Rattle.std.specs.Result.{result_map_both};
 ghost use Rattle.xh_kernel.specs.Did.{DidIntoBytes, DidPut};
 
 use crate::account::Account;
-use crate::held::Held;
 use crate::kernel::Kernel;
+use crate::locked_place::LockedPlace;
 use std::snapshot::Snapshot;
 use std::sync::Wait;
 use xh_calls::Names;
@@ -32,7 +32,7 @@ impl<N: Names> Kernel<N> {
         ensures bytes { MatchResult result (λ _. bytes.new.items ≡ []) (λ _. bytes.new.items ≡ bytes.old.items) }
     {
         let mut guard = self.held(rt, p);
-        let held: &mut Held<N> = &mut guard;
+        let held: &mut LockedPlace<N> = &mut guard;
         let heap = &self.shared.heap;
         let before = Snapshot::of(&*bytes);
         let answer = heap.put(
@@ -64,7 +64,7 @@ impl<N: Names> Kernel<N> {
         ensures { DidIntoBytes N.leads p r (result_map_both (λ v. v.items) (λ e. e) result) account.old account.new }
     {
         let mut guard = self.held(rt, p);
-        let held: &mut Held<N> = &mut guard;
+        let held: &mut LockedPlace<N> = &mut guard;
         let heap = &self.shared.heap;
         let answer = heap.into_bytes(rt, &mut held.place, p, r, &mut account.till, gate);
         let about = (p, r, &answer);

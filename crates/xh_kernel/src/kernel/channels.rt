@@ -5,8 +5,8 @@ ghost use Rattle.xh_model.specs.declared.limits.TheConstants.{CHANNELS};
 ghost use Rattle.xh_records.specs.Seats.{IsRecord};
 
 use crate::account::Account;
-use crate::held::Held;
 use crate::kernel::Kernel;
+use crate::locked_place::LockedPlace;
 use std::snapshot::Snapshot;
 use std::sync::Wait;
 use xh_calls::{Names, Wired};
@@ -94,7 +94,7 @@ impl<N: Names> Kernel<N> {
         ensures { OpensBoth N.parts N.leads p arena contract account.old account.new result }
     {
         let mut guard = self.held(rt, p);
-        let held: &mut Held<N> = &mut guard;
+        let held: &mut LockedPlace<N> = &mut guard;
         let heap = &self.shared.heap;
         let till = &mut account.till;
         let by = Snapshot::of(&contract);
@@ -140,7 +140,7 @@ impl<N: Names> Kernel<N> {
         ensures exists { IfOk result (λ w. IsRecord N.parts.records.shape w.high.rec) }
     {
         let mut guard = self.held(rt, p);
-        let held: &mut Held<N> = &mut guard;
+        let held: &mut LockedPlace<N> = &mut guard;
         let heap = &self.shared.heap;
         let till = &mut account.till;
         let by = Snapshot::of(&contract);
@@ -184,7 +184,7 @@ impl<N: Names> Kernel<N> {
         ensures { ReceivesOne N.leads q r channel account.old account.new result }
     {
         let mut guard = self.held(rt, q);
-        let held: &mut Held<N> = &mut guard;
+        let held: &mut LockedPlace<N> = &mut guard;
         let heap = &self.shared.heap;
         let before = Snapshot::of(&account.till.tallies);
         let answer = heap.receive(rt, &mut held.place, q, r, channel, &mut account.till, gate);
@@ -205,7 +205,7 @@ impl<N: Names> Kernel<N> {
         ensures { ClosesOne N.leads p wired.now account.old account.new }
     {
         let mut guard = self.held(rt, p);
-        let held: &mut Held<N> = &mut guard;
+        let held: &mut LockedPlace<N> = &mut guard;
         let heap = &self.shared.heap;
         let before = Snapshot::of(&account.till.tallies);
         heap.close_again(rt, &mut held.place, p, wired, &mut account.till, gate);

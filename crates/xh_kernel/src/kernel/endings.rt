@@ -8,8 +8,8 @@ ghost use Rattle.xh_kernel.specs.Endings.{Exits, Kills};
 ghost use Rattle.xh_model.specs.Words.{place_of};
 
 use crate::account::Account;
-use crate::held::Held;
 use crate::kernel::Kernel;
+use crate::locked_place::LockedPlace;
 use std::snapshot::Snapshot;
 use std::sync::Wait;
 use xh_calls::{Names, check_start};
@@ -32,7 +32,7 @@ impl<N: Names> Kernel<N> {
         ensures { DidClose N.leads p e result account.old account.new }
     {
         let mut guard = self.held(rt, p);
-        let held: &mut Held<N> = &mut guard;
+        let held: &mut LockedPlace<N> = &mut guard;
         let heap = &self.shared.heap;
         let before = Snapshot::of(&account.till.tallies);
         let answer = heap.close(rt, &mut held.place, p, e, &mut account.till, gate);
@@ -57,7 +57,7 @@ impl<N: Names> Kernel<N> {
         ensures { Exits N.leads p budget account.old account.new result }
     {
         let mut guard = self.held(rt, p);
-        let held: &mut Held<N> = &mut guard;
+        let held: &mut LockedPlace<N> = &mut guard;
         let heap = &self.shared.heap;
         let before = Snapshot::of(&account.till.tallies);
         let answer = heap.stop(rt, &mut held.place, p, budget, &mut account.till, gate);
@@ -96,7 +96,7 @@ impl<N: Names> Kernel<N> {
         ensures { Calls N.leads (place_of p) (call.Look p result) IsStill (λ old new. Looks p old new result) account.old account.new }
     {
         let mut guard = self.held(rt, p);
-        let held: &mut Held<N> = &mut guard;
+        let held: &mut LockedPlace<N> = &mut guard;
         let answer = check_start(&held.place, p);
         let about = (p, &answer);
         held.scribe.note(&self.shared, &held.place, &mut account.front, &about, false);

@@ -39,7 +39,7 @@ impl<N: Names> Kernel<N> {
         answer
     }
 
-    /// Takes the message at the front of the direction toward the endpoint `e`. Its blocks are the
+    /// Takes the first message of the direction toward the endpoint `e`. Its blocks are the
     /// process's.
     ///
     /// NoProcess, Ended, NotOwned, NotEndpoint; then, where no message waits, PeerClosed or Empty.

@@ -5,7 +5,7 @@ use Rattle.xh_arena.specs.Views.{LotOf}
 use Rattle.xh_model.specs.Keyed.{Among, keys, value_at}
 use Rattle.xh_records.specs.Seats.{Held, SawAt}
 use Rattle.xh_place.specs.declared.body.Body.{Body}
-use Rattle.xh_place.specs.Events.{accepted_on}
+use Rattle.xh_place.specs.Deeds.{accepted_on}
 use Rattle.xh_place.specs.Places.{IsBlock, item_of}
 use Rattle.xh_place.specs.Seen.{Acts, Arrived, IsElsewhere, Sight, bears, brings}
 

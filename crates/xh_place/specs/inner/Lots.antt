@@ -7,7 +7,7 @@ use Rattle.xh_records.specs.Seats.{Held}
 use Rattle.xh_place.specs.declared.body.Body.{Body}
 use Rattle.xh_core.specs.declared.header.Kind.TheVariants as kind
 use Rattle.xh_place.specs.Bodies.{bytes, content_of, fits_in, head_of, kind_of, tail_of}
-use Rattle.xh_place.specs.Events.{claimed}
+use Rattle.xh_place.specs.Deeds.{claimed}
 use Rattle.xh_place.specs.Places.{IsBlock, Item, item_of}
 use Rattle.xh_place.specs.Seen.{Acts}
 

@@ -1,5 +1,5 @@
 //! Data blocks of a place.
-ghost use Rattle.xh_place.specs.Events.{vacated};
+ghost use Rattle.xh_place.specs.Deeds.{vacated};
 ghost use Rattle.std.specs.Prelude.{◌≡◌, ◌≢◌, ℕ, ◌+◌, ◌/◌, ◌%◌, ◌<◌, ◌≤◌, ◌++◌, [], length, Some, IfErr, IfOk, MatchResult, OnErr, OnOk};
 ghost use Rattle.xh_arena.specs.Views.{LotOf};
 ghost use Rattle.xh_core.specs.Calls.{data_tests, split_tests, start};
@@ -10,7 +10,7 @@ ghost use Rattle.xh_model.specs.declared.limits.TheConstants.{MAX_BYTES, MAX_REC
 ghost use Rattle.xh_place.specs.declared.body.Body.{Body};
 ghost use Rattle.xh_place.specs.Bodies.{content_of, kind_of};
 ghost use Rattle.xh_place.specs.Desk.{IsSameDesk, IsSeatAt, StaysAt};
-ghost use Rattle.xh_place.specs.Ending.{HasGivenBack};
+ghost use Rattle.xh_place.specs.Reclaiming.{HasGivenBack};
 ghost use Rattle.xh_place.specs.Places.{AreWhole, IsBlock, found};
 ghost use Rattle.xh_place.specs.Seen.{Acts, Becomes, less};
 ghost use Rattle.xh_records.specs.Seats.{IsSeatOf};

@@ -12,16 +12,17 @@ ghost use Rattle.xh_place.specs.Bodies.{IsEndAt, content_of};
 ghost use Rattle.xh_place.specs.Calls.{Closes};
 ghost use Rattle.xh_place.specs.Desk.{IsSameDesk, IsSeatAt, StaysAt};
 ghost use Rattle.xh_place.specs.Endpoints.{IsDrained};
-ghost use Rattle.xh_place.specs.Ends.{Accepts, IsUnopened, Opens, is_here};
+ghost use Rattle.xh_place.specs.Accepting.{Accepts, is_here};
+ghost use Rattle.xh_place.specs.Opening.{IsUnopened, Opens};
 ghost use Rattle.xh_place.specs.Places.{found, item_of};
 ghost use Rattle.xh_place.specs.Seen.{Becomes, FindsFull, Stays, less};
-ghost use Rattle.xh_place.specs.Events.{passed_on};
+ghost use Rattle.xh_place.specs.Deeds.{passed_on};
 ghost use Rattle.xh_place.specs.Vaults.{BringsBack, AsksEach, IsNoPair};
 ghost use Rattle.xh_records.specs.Seats.{IsRecord, IsSeatOf};
 ghost use Rattle.xh_channel.specs.Pairs.{IsPair};
 ghost use Rattle.xh_core.specs.Headers.{has_end};
 ghost use Rattle.xh_place.specs.inner.Lots.{IsEndLot};
-ghost use Rattle.xh_place.specs.inner.Reclaiming.{Clears, Drains};
+ghost use Rattle.xh_place.specs.inner.Draining.{Clears, Drains};
 ghost use Rattle.xh_core.specs.declared.status.Status.TheVariants as status;
 
 use crate::body::Body;
@@ -153,7 +154,7 @@ impl Place {
                 Got::Missing { .. } => Err(Refused::Ended),
             };
         }
-        self.turn_away(desk, r, direction);
+        self.accept_late(desk, r, direction);
         Err(Refused::Ended)
     }
 

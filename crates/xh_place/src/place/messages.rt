@@ -12,7 +12,7 @@ ghost use Rattle.xh_place.specs.Messages.{Gives, IsSent, IsTaken, IsUntaken, Tak
 ghost use Rattle.xh_place.specs.Places.{found};
 ghost use Rattle.xh_place.specs.inner.Answers.{Comes};
 ghost use Rattle.xh_place.specs.inner.Lots.{items_of};
-ghost use Rattle.xh_place.specs.inner.Reclaiming.{GainsAll};
+ghost use Rattle.xh_place.specs.inner.Draining.{GainsAll};
 ghost use Rattle.xh_place.specs.Seen.{IsSeen, Stays};
 ghost use Rattle.xh_place.specs.declared.body.Body.{Body};
 ghost use Rattle.xh_records.specs.Seats.{IsRecord, IsSeatOf};
@@ -81,7 +81,7 @@ impl Place {
         answer(put, back)
     }
 
-    /// Takes the message at the front of the direction toward the endpoint `e`. Its blocks come to the end of the list.
+    /// Takes the first message of the direction toward the endpoint `e`. Its blocks come to the end of the list.
     /// NoProcess, Ended, NotOwned, NotEndpoint; then PeerClosed or Empty where no message waits.
     pub fn take<R: Wait, V, G: Gate>(
         &mut self,
@@ -114,7 +114,7 @@ impl Place {
         }
     }
 
-    // Takes the message at the front for a block of the list, and its blocks. NotEndpoint where it isn't an endpoint.
+    // Takes the first message for a block of the list, and its blocks. NotEndpoint where it isn't an endpoint.
     #[inline(always)]
     pub(super) fn take_message<R: Wait, V, G: Gate>(
         &mut self,

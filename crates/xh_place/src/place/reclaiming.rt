@@ -8,8 +8,8 @@ ghost use Rattle.xh_model.specs.declared.limits.TheConstants.{DIRECTIONS};
 ghost use Rattle.xh_place.specs.Calls.{Stops};
 ghost use Rattle.xh_place.specs.Desk.{IsSameDesk, IsSeatAt};
 ghost use Rattle.xh_place.specs.Vaults.{BringsBack};
-ghost use Rattle.xh_place.specs.Ending.{IsSwept, IsSweptSo};
-ghost use Rattle.xh_place.specs.Ends.{IsTooLate, ending_again};
+ghost use Rattle.xh_place.specs.Reclaiming.{IsSwept, IsSweptSo};
+ghost use Rattle.xh_place.specs.Accepting.{IsTooLate, ending_again};
 ghost use Rattle.xh_place.specs.Places.{Item, shown};
 ghost use Rattle.xh_place.specs.Seen.{Becomes, IsElsewhere, IsSamePlace, IsSeen, Stays};
 ghost use Rattle.xh_records.specs.Seats.{IsRecord, SawAt};
@@ -143,7 +143,7 @@ impl Place {
     }
 
     // An endpoint comes that nobody is here for: it is swept at once.
-    pub(super) fn turn_away<R: Wait, V: Vaults, G: Gate>(
+    pub(super) fn accept_late<R: Wait, V: Vaults, G: Gate>(
         &mut self,
         desk: &mut Desk<'_, R, V, G>,
         r: u16,

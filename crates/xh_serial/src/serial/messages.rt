@@ -37,7 +37,7 @@ impl Serial {
         Ok(self.channels.put(to, tag, blocks))
     }
 
-    /// Takes the message at the front of the direction toward `e`; its blocks are the taker's now.
+    /// Takes the first message of the direction toward `e`; its blocks are the taker's now.
     ///
     /// NoProcess, Ended, NotOwned, NotEndpoint, and where nothing waits PeerClosed or Empty.
     #[tactic(auto, unfolding(crate::specs::MessageCommands::take))]

@@ -24,10 +24,10 @@ fn received(message: Taken) -> Received
 }
 
 impl Machine for Serial {
-    ghost use Rattle.xh_serial.specs.Machine.{Machine as Held};
+    ghost use Rattle.xh_serial.specs.Machine.{Machine as MachineOf};
     ghost use Rattle.xh_session.specs.Machines.{DoesCommand};
 
-    ghost State = { Held };
+    ghost State = { MachineOf };
 
     ghost state = { λ m. m };
 

@@ -1,6 +1,6 @@
 use Rattle.xh_calls.proofs.Common.{AreEnds, PlaceSeen, each_end, found, rules, subst}
 use Rattle.xh_core.specs.Refusing.{Tested}
-use Rattle.xh_place.proofs.Events.{stays_again}
+use Rattle.xh_place.proofs.Deeds.{stays_again}
 use Rattle.xh_calls.proofs.several.+test_each.Goals as goal
 
 pub returns-clause-same : goal.returns-clause-same

@@ -1,4 +1,4 @@
-use Rattle.xh_place.proofs.Events.{same_then}
+use Rattle.xh_place.proofs.Deeds.{same_then}
 use Rattle.xh_calls.proofs.Looks.{empty, shut, took}
 use Rattle.xh_calls.proofs.heap.Heap.take_first.Goals as goal
 

@@ -4,7 +4,7 @@ use Rattle.xh_place.proofs.Common.{PlaceSeen, List, Event, Item, becomes, did_st
 use Rattle.xh_place.proofs.Common.{starts_same, swept_as}
 use Rattle.xh_place.proofs.Common.{Sweeps, item_in, unrefused, value_at, with_lots, without}
 use Rattle.xh_place.proofs.Words.{Status}
-use Rattle.xh_place.proofs.Events.{did_since}
+use Rattle.xh_place.proofs.Deeds.{did_since}
 use Rattle.xh_place.proofs.Swept.{still, swept_end}
 use Rattle.xh_place.specs.Calls.{Closes}
 use Rattle.xh_place.specs.Vaults.{BringsBack}
@@ -40,10 +40,10 @@ pub returns-clause-closed : goal.returns-clause-closed
 returns-clause-closed g c =
     let seat = c.self.inside.seat in let mid = c.test_end.new.seat in let list = c.self.inside.list.items in let state = c.self.inside.state in let new = c.sweep-bytes.new.self in let e = c.args.e in
     let bytes : ℕ = c.sweep-bytes.result.0 in let from : ℕ = c.count-from.result - 1 in let same = c.in_ok-test_end.ensures.same in let l = c.in_ok-test_end.ensures.tested.1.1 in
-    let turned = c.move_last.ensures in let t = c.sweep-bytes.ensures.swept in
-    let is = subst (λ (p : PlaceSeen). IsSwept (IsSeen p.seat new.seat) p.seat.process from MAX_BUDGET (shown p.seat.lots p.list) (shown new.seat.lots new.list) bytes t.0) turned t.1 in
-    let moved = subst (λ (p : PlaceSeen). Becomes new.seat.lots new.list t.0 p new) turned t.2 in
-    let here : from ≡ length (less e list ++ e ∷ []) - 1 = ap (λ n. n - 1) (c.count-from.ensures.count ∙ ap (λ (p : PlaceSeen). length p.list) turned) in
+    let moved_last = c.move_last.ensures in let t = c.sweep-bytes.ensures.swept in
+    let is = subst (λ (p : PlaceSeen). IsSwept (IsSeen p.seat new.seat) p.seat.process from MAX_BUDGET (shown p.seat.lots p.list) (shown new.seat.lots new.list) bytes t.0) moved_last t.1 in
+    let moved = subst (λ (p : PlaceSeen). Becomes new.seat.lots new.list t.0 p new) moved_last t.2 in
+    let here : from ≡ length (less e list ++ e ∷ []) - 1 = ap (λ n. n - 1) (c.count-from.ensures.count ∙ ap (λ (p : PlaceSeen). length p.list) moved_last) in
     let k = closed e from bytes seat mid list state l.0 t.0 new same l.1 here is moved in
     let left : c.sweep-bytes.result.1 ≡ length k.0 = c.sweep-bytes.ensures.left ∙ omega (
       arith,

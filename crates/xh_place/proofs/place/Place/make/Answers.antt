@@ -3,7 +3,7 @@ use Rattle.xh_place.proofs.Common.{list_room, now_as, now_is}
 use Rattle.xh_place.proofs.Common.{over_running, start, total_bound, untested}
 use Rattle.xh_arena.specs.Views.{VaultOf}
 use Rattle.xh_core.specs.declared.refused.Refused.{Refused}
-use Rattle.xh_core.specs.declared.refused.Refused.TheVariants as reason
+use Rattle.xh_core.specs.declared.refused.Refused.TheVariants as refused
 use Rattle.xh_place.specs.Calls.{IsLack}
 use Rattle.xh_place.specs.Vaults.{IsNoBlock, IsRefusedAt}
 use Rattle.xh_core.specs.Space.{rounded}
@@ -12,8 +12,8 @@ use Rattle.xh_place.proofs.place.Place.make.Goals as goal
 -- what there was a lack of
 lack_of : {V : Type 0} (changes : V → V → _ → VaultOf → VaultOf → Type 0) (old new : V) (a n : _) (full : Type 0) (e : Refused) → IsNoBlock changes old new a n full e
     → IsLack full (IsRefusedAt changes old new a n) e
-lack_of changes old new a n full reason.NoRecord h = h.1
-lack_of changes old new a n full reason.OutOfMemory h = tt
+lack_of changes old new a n full refused.NoRecord h = h.1
+lack_of changes old new a n full refused.OutOfMemory h = tt
 lack_of changes old new a n full e h = h
 
 pub push_reserved-requires : goal.push_reserved-requires

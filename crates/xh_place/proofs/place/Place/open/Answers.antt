@@ -1,7 +1,7 @@
 use Rattle.xh_place.proofs.Common.{rules, arith, ◌≡◌, ◌+◌, ◌<◌, List, [], ◌∷◌, ◌++◌, length, refl, sym, ap, ◌∙◌, subst, Err, None, IfErr, Ok, OnOk, append_assoc, arena_tests}
 use Rattle.xh_place.proofs.Common.{◌≤◌, ℕ, FindsFull, LetsGo, PlaceSeen, Stays, becomes, claimed, first_refusal, list_room, now_as, now_is, over_running, Some, start, stays_itself, Tests}
 use Rattle.xh_place.proofs.Common.{total_bound, untested}
-use Rattle.xh_place.specs.Ends.{Opens}
+use Rattle.xh_place.specs.Opening.{Opens}
 use Rattle.xh_place.specs.Vaults.{IsNoPair}
 use Rattle.xh_place.proofs.Gained.{both_held, opened, room_second}
 use Rattle.xh_place.proofs.place.Place.open.Goals as goal

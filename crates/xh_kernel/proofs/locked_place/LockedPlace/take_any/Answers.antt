@@ -1,6 +1,6 @@
 use Rattle.xh_kernel.proofs.Calling.{rules}
 use Rattle.xh_kernel.proofs.Recorded.{rests}
-use Rattle.xh_kernel.proofs.held.Held.take_any.Goals as goal
+use Rattle.xh_kernel.proofs.locked_place.LockedPlace.take_any.Goals as goal
 
 pub note-requires : goal.note-requires
 note-requires g c κs within =

@@ -1,4 +1,4 @@
--- The steps of an endpoint that nobody is here for.
+-- How an endpoint is drained: the messages that it takes, and what comes with them.
 use Rattle.std.specs.Prelude.{◌≡◌, ℕ, List, [], ◌∷◌, ◌++◌, Ok, Some}
 use Rattle.xh_channel.specs.declared.message.Message.{Message}
 use Rattle.std.specs.List.{flat_map}
@@ -9,7 +9,7 @@ use Rattle.xh_model.specs.Keyed.{keys, put, value_at}
 use Rattle.xh_place.specs.declared.body.Body.{Body}
 use Rattle.xh_place.specs.Bodies.{content_of, direction_toward}
 use Rattle.xh_place.specs.Endpoints.{AreFetched, EndDoes, EndsWith}
-use Rattle.xh_place.specs.Events.{accepted_on}
+use Rattle.xh_place.specs.Deeds.{accepted_on}
 use Rattle.xh_place.specs.Places.{PlaceSeen}
 use Rattle.xh_place.specs.inner.Lots.{items_of}
 use Rattle.xh_place.specs.Seen.{Becomes, IsSeen}

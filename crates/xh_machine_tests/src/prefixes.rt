@@ -1,11 +1,11 @@
-//! Each front of a script is a script of its own, or has a fault of its own.
+//! Each prefix of a script is a script of its own, or has a fault of its own.
 use crate::harness::{SCRIPT, SMALL, assert_fails, run_alone};
 use std::alloc::{AllocError, Global};
 use std::process::Abort;
 use std::test::Fail;
 use xh_script::{Fault, FaultKind};
 
-/// What each front of a line is that has so many of its bytes, the end of the line among them: a script (.), or a fault of
+/// What each prefix of a line is that has so many of its bytes, the end of the line among them: a script (.), or a fault of
 /// that line: BadCount (C), BadWord (W), BadHex (H).
 const MARKS: [&str; 10] = [
     "CCCCCCCW..",
@@ -65,7 +65,7 @@ const AGAIN: &str =
 const TAKEN: &str = "arena 0 256 128 1 128 0\nprocess a running 1 32\nprocess b running 3 96\n\
     owned 128\nflight 0\nout 128\n";
 
-/// The fronts that are scripts, from so many bytes on: how many of the whole script's replies each writes, and what it
+/// The prefixes that are scripts, from so many bytes on: how many of the whole script's replies each writes, and what it
 /// writes then.
 const WRITTEN: &[(usize, usize, &str)] = &[
     (0, 0, NONE),
@@ -84,7 +84,7 @@ const WRITTEN: &[(usize, usize, &str)] = &[
     (135, 10, TAKEN),
 ];
 
-// What the front of so many bytes writes, where it is a script.
+// What the prefix of so many bytes writes, where it is a script.
 fn text_of(alloc: Global, length: usize) -> Result<String, AllocError> {
     let mut all = String::new(alloc);
     if let Some((_from, count, text)) = WRITTEN.iter().rfind(|row| row.0 <= length) {
@@ -96,21 +96,21 @@ fn text_of(alloc: Global, length: usize) -> Result<String, AllocError> {
     Ok(all)
 }
 
-// The front of so many bytes, which ends in this line, is what the mark says.
-fn assert_front(
+// The prefix of so many bytes, which ends in this line, is what the mark says.
+fn assert_prefix(
     rt: &impl Abort,
     alloc: Global,
     length: usize,
     line: u32,
     mark: u8,
 ) -> Result<(), Fail> {
-    let front = SCRIPT.get(..length).expect(rt, "a front");
+    let prefix = SCRIPT.get(..length).expect(rt, "a prefix");
     let kind = match mark {
         b'C' => FaultKind::BadCount,
         b'W' => FaultKind::BadWord,
         b'H' => FaultKind::BadHex,
         _ => {
-            let (ended, text) = run_alone(alloc, SMALL, front);
+            let (ended, text) = run_alone(alloc, SMALL, prefix);
             assert!(rt; ended == Ok(()), "{length}");
             assert!(rt;
                 text.as_slice() == text_of(alloc, length)?.as_bytes(),
@@ -119,20 +119,20 @@ fn assert_front(
             return Ok(());
         }
     };
-    assert_fails(rt, alloc, SMALL, front, Fault::Script { line, kind });
+    assert_fails(rt, alloc, SMALL, prefix, Fault::Script { line, kind });
     Ok(())
 }
 
-/// Each front of a script writes its own replies and ledger, or tells its fault, and then writes nothing.
+/// Each prefix of a script writes its own replies and ledger, or tells its fault, and then writes nothing.
 #[test]
-fn fronts(rt: HostRuntime) -> Result<(), Fail> {
-    assert_front(&rt, rt.alloc(), 0, 0, b'.')?;
+fn prefixes(rt: HostRuntime) -> Result<(), Fail> {
+    assert_prefix(&rt, rt.alloc(), 0, 0, b'.')?;
     let (mut length, mut line) = (0usize, 0u32);
     for marks in MARKS {
         line = line.wrapping_add(1);
         for mark in marks.bytes() {
             length = length.wrapping_add(1);
-            assert_front(&rt, rt.alloc(), length, line, mark)?;
+            assert_prefix(&rt, rt.alloc(), length, line, mark)?;
         }
     }
     assert_eq!(&rt; length, SCRIPT.len());

@@ -16,7 +16,7 @@ use xh_place::Place;
 /// A place, what is written down of it, and where its process waits. Whenever the lock is free, the place's
 /// history is lawful and leads to what the place is, and its last glance is what the place is.
 #[derive(Drop)]
-pub(crate) struct Held<N: Names> {
+pub(crate) struct LockedPlace<N: Names> {
     pub(crate) place: Place,
     pub(crate) scribe: Scribe,
     pub(crate) waits: Waits,
@@ -28,7 +28,7 @@ pub(crate) struct Held<N: Names> {
     ghost history: { IsHistoryOf N.parts scribe.pen.number scribe.pen.history place },
 }
 
-impl<N: Names> Held<N> {
+impl<N: Names> LockedPlace<N> {
     // The place, and the pen of its history.
     pub(crate) fn into_parts(self) -> (Place, Pen<Entry>)
         ensures { IsKeptPlace N.parts result.0 result.1 }

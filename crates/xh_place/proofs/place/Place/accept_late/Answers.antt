@@ -2,10 +2,10 @@ use Rattle.xh_place.proofs.Common.{◌≡◌, ⊎_elim, inl, inr, ℕ, [], ap, s
 use Rattle.xh_place.proofs.Common.{is_over, same_then, starts_same}
 use Rattle.xh_place.proofs.Common.{again_over, again_same, arith, late_state, word_wide}
 use Rattle.xh_core.specs.declared.status.Status.TheVariants.{Ending}
-use Rattle.xh_place.specs.Ends.{IsTooLate}
+use Rattle.xh_place.specs.Accepting.{IsTooLate}
 use Rattle.xh_place.specs.Places.{PlaceSeen}
-use Rattle.xh_place.proofs.place.Place.turn_away.Goals.{After-set_state-2}
-use Rattle.xh_place.proofs.place.Place.turn_away.Goals as goal
+use Rattle.xh_place.proofs.place.Place.accept_late.Goals.{After-set_state-2}
+use Rattle.xh_place.proofs.place.Place.accept_late.Goals as goal
 
 pub set_state-requires-2 : goal.set_state-requires-2
 set_state-requires-2 g c = λ h. again_over c.args.self.now.state c.left.result c.sweep_late.new.self.list c.requires.taken c.left.ensures.left

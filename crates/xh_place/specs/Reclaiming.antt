@@ -10,7 +10,7 @@ use Rattle.xh_model.specs.declared.limits.TheConstants.{MAX_BUDGET}
 use Rattle.xh_place.specs.declared.body.Body.{Body}
 use Rattle.xh_place.specs.Bodies.{direction_toward}
 use Rattle.xh_place.specs.Endpoints.{EndsWith}
-use Rattle.xh_place.specs.Events.{accepted_on, vacated}
+use Rattle.xh_place.specs.Deeds.{accepted_on, vacated}
 use Rattle.xh_place.specs.Places.{Item, PlaceSeen, item_of, shown}
 use Rattle.xh_place.specs.Seen.{Becomes, IsSeen, Sight}
 

@@ -1,5 +1,5 @@
 use Rattle.xh_kernel.proofs.Recorded.{rests, sound_stays}
-use Rattle.xh_kernel.proofs.held.Held.spot.Goals as goal
+use Rattle.xh_kernel.proofs.locked_place.LockedPlace.spot.Goals as goal
 
 pub invariant_of-self-clause-history : goal.invariant_of-self-clause-history
 invariant_of-self-clause-history g c =

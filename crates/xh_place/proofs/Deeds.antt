@@ -4,7 +4,7 @@ use Rattle.xh_place.proofs.Words.{without}
 use Rattle.xh_place.proofs.Words.{Held, with_lots, Body, Nothing, Data, End, bytes, content_of, fits_in, claimed, vacated, HasNow, Acts, Item, PlaceSeen, Becomes, Did, refl, subst, HasDone}
 use Rattle.xh_place.proofs.Words.{HasGained, HasLost}
 use Rattle.xh_place.proofs.Words.{item_of, let_go, Status, LetsGo, FindsFull, SawFull, keys, Stays, Accept, GainsAll, IsSamePlace, StartsWith, accepted_on, items_of, keys_append}
-use Rattle.xh_place.specs.Ends.{IsTooLate}
+use Rattle.xh_place.specs.Accepting.{IsTooLate}
 use Rattle.xh_records.specs.Deeds.{Deed}
 use Rattle.xh_records.specs.Showing.{IsEmpty}
 use Rattle.xh_place.proofs.Seeing.{did_more, did_none, did_starts, full_wide, starts_more, starts_same}

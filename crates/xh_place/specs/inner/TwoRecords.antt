@@ -1,4 +1,4 @@
--- What the private steps of an open do to a seat.
+-- Two records at once: what the private steps of an open do to a seat.
 use Rattle.std.specs.Prelude.{◌≡◌, ◌≢◌, ℕ, ◌/◌, [], ◌∷◌, ◌++◌, Some}
 use Rattle.xh_arena.specs.Views.{LotOf}
 use Rattle.xh_model.specs.declared.limits.TheConstants.{MAX_RECORDS}
@@ -8,7 +8,7 @@ use Rattle.xh_records.specs.Seats.{Held, IsRecord}
 use Rattle.xh_place.specs.declared.body.Body.{Body}
 use Rattle.xh_place.specs.Bodies.{fits_in}
 use Rattle.xh_place.specs.Seen.{Acts}
-use Rattle.xh_place.specs.Events.{claimed}
+use Rattle.xh_place.specs.Deeds.{claimed}
 use Rattle.xh_place.specs.Places.{IsBlock}
 
 -- two more records of the arena, neither of which it had, claimed in this order
