@@ -29,7 +29,7 @@ pub struct ChannelEnd {
     pub(crate) has_contract: bool,
     pub(crate) sender: QueueEnd,
     receiver: QueueEnd,
-    word: ClosedWord,
+    pub(crate) word: ClosedWord,
     // how many messages it sent
     pub(crate) put: u64,
     line: LineSeat,

@@ -11,7 +11,7 @@ ghost use Rattle.xh_channel.specs.declared.refused.Refused.TheVariants.{OutOfMem
 use crate::channel_end::{self, ChannelEnd};
 use crate::closed_word::ClosedWords;
 use crate::endpoint::Endpoint;
-use crate::free_numbers::{FreeNumbers, Home};
+use crate::free_numbers::{Freed, Home, all_free};
 use crate::free_pair::FreePair;
 use crate::hold::Hold;
 use crate::line_seat::LineSeat;
@@ -24,7 +24,7 @@ use crate::waiting::{Bells, OwnBells, OwnSignal, Signal};
 use arrayvec::ArrayVec;
 use crossbeam_utils::CachePadded;
 use std::alloc::{AllocError, Global};
-use std::sync::{Arc, Mutex, Wait};
+use std::sync::{Arc, Wait};
 use std::time::{Clock, Instant};
 use xh_core::Contract;
 use xh_model::limits::{CHANNELS, MAX_BLOCKS, MAX_DEPTH};
@@ -112,13 +112,6 @@ fn signals(alloc: Global, bells: &OwnBells) -> Result<Vec<OwnSignal>, AllocError
     Ok(signals)
 }
 
-// The pairs under a lock that all ends share.
-fn home(alloc: Global, pairs: Vec<Option<FreePair>>) -> Result<Home, AllocError>
-    requires { (length pairs.items ≡ CHANNELS) × StandAtTheirNumbers pairs.items }
-{
-    Ok(Arc::new(alloc, Mutex::new(FreeNumbers { pairs }))?)
-}
-
 impl Channels {
     /// All 64 channels, none of them open. `depth` is the number of messages that may wait in a
     /// direction, 1 to 16, and else BadSize. OutOfMemory where a growth is refused.
@@ -136,7 +129,7 @@ impl Channels {
         let pairs = pairs(alloc, depth as usize, &mut words, &signals)?;
         Ok(Channels {
             depth,
-            home: home(alloc, pairs)?,
+            home: all_free(alloc, pairs)?,
             signals,
             bells,
             come_back: None,
@@ -242,13 +235,16 @@ impl Channels {
 
     /// The number of a channel that was never used is free again, where it was opened: of a pair of
     /// another heap's channels it is free there, and no number of these. A contract is gone with it.
-    pub fn cancel<R: Wait>(&self, rt: &R, low: Endpoint, high: Endpoint)
+    /// What is answered shows that this very pair was put back.
+    pub fn cancel<R: Wait>(&self, rt: &R, low: Endpoint, high: Endpoint) -> Freed
         requires { IsPair low high }
+        ensures freed { (result.note.table ≡ low.closed) × (result.note.word ≡ 2 * low.spot.channel + 1) }
     {
         let Endpoint { inner: low, home } = low;
-        let low = low.without_contract();
+        let mut low = low.without_contract();
         let high = high.inner.without_contract();
-        home.lock(rt).cancel(FreePair { low, high });
+        let note = low.word.note();
+        home.lock(rt).cancel(FreePair { low, high }, note)
     }
 
     /// Keeps a channel's number from coming back. None where the count of handles has run out, which no run meets.

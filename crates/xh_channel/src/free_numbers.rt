@@ -1,21 +1,35 @@
 //! The free numbers of channels.
-ghost use Rattle.std.specs.Prelude.{◌≡◌, ℕ, ◌<◌, true, false, Option, Some, None, MatchOption, slice_set, length};
+ghost use Rattle.std.specs.Prelude.{◌≡◌, ℕ, ◌+◌, ◌*◌, ◌<◌, true, false, Option, Some, None, MatchOption, slice_set, length};
 ghost use Rattle.xh_model.specs.declared.limits.TheConstants.{CHANNELS};
-ghost use Rattle.xh_channel.specs.inner.FreeNumbers.{at_place, has_depth, StandAtTheirNumbers, NoneFree};
+ghost use Rattle.xh_channel.specs.inner.FreeNumbers.{at_place, has_depth, StandAtTheirNumbers, AllFree, NoneFree};
 
+use crate::closed_word::ShutNote;
 use crate::free_pair::FreePair;
-use std::alloc::Global;
+use std::alloc::{AllocError, Global};
 use std::sync::{Arc, Mutex};
 
 /// A number is free where its pair is here.
 #[derive(Drop)]
 pub struct FreeNumbers {
-    pub pairs: Vec<Option<FreePair>>,
+    pairs: Vec<Option<FreePair>>,
     ghost placed: { (length pairs.items ≡ CHANNELS) × StandAtTheirNumbers pairs.items },
 }
 
 /// The free numbers of the channels of one heap. Each endpoint that is out knows them.
 pub type Home = Arc<Mutex<FreeNumbers>, Global>;
+
+/// Shows that a pair was put back among free numbers, by a note of its side 0. It is made nowhere else.
+#[derive(Drop)]
+pub struct Freed {
+    note: ShutNote,
+}
+
+/// All numbers are free, under a lock that all ends share. Free numbers begin in no other way.
+pub fn all_free(alloc: Global, pairs: Vec<Option<FreePair>>) -> Result<Home, AllocError>
+    requires { (length pairs.items ≡ CHANNELS) × StandAtTheirNumbers pairs.items × AllFree pairs.items }
+{
+    Ok(Arc::new(alloc, Mutex::new(FreeNumbers { pairs }))?)
+}
 
 fn fits(place: &Option<FreePair>, depth: usize) -> bool
     ensures { result ≡ has_depth depth place.now }
@@ -50,11 +64,14 @@ impl FreeNumbers {
         self.pairs[at].take()
     }
 
-    /// The number is free again.
-    pub fn cancel(&mut self, pair: FreePair)
-        ensures { self.new.pairs.items ≡ slice_set self.old.pairs.items pair.low.spot.channel (Some pair) }
+    /// The number is free again. The note is what side 0 tells side 1.
+    pub fn cancel(&mut self, pair: FreePair, note: ShutNote) -> Freed
+        requires { (note.table ≡ pair.low.closed) × (note.word ≡ 2 * pair.low.spot.channel + 1) }
+        ensures free { self.new.pairs.items ≡ slice_set self.old.pairs.items pair.low.spot.channel (Some pair) }
+        ensures freed { result.note ≡ note }
     {
         let channel = pair.low.spot.channel as usize;
         self.pairs[channel] = Some(pair);
+        Freed { note }
     }
 }

@@ -25,6 +25,7 @@ mod waiting;
 
 pub use channels::Channels;
 pub use endpoint::{Endpoint, compare};
+pub use free_numbers::Freed;
 pub use hold::Hold;
 pub use line::Line;
 pub use message::Message;
