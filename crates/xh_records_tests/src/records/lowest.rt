@@ -7,13 +7,16 @@ use std::process::Abort;
 use std::test::Fail;
 use xh_records::{Records, Seat};
 
-/// The seat claims these records of the arena, one after the other.
-fn claim_each(rt: &impl Abort, records: &Records<Any>, seat: &mut Seat<Any>, expected: &[u16])
+/// The seat claims the records from one on up to another, one by one.
+fn claim_run(rt: &impl Abort, records: &Records<Any>, seat: &mut Seat<Any>, from: u16, to: u16)
     requires { IsSeatOf records.now seat.old × (0 < length records.now.shape.names) }
     ensures { IsSeatOf records.now seat.new }
 {
-    for number in expected {
-        assert_same(rt, records.claim(seat, 0).ok(), Some(*number));
+    for number in from..to {
+        let Ok(found) = records.claim(seat, 0) else {
+            panic!(rt; "no record");
+        };
+        assert_same(rt, found, number);
     }
 }
 
@@ -28,7 +31,7 @@ fn assert_full(rt: &impl Abort, records: &Records<Any>, seat: &mut Seat<Any>, ex
     assert!(rt; *seen.words == *expected);
 }
 
-/// The second seat takes the record at 3 and leaves it when all others are the first one's.
+/// The second seat takes record 3, and leaves it once the first one has all others.
 fn take_again(
     rt: &impl Abort,
     records: &Records<Any>,
@@ -38,24 +41,16 @@ fn take_again(
     requires own { IsSeatOf records.now first.old × IsSeatOf records.now second.old × (0 < length records.now.shape.names) }
     requires bare { second.old.lots ≡ [] }
 {
-    claim_each(rt, records, first, &[0, 1, 2]);
+    claim_run(rt, records, first, 0, 3);
     let Ok(low) = records.claim(second, 0) else {
         panic!(rt; "no record");
     };
-    claim_each(
-        rt,
-        records,
-        first,
-        &[4, 5, 6, 7, 8, 9, 10, 11, 12, 13, 14, 15, 16, 17, 18, 19],
-    );
-    assert_full(
-        rt,
-        records,
-        first,
-        &[1, 1, 1, 5, 1, 1, 1, 1, 1, 1, 1, 1, 1, 1, 1, 1, 1, 1, 1, 1],
-    );
+    claim_run(rt, records, first, 4, 20);
+    let mut words = [1; 20];
+    words[3] = 5;
+    assert_full(rt, records, first, &words);
     records.vacate(second, low);
-    claim_each(rt, records, first, &[3]);
+    claim_run(rt, records, first, 3, 4);
     assert_full(rt, records, second, &[1; 20]);
 }
 
