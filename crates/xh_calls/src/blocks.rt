@@ -21,7 +21,7 @@ use xh_place::{Gate, Place};
 
 impl<N: Names> Heap<N> {
     /// As `Kernel::alloc`, by whoever has the place's lock.
-    #[tactic(auto, using(xh_place::proofs::Events::stays_itself))]
+    #[tactic(auto, using(xh_place::proofs::Deeds::stays_itself))]
     pub fn alloc<R: Wait, G: Gate>(
         &self,
         rt: &R,
@@ -49,7 +49,7 @@ impl<N: Names> Heap<N> {
     }
 
     /// As `Kernel::split`, by whoever has the place's lock.
-    #[tactic(auto, using(xh_place::proofs::Events::stays_itself))]
+    #[tactic(auto, using(xh_place::proofs::Deeds::stays_itself))]
     pub fn split<R: Wait, G: Gate>(
         &self,
         rt: &R,
@@ -76,7 +76,7 @@ impl<N: Names> Heap<N> {
     }
 
     /// As `Kernel::read`, by whoever has the place's lock.
-    #[tactic(auto, using(xh_place::proofs::Events::stays_itself))]
+    #[tactic(auto, using(xh_place::proofs::Deeds::stays_itself))]
     pub fn read(
         &self,
         place: &mut Place,
@@ -111,7 +111,7 @@ impl<N: Names> Heap<N> {
     }
 
     /// As `Kernel::with_bytes`, by whoever has the place's lock.
-    #[tactic(auto, using(xh_place::proofs::Events::stays_itself))]
+    #[tactic(auto, using(xh_place::proofs::Deeds::stays_itself))]
     pub fn with_bytes<A, F: FnMut(&[u8]) -> A>(
         &self,
         place: &mut Place,
@@ -145,7 +145,7 @@ impl<N: Names> Heap<N> {
     }
 
     /// As `Kernel::free`, by whoever has the place's lock.
-    #[tactic(auto, using(xh_place::proofs::Events::stays_itself))]
+    #[tactic(auto, using(xh_place::proofs::Deeds::stays_itself))]
     pub fn free<R: Wait, G: Gate>(
         &self,
         rt: &R,

@@ -18,7 +18,7 @@ use xh_place::{Gate, Place};
 
 impl<N: Names> Heap<N> {
     /// As `Kernel::put`, by whoever has the place's lock.
-    #[tactic(auto, using(xh_place::proofs::Events::stays_itself))]
+    #[tactic(auto, using(xh_place::proofs::Deeds::stays_itself))]
     pub fn put<R: Wait, G: Gate>(
         &self,
         rt: &R,
@@ -46,7 +46,7 @@ impl<N: Names> Heap<N> {
     }
 
     /// As `Kernel::into_bytes`, by whoever has the place's lock.
-    #[tactic(auto, using(xh_place::proofs::Events::stays_itself))]
+    #[tactic(auto, using(xh_place::proofs::Deeds::stays_itself))]
     pub fn into_bytes<R: Wait, G: Gate>(
         &self,
         rt: &R,

@@ -15,7 +15,7 @@ use xh_place::{Gate, Place, Taken};
 
 impl<N: Names> Heap<N> {
     /// As `Kernel::give`, by whoever has the place's lock.
-    #[tactic(auto, using(xh_place::proofs::Events::stays_itself, xh_place::proofs::Stayed::gave_same))]
+    #[tactic(auto, using(xh_place::proofs::Deeds::stays_itself, xh_place::proofs::Stayed::gave_same))]
     pub fn give<R: Wait, G: Gate>(
         &self,
         rt: &R,
@@ -35,7 +35,7 @@ impl<N: Names> Heap<N> {
     }
 
     /// As `Kernel::take`, by whoever has the place's lock. The answer is written where the caller keeps it.
-    #[tactic(auto, using(xh_place::proofs::Events::stays_itself, xh_place::proofs::Stayed::took_same))]
+    #[tactic(auto, using(xh_place::proofs::Deeds::stays_itself, xh_place::proofs::Stayed::took_same))]
     pub fn take<R: Wait, G: Gate>(
         &self,
         rt: &R,
@@ -57,7 +57,7 @@ impl<N: Names> Heap<N> {
     }
 
     /// As `Kernel::close`, by whoever has the place's lock.
-    #[tactic(auto, using(xh_place::proofs::Events::stays_itself, xh_place::proofs::Stayed::closed_same))]
+    #[tactic(auto, using(xh_place::proofs::Deeds::stays_itself, xh_place::proofs::Stayed::closed_same))]
     pub fn close<R: Wait, G: Gate>(
         &self,
         rt: &R,
@@ -80,7 +80,7 @@ impl<N: Names> Heap<N> {
     }
 
     /// As `Kernel::exit`, by whoever has the place's lock.
-    #[tactic(auto, using(xh_place::proofs::Events::stays_itself, xh_place::proofs::Stayed::stopped_same))]
+    #[tactic(auto, using(xh_place::proofs::Deeds::stays_itself, xh_place::proofs::Stayed::stopped_same))]
     pub fn stop<R: Wait, G: Gate>(
         &self,
         rt: &R,

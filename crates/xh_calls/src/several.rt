@@ -27,7 +27,7 @@ pub struct AnsweredAt {
 }
 
 // Each is an endpoint of the process.
-#[tactic(auto, using(xh_place::proofs::Events::stays_itself))]
+#[tactic(auto, using(xh_place::proofs::Deeds::stays_itself))]
 fn test_each(records: &Records<Body>, place: &mut Place, ends: &[u16]) -> Result<(), Refused>
     requires { IsSeatOf records.now place.old.seat }
     ensures same { Stays place.old place.new }
@@ -46,7 +46,7 @@ fn test_each(records: &Records<Body>, place: &mut Place, ends: &[u16]) -> Result
 }
 
 // The tests of a take at several endpoints.
-#[tactic(auto, using(xh_place::proofs::Events::stays_itself, xh_core::proofs::Firsts::first_append, xh_core::proofs::Firsts::first_later))]
+#[tactic(auto, using(xh_place::proofs::Deeds::stays_itself, xh_core::proofs::Firsts::first_append, xh_core::proofs::Firsts::first_later))]
 fn test_several(
     records: &Records<Body>,
     place: &mut Place,

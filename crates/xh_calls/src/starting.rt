@@ -42,7 +42,7 @@ pub fn check_start(place: &Place, p: u16) -> Result<(), Refused>
 impl<N: Names> Heap<N> {
     /// The next process of the place runs now, where there is one: its number. None where one runs, or it
     /// was used as often as a place is.
-    #[tactic(auto, using(crate::proofs::Started::starts, xh_place::proofs::Events::stays_itself))]
+    #[tactic(auto, using(crate::proofs::Started::starts, xh_place::proofs::Deeds::stays_itself))]
     pub fn spawn(&self, place: &mut Place) -> Option<u16>
         requires { IsSeatOf N.parts.records place.old.seat }
         ensures own { IsSeatOf N.parts.records place.new.seat }

@@ -13,3 +13,4 @@ pub mod Shown
 pub mod Givens
 pub mod Swept
 pub mod Drained
+pub mod Stayed

@@ -86,7 +86,7 @@ impl<N: Names> Kernel<N> {
     }
 
     // Whether the process runs.
-    #[tactic(auto, using(xh_place::proofs::Events::stays_itself))]
+    #[tactic(auto, using(xh_place::proofs::Deeds::stays_itself))]
     pub(super) fn look_at<R: Wait>(
         &self,
         rt: &R,
