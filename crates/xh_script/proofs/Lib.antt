@@ -1,5 +1,4 @@
 pub mod Common
-pub mod NameLemmas
 pub mod WordLemmas
 pub mod Readings
 pub mod TableLemmas

@@ -1,20 +1,13 @@
 //! Names of processes and of blocks.
 ghost use Rattle.std.specs.Prelude.{◌≡◌, ◌≤◌, List, ℕ, length};
-ghost use Rattle.std.specs.Str.{bytes_eq};
 ghost use Rattle.xh_script.specs.Words.{is_name, is_keyword, is_name_byte};
 ghost use Rattle.xh_script.specs.Sorts.{name_at};
 ghost use Rattle.std.specs.List.{list_all};
-ghost use Rattle.std.specs.Cmp.Lexicographic.{nat_list_eq_equiv};
-ghost use Rattle.std.specs.Cmp.{partial_equiv_from_equiv};
-ghost use Rattle.std.specs.Hash as fed;
-ghost use Rattle.std.proofs.Common.{rules};
-ghost use Rattle.std.proofs.lemmas.Slice.Eq.{bytes_eq-Decides};
 ghost use Rattle.xh_script.specs.declared.limits.TheConstants.{MAX_NAME};
 
 use crate::FaultKind;
 use crate::limits::MAX_NAME;
 use arrayvec::ArrayVec;
-use std::hash::{Hash, Hasher};
 use std::marker::Model;
 
 /// A name: a lower-case letter, and then such letters or digits, 16 in all at most.
@@ -27,31 +20,6 @@ impl Model for Name {
     ghost Value = { List ℕ };
 
     ghost view = { λ n. n.letters.items };
-}
-
-impl PartialEq for Name {
-    ghost eq = { λ a b. bytes_eq a b };
-
-    ghost laws = { partial_equiv_from_equiv nat_list_eq_equiv };
-
-    fn eq(&self, other: &Name) -> bool {
-        self.letters.as_slice() == other.letters.as_slice()
-    }
-}
-
-impl Eq for Name {
-    ghost laws = { nat_list_eq_equiv };
-}
-
-impl Hash for Name {
-    ghost hash_input = { λ n. fed.str n };
-
-    ghost respects_eq = { Prim.search (bytes_eq-Decides, rules) };
-
-    fn hash<H: Hasher>(&self, state: &mut H) {
-        state.write(self.letters.as_slice());
-        state.write_u8(0xff);
-    }
 }
 
 impl Default for Name {
