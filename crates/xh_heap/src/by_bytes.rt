@@ -3,7 +3,7 @@ ghost use Rattle.std.specs.Prelude.{◌≡◌, []};
 ghost use Rattle.xh_heap.specs.ByBytes.{Regains, Unpacks, bytes_in};
 
 use crate::process::Process;
-use crate::values::{Block, Item, Message};
+use crate::values::{Block, Item, Message, Returned};
 use xh_core::Refused;
 
 /// What came: the bytes of a message of one data block alone, with the zeros behind those that were put; or another message.
@@ -45,15 +45,24 @@ pub(crate) fn unpack<P: Process>(own: &mut P, mut message: Message) -> Came
     }
 }
 
-// The bytes of a block that came back are the buffer's.
-pub(crate) fn regain<P: Process>(own: &mut P, back: Option<Block>, bytes: &mut Vec<u8>)
+// What a give of a block answered; of one that came back the bytes are the buffer's.
+pub(crate) fn regain<P: Process>(
+    own: &mut P,
+    told: Result<u64, Returned<Option<Block>>>,
+    bytes: &mut Vec<u8>,
+) -> Result<u64, Refused>
     requires { bytes.old.items ≡ [] }
-    ensures { Regains P.leads back bytes.new.items (P.handle own.old) (P.handle own.new) }
+    ensures { Regains P.leads told result bytes.new.items (P.handle own.old) (P.handle own.new) }
 {
-    let Some(block) = back else {
-        return;
-    };
-    if let Ok(regained) = own.into_bytes(block) {
-        *bytes = regained;
+    match told {
+        Ok(number) => Ok(number),
+        Err(Returned { why, value }) => {
+            if let Some(block) = value
+                && let Ok(regained) = own.into_bytes(block)
+            {
+                *bytes = regained;
+            }
+            Err(why)
+        }
     }
 }

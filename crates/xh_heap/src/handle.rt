@@ -1,6 +1,5 @@
 //! A process of a kernel.
 ghost use Rattle.std.specs.Prelude.{◌≡◌, IfOk, MatchResult, Ok};
-ghost use Rattle.xh_heap.specs.Plans.{IsStarted};
 ghost use Rattle.xh_kernel.specs.Waits.{SpawnsAt};
 
 use crate::process::Process;
@@ -49,24 +48,8 @@ impl<'a, 'k, N: Names, R: Wait> Drop for Handle<'a, 'k, N, R> {
 }
 
 impl<'a, 'k, N: Names, R: Wait> Handle<'a, 'k, N, R> {
-    /// A new process, by a spare. NoPlace where there is none, or no place.
+    /// A process that this spare starts, and by nothing that its account did before. NoPlace where there is none.
     pub(crate) fn start(
-        rt: &'a R,
-        alloc: Global,
-        kernel: &'a Kernel<N>,
-        spares: &'a Spares<'k, N>,
-    ) -> Result<Handle<'a, 'k, N, R>, Refused>
-        ensures started { MatchResult result (λ p. IsStarted N.parts N.leads p.number p.account.now) (λ why. why ≡ Refused.NoPlace) }
-        ensures own { IfOk result (λ p. p.started.number ≡ p.number) }
-    {
-        let Some(spare) = spares.lock(rt).pop() else {
-            return Err(Refused::NoPlace);
-        };
-        Handle::start_by(rt, alloc, kernel, spares, spare)
-    }
-
-    /// As `start`, by this spare, and by nothing that its account did before.
-    pub(crate) fn start_by(
         rt: &'a R,
         alloc: Global,
         kernel: &'a Kernel<N>,
@@ -120,7 +103,10 @@ impl<'a, 'k, N: Names, R: Wait + Clock> Process for Handle<'a, 'k, N, R> {
     }
 
     fn spawn(&self) -> Result<Self, Refused> {
-        Handle::start(self.rt, self.alloc, self.kernel, self.spares)
+        let Some(spare) = self.spares.lock(self.rt).pop() else {
+            return Err(Refused::NoPlace);
+        };
+        Handle::start(self.rt, self.alloc, self.kernel, self.spares, spare)
     }
 
     fn alloc_in(&mut self, arena: u32, n: u32) -> Result<Block, Refused> {

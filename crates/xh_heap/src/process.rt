@@ -259,7 +259,7 @@ pub trait Process: Drop {
         tag: u16,
         bytes: &mut Vec<u8>,
     ) -> Result<u64, Refused>
-        ensures { GivesByBytes parts leads end.now tag 0 bytes.old.items bytes.new.items (λ given. result ≢ no_room given) result (handle self.old) (handle self.new) }
+        ensures { GivesByBytes parts leads end.now tag 0 bytes.old.items bytes.new.items (λ told given. told ≢ no_room given) result (handle self.old) (handle self.new) }
     {
         self.give_bytes_in_wait(0, end, tag, bytes)
     }
@@ -275,16 +275,11 @@ pub trait Process: Drop {
         tag: u16,
         bytes: &mut Vec<u8>,
     ) -> Result<u64, Refused>
-        ensures { GivesByBytes parts leads end.now tag arena bytes.old.items bytes.new.items (λ given. result ≢ no_room given) result (handle self.old) (handle self.new) }
+        ensures { GivesByBytes parts leads end.now tag arena bytes.old.items bytes.new.items (λ told given. told ≢ no_room given) result (handle self.old) (handle self.new) }
     {
         let block = self.put_in(arena, bytes)?;
-        match self.give_wait(end, tag, block) {
-            Ok(number) => Ok(number),
-            Err(Returned { why, value }) => {
-                regain(self, value, bytes);
-                Err(why)
-            }
-        }
+        let told = self.give_wait(end, tag, block);
+        regain(self, told, bytes)
     }
 
     /// As `give_bytes_wait`; after so long it is refused Full. Where the clock can't be read it waits no longer.
@@ -295,7 +290,7 @@ pub trait Process: Drop {
         bytes: &mut Vec<u8>,
         time: Duration,
     ) -> Result<u64, Refused>
-        ensures { GivesByBytes parts leads end.now tag 0 bytes.old.items bytes.new.items (λ _. Unit {0}) result (handle self.old) (handle self.new) }
+        ensures { GivesByBytes parts leads end.now tag 0 bytes.old.items bytes.new.items (λ _ _. Unit {0}) result (handle self.old) (handle self.new) }
     {
         self.give_bytes_in_for(0, end, tag, bytes, time)
     }
@@ -309,16 +304,11 @@ pub trait Process: Drop {
         bytes: &mut Vec<u8>,
         time: Duration,
     ) -> Result<u64, Refused>
-        ensures { GivesByBytes parts leads end.now tag arena bytes.old.items bytes.new.items (λ _. Unit {0}) result (handle self.old) (handle self.new) }
+        ensures { GivesByBytes parts leads end.now tag arena bytes.old.items bytes.new.items (λ _ _. Unit {0}) result (handle self.old) (handle self.new) }
     {
         let block = self.put_in(arena, bytes)?;
-        match self.give_for(end, tag, block, time) {
-            Ok(number) => Ok(number),
-            Err(Returned { why, value }) => {
-                regain(self, value, bytes);
-                Err(why)
-            }
-        }
+        let told = self.give_for(end, tag, block, time);
+        regain(self, told, bytes)
     }
 
     /// As `take_wait`; of a message of one data block alone it answers the bytes, as `into_bytes` where that isn't refused.

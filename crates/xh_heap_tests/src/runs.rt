@@ -3,7 +3,8 @@ use crate::calls::{ASK, code, tag_at, tag_of};
 use std::process::Abort;
 use std::time::Duration;
 use xh_heap::{
-    Closed, Contract, End, Items, Job, Overview, Process, Refused, Team, one_arena, run,
+    Closed, Config, Contract, End, Items, Job, Limit, Overview, Process, Refused, Team, one_arena,
+    run,
 };
 
 /// The first of two waits for messages of the second, which gives two, and ends; the others do nothing.
@@ -168,6 +169,60 @@ fn limits_of_runs(rt: HostRuntime) {
     for (bytes, count, expected) in LIMITS {
         let ran = run(&rt, rt.alloc(), one_arena(*bytes), *count, &WaitsTwice);
         assert_eq!(rt; code(ran.map(|_closed| 0)), *expected);
+    }
+}
+
+/// The arenas, bytes, records, depth and wear of a configuration, and the limit that it doesn't keep.
+type Checked = (u8, u32, u16, u8, u64, Option<Limit>);
+
+/// Each field below its limits, at them, and above.
+const CHECKED: &[Checked] = &[
+    (0, 16, 1, 1, 0, Some(Limit::Arenas)),
+    (1, 16, 1, 1, 0, None),
+    (8, 16, 1, 1, 0, None),
+    (9, 16, 1, 1, 0, Some(Limit::Arenas)),
+    (1, 0, 1, 1, 0, Some(Limit::Bytes)),
+    (1, 15, 1, 1, 0, Some(Limit::Bytes)),
+    (1, 17, 1, 1, 0, Some(Limit::Bytes)),
+    (1, 32, 1, 1, 0, None),
+    (1, 134_217_712, 1, 1, 0, None),
+    (1, 134_217_728, 1, 1, 0, None),
+    (1, 134_217_744, 1, 1, 0, Some(Limit::Bytes)),
+    (1, 16, 0, 1, 0, Some(Limit::Records)),
+    (1, 16, 256, 1, 0, None),
+    (1, 16, 257, 1, 0, Some(Limit::Records)),
+    (1, 16, 1, 0, 0, Some(Limit::Depth)),
+    (1, 16, 1, 16, 0, None),
+    (1, 16, 1, 17, 0, Some(Limit::Depth)),
+    (1, 16, 1, 1, 9_223_372_036_854_775_807, None),
+    (1, 16, 1, 1, 9_223_372_036_854_775_808, Some(Limit::Wear)),
+];
+
+/// How each limit is told.
+const LIMIT_TEXTS: &[(Limit, &str)] = &[
+    (Limit::Arenas, "arenas: 1 to 8"),
+    (Limit::Bytes, "bytes: a multiple of 16, 16 to 134217728"),
+    (Limit::Records, "records: 1 to 256"),
+    (Limit::Depth, "depth: 1 to 16"),
+    (Limit::Wear, "wear: at most 9223372036854775807"),
+];
+
+/// A configuration is told which limit it doesn't keep.
+#[test]
+fn limits_of_a_configuration(rt: HostRuntime) {
+    for (arenas, bytes, records, depth, wear, expected) in CHECKED {
+        let config = Config {
+            arenas: *arenas,
+            bytes: *bytes,
+            records: *records,
+            depth: *depth,
+            wear: *wear,
+        };
+        assert_eq!(rt; config.checked().err(), *expected);
+    }
+    for (limit, expected) in LIMIT_TEXTS {
+        let text = format!(in rt.alloc(); "{limit}").expect(&rt, "room");
+        assert_eq!(rt; text.as_str(), *expected);
     }
 }
 

@@ -28,7 +28,8 @@ impl Job for Count {
 }
 
 fn main(rt: HostRuntime) -> anyhow::Result<()> {
-    let closed = run(&rt, rt.alloc(), one_arena(65_536), 2, &Count(rt.alloc()))?;
+    let config = one_arena(65_536).checked()?;
+    let closed = run(&rt, rt.alloc(), config, 2, &Count(rt.alloc()))?;
     println!(rt; "words {:?}\n{closed}", closed.answers)?;
     Ok(())
 }

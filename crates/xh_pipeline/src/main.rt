@@ -24,7 +24,7 @@ fn main(rt: HostRuntime) -> anyhow::Result<()> {
         arenas: 2,
         ..one_arena(2 * FRAME)
     };
-    let closed = run(&rt, rt.alloc(), config, WORKERS, &Pipeline)?;
+    let closed = run(&rt, rt.alloc(), config.checked()?, WORKERS, &Pipeline)?;
     println!(rt; "rounds {:?}\n{closed}", closed.answers)?;
     Ok(())
 }

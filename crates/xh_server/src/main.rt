@@ -121,7 +121,7 @@ fn main(rt: HostRuntime) -> anyhow::Result<()> {
         clients,
         ends: Mutex::new([0; 4]),
     };
-    let closed = run(&rt, rt.alloc(), one_arena(65_536), 1, &server)?;
+    let closed = run(&rt, rt.alloc(), one_arena(65_536).checked()?, 1, &server)?;
     let ledger = &closed.books.ledger;
     let [answered, left, refused, killed] = *server.ends.lock(&rt);
     println!(rt; "clients {:?}\nanswered {answered}", closed.answers)?;
