@@ -56,13 +56,15 @@ pub(crate) fn regain<P: Process>(
 {
     match told {
         Ok(number) => Ok(number),
-        Err(Returned { why, value }) => {
-            if let Some(block) = value
-                && let Ok(regained) = own.into_bytes(block)
-            {
-                *bytes = regained;
-            }
-            Err(why)
-        }
+        Err(Returned { why, value }) => match value {
+            None => Err(why),
+            Some(block) => match own.into_bytes(block) {
+                Ok(regained) => {
+                    *bytes = regained;
+                    Err(why)
+                }
+                Err(_refused) => Err(why),
+            },
+        },
     }
 }
