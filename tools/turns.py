@@ -18,7 +18,6 @@ from __future__ import annotations
 import argparse
 import os
 import pathlib
-import re
 import shutil
 import subprocess
 import sys
@@ -31,44 +30,52 @@ from judging import ROOM, TOP, claim
 
 BENCH = "crates/xh_bench"
 BURST = 30e9
-# What a neighbour adds: where, behind which line, and what.
+# What a neighbour adds at the end of a list, as a new row would: where, behind what, and what.
+LOOP = """
+#[inline(never)]
+fn near{}, line: &Line, rounds: u64) -> Option<()> {{
+    for _ in 0..rounds {{
+        let mut buffer = filled(line.alloc, &[7; 64])?;
+        {}
+    }}
+    Some(())
+}}
+"""
+PUT = "let block = own.put(&mut buffer).ok()?;\n        buffer = own.into_bytes(block).ok()?;"
+PUSH = "line.free.push(rt, buffer).ok()?;\n        buffer = line.free.pop(rt)?;"
 NEIGHBOUR = (
-    ("pieces.rt", "    PushPop,\n", "    Near(usize),\n"),
-    ("pieces.rt", "queue.pop(rt).map(drop)\n            }),\n",
-     "            Piece::Near(count) => again(times, || {\n                let buffer = "
-     "filled(alloc, PAGE.get(..count)?)?;\n                queue.push(rt, buffer).ok()?;\n"
-     "                queue.pop(rt).map(drop)\n            }),\n"),
-    ("calls.rt", "    Overview,\n", "    Near,\n"),
-    ("calls.rt", "numbers.pop()?).ok().map(drop)),\n",
-     "            Work::Near => again(rounds, || own.put(bytes).ok().and_then(|block| {\n"
-     "                *bytes = own.into_bytes(block).ok()?;\n                Some(())\n"
-     "            })),\n"),
-    ("rows.rt", "&[Row] = &[\n", "    (\"near\", 1, Work::Near, 900, &[(1, Near(64))]),\n"),
-    ("rows.rt", "use crate::pieces::Piece::{\n    ", "Near, "),
+    ("calls.rt", "    ToAndFro,\n", "    Near,\n"),
+    ("calls.rt", "to_and_fro(own, half, rounds),\n",
+     "            Work::Near => near(own, half.line, rounds),\n"),
+    ("calls.rt", "", LOOP.format("<P: Process>(own: &mut P", PUT)),
+    ("pieces.rt", "    Pooled(usize),\n", "    Near,\n"),
+    ("pieces.rt", "pooled(rt, self, times),\n",
+     "            Piece::Near => near(rt, line, times),\n"),
+    ("pieces.rt", "", LOOP.format("<R: Wait>(rt: &R", PUSH)),
+    ("rows.rt", '"pairs_4", 4, GiveTake(0), 130, &[(1, Vector(0))]),\n',
+     '    ("near", 1, Work::Near, 1, &[(1, crate::pieces::Piece::Near)]),\n'),
 )
 
 
-def built(tree: pathlib.Path, is_near: bool = False) -> pathlib.Path:
+def built(tree: pathlib.Path, is_near: bool = False) -> str:
     """The benchmark of this tree over the library of another, proved there."""
     crate = tree / BENCH
     if tree.resolve() != TOP:
-        shutil.rmtree(crate / "src", ignore_errors=True)
-        shutil.copytree(TOP / BENCH / "src", crate / "src")
-        shutil.rmtree(crate / "proofs", ignore_errors=True)
-        if (TOP / BENCH / "proofs").exists():
-            shutil.copytree(TOP / BENCH / "proofs", crate / "proofs")
-        lines = [it for it in judging.lines_of(TOP / "crates.txt") if it.startswith("xh_bench:")]
-        others = (tree / "crates.txt").read_text().splitlines()
-        others = [it for it in others if not it.startswith("xh_bench:")]
-        (tree / "crates.txt").write_text("\n".join(others + lines) + "\n")
+        shutil.rmtree(crate, ignore_errors=True)
+        shutil.copytree(TOP / BENCH, crate, ignore=shutil.ignore_patterns("out"))
+        ours, others = (judging.lines_of(it / "crates.txt") for it in (TOP, tree))
+        lines = [it for it in others if not it.startswith("xh_bench:")]
+        lines += [it for it in ours if it.startswith("xh_bench:")]
+        (tree / "crates.txt").write_text("\n".join(lines) + "\n")
         if "fn give_block" in (tree / "crates/xh_heap/src/process.rt").read_text():
             shutil.copy(TOP / "tools/library_before.txt", crate / "src/library.rt")
     for file, behind, more in NEIGHBOUR if is_near else ():
         text = (crate / "src" / file).read_text()
         claim(behind in text, f"{file}: there is no place for a neighbour")
-        (crate / "src" / file).write_text(text.replace(behind, behind + more, 1))
+        at = text.index(behind) + len(behind) if behind else len(text)
+        (crate / "src" / file).write_text(text[:at] + more + text[at:])
     subprocess.run(["rt", "run", "--", "read_16", "1"], cwd=crate, check=True)
-    return crate / "out/xh_bench"
+    return str(crate / "out/xh_bench")
 
 
 def build_pin() -> None:
@@ -77,80 +84,69 @@ def build_pin() -> None:
     subprocess.run([*words, "-ldl"], check=True)
 
 
-def alone(words: Sequence[str], threads: int) -> tuple[str, str]:
-    """What it prints, and as errors, on as many processors as it has threads."""
-    processors = sorted(os.sched_getaffinity(0))[-threads:]
-    pins = ",".join(map(str, processors))
-    env = {**os.environ, "LD_PRELOAD": f"{ROOM}/pin.so", "PIN": pins}
+def burst(words: Sequence[str], threads: int) -> int:
+    """The picoseconds of a step, on as many processors as it has threads."""
+    pins = ",".join(map(str, sorted(os.sched_getaffinity(0))[-threads:]))
     kept = ["taskset", "-c", pins]
     if os.geteuid() == 0 and shutil.which("chrt"):
         kept += ["chrt", "-f", "1"]
+    env = {**os.environ, "LD_PRELOAD": f"{ROOM}/pin.so", "PIN": pins}
     ran = subprocess.run([*kept, *words], env=env, capture_output=True, text=True, timeout=120)
     claim(ran.returncode == 0, f"{words}: {ran.stderr}")
-    return ran.stdout, ran.stderr
-
-
-def burst(words: Sequence[str], threads: int) -> int:
-    """The picoseconds of a step."""
-    return int(alone(words, threads)[1].split()[-1])
+    return int(ran.stderr.split()[-1])
 
 
 def by_turns(all_words: Sequence[Sequence[str]], threads: int, turns: int) -> list[list[int]]:
     """The picoseconds of each in each turn; the words lack how many steps, for which {} stands."""
-    def filled(words: Sequence[str], rounds: int) -> list[str]:
-        return [it.format(rounds) for it in words]
+    def steps(words: Sequence[str], rounds: float) -> int:
+        most = 40_000 if "kill" in words[1] else 10**9
+        return burst([it.format(max(1, min(most, int(rounds)))) for it in words], threads)
 
-    rounds = []
-    for words in all_words:
-        first = burst(filled(words, 50), threads)
-        again = burst(filled(words, max(1, min(20000, int(BURST / 10 / first)))), threads)
-        rounds.append(max(1, min(40000 if "kill" in words[1] else 10**9, int(BURST / again))))
+    rounds = [BURST / steps(it, min(20_000, BURST / 10 / steps(it, 50))) for it in all_words]
     times: list[list[int]] = [[] for _ in all_words]
     for turn in range(turns):
-        order = range(len(all_words))
-        for at in order if turn % 2 == 0 else reversed(order):
-            times[at].append(burst(filled(all_words[at], rounds[at]), threads))
+        for at in sorted(range(len(all_words)), reverse=turn % 2 == 1):
+            times[at].append(steps(all_words[at], rounds[at]))
     return times
 
 
-def told(name: str, here: list[int], there: list[int]) -> str:
+def told(here: list[int], there: list[int]) -> str:
+    """The median of the ratios, and its quartiles."""
     ratios = [one / other for one, other in zip(here, there)]
     low, _, high = quantiles(ratios, n=4)
-    return (f"| `{name}` | {median(there) / 1e3:,.1f} | {median(here) / 1e3:,.1f} "
-            f"| {median(ratios):.3f} | {low:.3f} to {high:.3f} |")
+    return f"{median(ratios):.3f} | {low:.3f} to {high:.3f} |"
 
 
-def rows(names: Sequence[str]) -> dict[str, int]:
-    """The rows, and how many threads each has."""
-    text = (TOP / BENCH / "src/rows.rt").read_text()
-    found = re.findall(r'\(\s*"(\w+)",\s*(\d+),', text)
-    all_rows = {name: int(threads) for name, threads in found}
-    for name in names:
-        claim(name in all_rows, f"{name} is no row")
-    return {name: all_rows[name] for name in names or all_rows}
+def rows(program: str, names: Sequence[str] = ()) -> dict[str, list[str]]:
+    """The rows, and for each how many threads it has, its limit, and what stands beside it."""
+    ran = subprocess.run([program, "all", "1"], capture_output=True, text=True, check=True)
+    found = {name: more for name, *more in (it.split("\t") for it in ran.stdout.splitlines())}
+    claim({*names} <= {*found}, f"no rows: {names}")
+    return {name: found[name] for name in names or found}
 
 
 def compared(here: str, there: str, names: Sequence[str], turns: int) -> None:
     """Prints the rows of both programs, each with what stands beside it."""
     print("| Row | there, ns | here, ns | here to there | quartiles |\n" + "|---" * 5 + "|")
-    for name, threads in rows(names).items():
+    for name, (threads, *_) in rows(here, names).items():
         for more in (), ("beside",):
-            words = [(it, name, "{}", *more) for it in (here, there)]
-            ran = by_turns(words, threads, turns)
-            print(told(" ".join([name, *more]), *ran), flush=True)
+            ours, theirs = by_turns([(it, name, "{}", *more) for it in (here, there)],
+                                    int(threads), turns)
+            both = f"{median(theirs) / 1e3:,.1f} | {median(ours) / 1e3:,.1f}"
+            print(f"| `{' '.join([name, *more])}` | {both} | {told(ours, theirs)}", flush=True)
 
 
 def main(words: Sequence[str], is_near: bool, is_built: bool, turns: int) -> int:
     build_pin()
     if is_built:
         here, there, *names = words
-        compared(here, there, names, turns)
-        return 0
-    tree, names = (ROOM / "near", words) if is_near else (pathlib.Path(words[0]), words[1:])
-    here_built = built(TOP)
-    if is_near:
-        shutil.copytree(TOP, tree, symlinks=True)
-    compared(str(here_built), str(built(tree, is_near)), names, turns)
+    else:
+        tree, *names = [str(ROOM / "near"), *words] if is_near else words
+        here = built(TOP)
+        if is_near:
+            shutil.copytree(TOP, tree, symlinks=True)
+        there = built(pathlib.Path(tree), is_near)
+    compared(here, there, names, turns)
     return 0
 
 

@@ -1,10 +1,11 @@
-//! What a process does over and over, by its handle.
+//! What a process does over and over, by its handle: each in a function of its own, which isn't inlined.
 
-use crate::crew::{Crew, fill};
-use crate::library::{give, receive, send};
-use crate::pieces::{again, filled, glanced};
+use crate::bench::{Half, Line, since};
+use crate::library::send;
+use crate::pieces::{filled, glanced};
 use std::mem::take;
-use xh_heap::{Items, Process};
+use std::time::Clock;
+use xh_heap::{Item, Items, Process, Refused};
 
 /// What a process does.
 #[derive(Clone, Copy)]
@@ -14,7 +15,7 @@ pub(crate) enum Work {
     Message(u32, u16),
     /// It makes a block of so many bytes and frees it, while it has so many others in that arena.
     AllocFree(u32, u16),
-    /// It gives so many blocks by one end of a channel, and takes them by the other.
+    /// The first of two gives a message of so many blocks, once there is room, and the second takes it. One thread does both.
     GiveTake(u16),
     /// It reads, or writes, all bytes of a block.
     Read(u32),
@@ -23,126 +24,160 @@ pub(crate) enum Work {
     Kill(u16),
     /// It looks at all places and arenas.
     Overview,
-    /// The first of two gives a message without blocks, once there is room, and the second takes it.
-    Pass,
     /// The first gives a block and waits for it; the second waits for it and gives it back.
     ToAndFro,
 }
 
-/// How many processes are made at once that are to be killed: one for each arena but the first.
-const VICTIMS: u8 = 7;
-
 impl Work {
-    /// How many blocks the process holds meanwhile, how many it works on, and how many bytes these have.
-    pub(crate) fn blocks(self) -> (u16, u16, u32) {
+    /// How many bytes its blocks have, and how many others the process holds meanwhile.
+    pub(crate) fn sizes(self) -> (u32, u16) {
         match self {
-            Work::Message(bytes, held) | Work::AllocFree(bytes, held) => (held, 0, bytes),
-            Work::GiveTake(count) => (0, count, 64),
-            Work::Read(bytes) | Work::Write(bytes) => (0, 1, bytes),
-            Work::ToAndFro => (0, 1, 64),
-            _ => (0, 0, 0),
+            Work::Message(bytes, others) | Work::AllocFree(bytes, others) => (bytes, others),
+            Work::Read(bytes) | Work::Write(bytes) => (bytes, 0),
+            _ => (0, 0),
         }
     }
 
-    /// How often it is done in a slice at most: a run has 65,504 processes.
-    pub(crate) fn most(self) -> u64 {
+    /// Does it so often, but a kill.
+    pub(crate) fn call<P: Process>(self, own: &mut P, half: Half<'_>, rounds: u64) -> Option<()> {
         match self {
-            Work::Kill(_) => 16 * u64::from(VICTIMS),
-            _ => u64::MAX,
+            Work::Message(_, _) => message(own, half, rounds),
+            Work::AllocFree(bytes, _) => alloc_free(own, half.arena, bytes, rounds),
+            Work::GiveTake(count) => give_take(own, half, count, rounds),
+            Work::Read(_) => copy(own, half.line, true, rounds),
+            Work::Write(_) => copy(own, half.line, false, rounds),
+            Work::Kill(_) => None,
+            Work::Overview => overview(own, rounds),
+            Work::ToAndFro => to_and_fro(own, half, rounds),
         }
     }
 }
 
-impl<'a, P: Process> Crew<'a, P> {
-    /// For how many rounds it is ready: of a kill, those that it has made.
-    pub(crate) fn ready(&mut self) -> Option<u64> {
-        let Work::Kill(blocks) = self.bench.work else {
-            return Some(u64::MAX);
-        };
-        self.victims.clear();
-        self.numbers.clear();
-        self.held.clear();
-        for number in 0..VICTIMS {
-            let mut victim = self.own.spawn().ok()?;
-            fill(
-                &mut victim,
-                &mut self.held,
-                1 + u32::from(number),
-                blocks,
-                16,
-            )?;
-            self.numbers.push(victim.number()).ok()?;
-            self.victims.push(victim).ok()?;
-        }
-        Some(u64::from(VICTIMS))
+/// More blocks of an arena, which the process has until it ends.
+pub(crate) fn hold<P: Process>(own: &mut P, arena: u32, count: u16) -> Result<(), Refused> {
+    for _ in 0..count {
+        let _held = own.alloc_in(arena, 64)?;
     }
+    Ok(())
+}
 
-    /// Does its work so often.
-    pub(crate) fn call(&mut self, rounds: u64) -> Option<()> {
-        match self.bench.work {
-            Work::Message(_, _) | Work::Pass | Work::ToAndFro => self.call_two(rounds),
-            _ => self.call_one(rounds),
-        }
-    }
+/// Each call of a work once, by a process that has both ends. So none has a single caller in the program, of which it would be a
+/// part, whatever other works there are.
+pub(crate) fn each<P: Process>(own: &mut P, line: &Line) -> Option<()> {
+    let block = own.alloc_in(1, 16).ok()?;
+    own.write(&block, 0, &[1]).ok()?;
+    own.read(&block, 0, &mut [0]).ok()?;
+    own.free(block).ok()?;
+    let block = own.put(&mut filled(line.alloc, &[1])?).ok()?;
+    send(own, &line.ends.0, block)?;
+    let block = own.take_wait(&line.ends.1).ok()?.block().ok()?;
+    let _bytes = own.into_bytes(block).ok()?;
+    own.give_wait(&line.ends.0, 1, Items::new()).ok()?;
+    let _message = own.take_wait(&line.ends.1).ok()?;
+    let victim = own.spawn().ok()?;
+    own.kill(victim.number()).ok()?;
+    let _seen = own.overview();
+    Some(())
+}
 
-    fn call_one(&mut self, rounds: u64) -> Option<()> {
-        let (own, arena, ends) = (&mut *self.own, self.arena, &self.line.ends);
-        let (block, items, bytes) = (&mut self.block, &mut self.items, &mut self.bytes);
-        let (numbers, sum) = (&mut self.numbers, &mut self.sum);
-        match self.bench.work {
-            Work::AllocFree(bytes, _) => again(rounds, || {
-                let block = own.alloc_in(arena, bytes).ok()?;
-                own.free(block).ok().map(drop)
-            }),
-            Work::GiveTake(1) => again(rounds, || {
-                give(own, &ends.0, block.take()?)?;
-                *block = Some(own.take(&ends.1).ok()?.block().ok()?);
-                Some(())
-            }),
-            Work::GiveTake(_) => again(rounds, || {
-                own.give(&ends.0, 1, take(items)).ok()?;
-                *items = own.take(&ends.1).ok()?.items;
-                Some(())
-            }),
-            Work::Read(_) => again(rounds, || own.read(block.as_ref()?, 0, bytes).ok()),
-            Work::Write(_) => again(rounds, || own.write(block.as_ref()?, 0, bytes).ok()),
-            Work::Kill(_) => again(rounds, || own.kill(numbers.pop()?).ok().map(drop)),
-            _ => again(rounds, || {
-                *sum = sum.wrapping_add(own.overview().places.len() as u64);
-                Some(())
-            }),
-        }
+/// The nanoseconds of so many kills of a process that has so many blocks.
+#[inline(never)]
+pub(crate) fn kills<P: Process>(own: &mut P, blocks: u16, rounds: u64) -> Option<u64> {
+    let (rt, mut nanos) = (own.rt(), 0u64);
+    for _ in 0..rounds {
+        let mut victim = own.spawn().ok()?;
+        hold(&mut victim, 1, blocks).ok()?;
+        let start = rt.monotonic().ok()?;
+        own.kill(victim.number()).ok()?;
+        nanos = nanos.saturating_add(since(&rt, start)?);
     }
+    Some(nanos)
+}
 
-    // Does its work, one of which each of two threads may do its half.
-    fn call_two(&mut self, rounds: u64) -> Option<()> {
-        let (own, alloc, ends) = (&mut *self.own, self.bench.alloc, &self.line.ends);
-        let (sends, receives) = (self.sends, self.receives);
-        let (block, bytes, sum) = (&mut self.block, &self.bytes, &mut self.sum);
-        match self.bench.work {
-            Work::Message(_, _) => again(rounds, || {
-                if sends {
-                    send(own, &ends.0, &mut filled(alloc, bytes)?)?;
-                }
-                if receives {
-                    *sum = sum.wrapping_add(glanced(&receive(own, &ends.1)?));
-                }
-                Some(())
-            }),
-            Work::ToAndFro if sends => again(rounds, || {
-                give(own, &ends.0, block.take()?)?;
-                *block = Some(own.take_wait(&ends.0).ok()?.block().ok()?);
-                Some(())
-            }),
-            Work::ToAndFro => again(rounds, || {
-                let block = own.take_wait(&ends.1).ok()?.block().ok()?;
-                give(own, &ends.1, block)
-            }),
-            _ if sends => again(rounds, || {
-                let given = own.give_wait(&ends.0, 1, Items::new());
-                given.ok().map(drop)
-            }),
-            _ => again(rounds, || own.take_wait(&ends.1).ok().map(drop)),
+#[inline(never)]
+fn message<P: Process>(own: &mut P, half: Half<'_>, rounds: u64) -> Option<()> {
+    let line = half.line;
+    for _ in 0..rounds {
+        if half.sends {
+            let block = own.put(&mut filled(line.alloc, &line.bytes)?).ok()?;
+            send(own, &line.ends.0, block)?;
+        }
+        if half.receives {
+            let block = own.take_wait(&line.ends.1).ok()?.block().ok()?;
+            glanced(&own.into_bytes(block).ok()?)?;
         }
     }
+    Some(())
+}
+
+#[inline(never)]
+fn alloc_free<P: Process>(own: &mut P, arena: u32, bytes: u32, rounds: u64) -> Option<()> {
+    for _ in 0..rounds {
+        let block = own.alloc_in(arena, bytes).ok()?;
+        own.free(block).ok()?;
+    }
+    Some(())
+}
+
+// A message of so many blocks.
+fn items<P: Process>(own: &mut P, count: u16) -> Option<Items> {
+    let mut items = Items::new();
+    for _ in 0..count {
+        let block = own.alloc_in(1, 64).ok()?;
+        items.try_push(Item::Block(block)).ok()?;
+    }
+    Some(items)
+}
+
+#[inline(never)]
+fn give_take<P: Process>(own: &mut P, half: Half<'_>, count: u16, rounds: u64) -> Option<()> {
+    let ends = &half.line.ends;
+    let mut items = items(own, count)?;
+    for _ in 0..rounds {
+        if half.sends {
+            own.give_wait(&ends.0, 1, take(&mut items)).ok()?;
+        }
+        if half.receives {
+            items = own.take_wait(&ends.1).ok()?.items;
+        }
+    }
+    Some(())
+}
+
+#[inline(never)]
+fn copy<P: Process>(own: &mut P, line: &Line, is_read: bool, rounds: u64) -> Option<()> {
+    let block = own.put(&mut filled(line.alloc, &line.bytes)?).ok()?;
+    let mut bytes = filled(line.alloc, &line.bytes)?;
+    for _ in 0..rounds {
+        if is_read {
+            own.read(&block, 0, &mut bytes).ok()?;
+        } else {
+            own.write(&block, 0, &bytes).ok()?;
+        }
+    }
+    Some(())
+}
+
+#[inline(never)]
+fn overview<P: Process>(own: &mut P, rounds: u64) -> Option<()> {
+    for _ in 0..rounds {
+        let _first = own.overview().places.first()?;
+    }
+    Some(())
+}
+
+#[inline(never)]
+fn to_and_fro<P: Process>(own: &mut P, half: Half<'_>, rounds: u64) -> Option<()> {
+    let ends = &half.line.ends;
+    let mut block = own.alloc_in(1, 64).ok()?;
+    for _ in 0..rounds {
+        if half.sends {
+            send(own, &ends.0, block)?;
+            block = own.take_wait(&ends.0).ok()?.block().ok()?;
+        } else {
+            let came = own.take_wait(&ends.1).ok()?.block().ok()?;
+            send(own, &ends.1, came)?;
+        }
+    }
+    Some(())
 }

@@ -1,10 +1,10 @@
-//! What a call is made of, or what a user would take instead.
+//! What a call is made of, or what a user would take instead: each in a function of its own, which isn't inlined.
 
-use crate::crew::Crew;
+use crate::bench::{Half, Line};
 use std::alloc::Global;
-use std::sync::Wait;
+use std::sync::atomic::AtomicU64;
 use std::sync::atomic::Ordering::SeqCst;
-use xh_heap::Process;
+use std::sync::{Mutex, Wait};
 
 #[derive(Clone, Copy, Debug)]
 pub(crate) enum Piece {
@@ -32,20 +32,6 @@ pub(crate) enum Piece {
 /// What is done in a step, each piece so often.
 pub(crate) type Pieces = &'static [(u32, Piece)];
 
-const PAGE: &[u8] = &[1; 4096];
-
-/// Does something so often, until it is refused. Each closure has a copy of this function for itself, which isn't inlined: so
-/// what else the program does leaves the time that it takes as it is.
-#[inline(never)]
-pub(crate) fn again<F: FnMut() -> Option<()>>(times: u64, mut f: F) -> Option<()>
-    requires { F.IsAlwaysCallable f }
-{
-    for _ in 0..times {
-        f()?;
-    }
-    Some(())
-}
-
 /// A buffer with these bytes.
 pub(crate) fn filled(alloc: Global, bytes: &[u8]) -> Option<Vec<u8>> {
     let mut buffer = Vec::with_capacity(alloc, bytes.len()).ok()?;
@@ -53,87 +39,135 @@ pub(crate) fn filled(alloc: Global, bytes: &[u8]) -> Option<Vec<u8>> {
     Some(buffer)
 }
 
-/// The sum of the first bytes of all cache lines.
-pub(crate) fn glanced(bytes: &[u8]) -> u64 {
-    let mut sum = 0u64;
+/// Looks at the first byte of each cache line; None where one is not a message's.
+pub(crate) fn glanced(bytes: &[u8]) -> Option<()> {
     for line in bytes.chunks(64) {
-        let first = line.first().copied().unwrap_or(0);
-        sum = sum.wrapping_add(u64::from(first));
+        if line.first() != Some(&7) {
+            return None;
+        }
     }
-    sum
+    Some(())
 }
 
-impl<'a, P: Process> Crew<'a, P> {
+impl<'a> Half<'a> {
     /// Does all pieces so often, one after the other.
-    pub(crate) fn beside(&mut self, rounds: u64) -> Option<()> {
-        for (times, piece) in self.bench.beside {
-            self.once(rounds.saturating_mul(u64::from(*times)), *piece)?;
+    pub(crate) fn beside<R: Wait>(self, rt: &R, pieces: Pieces, rounds: u64) -> Option<()> {
+        for (times, piece) in pieces {
+            self.once(rt, *piece, rounds.saturating_mul(u64::from(*times)))?;
         }
         Some(())
     }
 
-    fn once(&mut self, times: u64, piece: Piece) -> Option<()> {
-        let (rt, alloc, queue) = (&self.rt, self.bench.alloc, &self.line.free);
-        let (count, word, bytes) = (&self.count, &self.word, &mut self.bytes);
+    fn once<R: Wait>(self, rt: &R, piece: Piece, times: u64) -> Option<()> {
+        let line = self.line;
         match piece {
-            Piece::Lock => again(times, || {
-                *count.lock(rt) = 1;
-                Some(())
-            }),
-            Piece::Exchange => again(times, || Some(drop(word.swap(1, SeqCst)))),
-            Piece::Load => again(times, || Some(drop(word.load(SeqCst)))),
-            Piece::Zeroed(bytes) => again(times, || vec![in alloc; 0u8; bytes].ok().map(drop)),
-            Piece::Copied(count) => again(times, || {
-                let room = bytes.as_mut_slice().get_mut(..count)?;
-                room.copy_from_slice(PAGE.get(..count)?);
-                Some(())
-            }),
-            Piece::PushPop => again(times, || {
-                queue.push(rt, Vec::new(alloc)).ok()?;
-                queue.pop(rt).map(drop)
-            }),
-            _ => self.pass(times, piece),
+            Piece::Lock => lock(rt, &Mutex::new(0), times),
+            Piece::Exchange => exchange(&AtomicU64::new(0), times),
+            Piece::Load => load(&AtomicU64::new(0), times),
+            Piece::Zeroed(bytes) => zeroed(line.alloc, bytes, times),
+            Piece::Copied(_) => copied(&line.bytes, &mut filled(line.alloc, &line.bytes)?, times),
+            Piece::PushPop => push_pop(rt, line, times),
+            Piece::ToAndFro => to_and_fro(rt, self, times),
+            Piece::Vector(_) => vector(rt, self, times),
+            Piece::Pooled(_) => pooled(rt, self, times),
         }
     }
+}
 
-    // The pieces of which each of two threads may do its half.
-    fn pass(&mut self, times: u64, piece: Piece) -> Option<()> {
-        let (rt, alloc, line) = (&self.rt, self.bench.alloc, self.line);
-        let (sends, receives) = (self.sends, self.receives);
-        let (bytes, sum) = (&self.bytes, &mut self.sum);
-        match piece {
-            Piece::ToAndFro if sends => again(times, || {
-                line.there.0.send(rt, Vec::new(alloc)).ok()?;
-                line.back.1.recv(rt).ok().map(drop)
-            }),
-            Piece::ToAndFro => again(times, || {
-                line.there.1.recv(rt).ok()?;
-                line.back.0.send(rt, Vec::new(alloc)).ok()
-            }),
-            Piece::Vector(_) => again(times, || {
-                if sends {
-                    line.there.0.send(rt, filled(alloc, bytes)?).ok()?;
-                }
-                if receives {
-                    let buffer = line.there.1.recv(rt).ok()?;
-                    *sum = sum.wrapping_add(glanced(&buffer));
-                }
-                Some(())
-            }),
-            _ => again(times, || {
-                if sends {
-                    let mut buffer = line.free.pop(rt).unwrap_or(Vec::new(alloc));
-                    buffer.extend_from_slice(bytes).ok()?;
-                    line.there.0.send(rt, buffer).ok()?;
-                }
-                if receives {
-                    let mut buffer = line.there.1.recv(rt).ok()?;
-                    *sum = sum.wrapping_add(glanced(&buffer));
-                    buffer.clear();
-                    line.free.push(rt, buffer).ok()?;
-                }
-                Some(())
-            }),
+#[inline(never)]
+fn lock<R: Wait>(rt: &R, count: &Mutex<u64>, times: u64) -> Option<()> {
+    for _ in 0..times {
+        *count.lock(rt) = 1;
+    }
+    Some(())
+}
+
+#[inline(never)]
+fn exchange(word: &AtomicU64, times: u64) -> Option<()> {
+    for _ in 0..times {
+        word.swap(1, SeqCst);
+    }
+    Some(())
+}
+
+#[inline(never)]
+fn load(word: &AtomicU64, times: u64) -> Option<()> {
+    for _ in 0..times {
+        word.load(SeqCst);
+    }
+    Some(())
+}
+
+#[inline(never)]
+fn zeroed(alloc: Global, bytes: usize, times: u64) -> Option<()> {
+    for _ in 0..times {
+        let _zeros = vec![in alloc; 0u8; bytes].ok()?;
+    }
+    Some(())
+}
+
+#[inline(never)]
+fn copied(bytes: &[u8], room: &mut [u8], times: u64) -> Option<()> {
+    for _ in 0..times {
+        room.get_mut(..bytes.len())?.copy_from_slice(bytes);
+    }
+    Some(())
+}
+
+#[inline(never)]
+fn push_pop<R: Wait>(rt: &R, line: &Line, times: u64) -> Option<()> {
+    for _ in 0..times {
+        line.free.push(rt, Vec::new(line.alloc)).ok()?;
+        let _popped = line.free.pop(rt)?;
+    }
+    Some(())
+}
+
+#[inline(never)]
+fn to_and_fro<R: Wait>(rt: &R, half: Half<'_>, times: u64) -> Option<()> {
+    let line = half.line;
+    for _ in 0..times {
+        if half.sends {
+            line.there.0.send(rt, Vec::new(line.alloc)).ok()?;
+            let _back = line.back.1.recv(rt).ok()?;
+        } else {
+            let there = line.there.1.recv(rt).ok()?;
+            line.back.0.send(rt, there).ok()?;
         }
     }
+    Some(())
+}
+
+#[inline(never)]
+fn vector<R: Wait>(rt: &R, half: Half<'_>, times: u64) -> Option<()> {
+    let line = half.line;
+    for _ in 0..times {
+        if half.sends {
+            let buffer = filled(line.alloc, &line.bytes)?;
+            line.there.0.send(rt, buffer).ok()?;
+        }
+        if half.receives {
+            glanced(&line.there.1.recv(rt).ok()?)?;
+        }
+    }
+    Some(())
+}
+
+#[inline(never)]
+fn pooled<R: Wait>(rt: &R, half: Half<'_>, times: u64) -> Option<()> {
+    let line = half.line;
+    for _ in 0..times {
+        if half.sends {
+            let mut buffer = line.free.pop(rt).unwrap_or(Vec::new(line.alloc));
+            buffer.extend_from_slice(&line.bytes).ok()?;
+            line.there.0.send(rt, buffer).ok()?;
+        }
+        if half.receives {
+            let mut buffer = line.there.1.recv(rt).ok()?;
+            glanced(&buffer)?;
+            buffer.clear();
+            line.free.push(rt, buffer).ok()?;
+        }
+    }
+    Some(())
 }

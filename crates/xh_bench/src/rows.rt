@@ -17,7 +17,7 @@ const VECTOR_4K: Pieces = &[(1, Vector(4096))];
 
 const VECTOR_1M: Pieces = &[(1, Vector(1 << 20))];
 
-const POOLED_4K: Pieces = &[(1, Pooled(4096))];
+const POOL_4K: Pieces = &[(1, Pooled(4096))];
 
 const ALLOC: Pieces = &[(4, Lock), (4, Exchange), (1, Zeroed(64))];
 
@@ -41,17 +41,11 @@ pub(crate) const ROWS: &[Row] = &[
     ("message_64", 1, Message(64, 0), 495, VECTOR_64),
     ("message_64_255", 1, Message(64, 255), 495, VECTOR_64),
     ("message_4k", 1, Message(4096, 0), 300, VECTOR_4K),
-    ("message_4k_pool", 1, Message(4096, 0), 310, POOLED_4K),
+    ("message_4k_pool", 1, Message(4096, 0), 310, POOL_4K),
     ("message_1m", 1, Message(1 << 20, 0), 105, VECTOR_1M),
     ("message_64_across", 2, Message(64, 0), 165, VECTOR_64),
     ("message_4k_across", 2, Message(4096, 0), 140, VECTOR_4K),
-    (
-        "message_4k_pool_across",
-        2,
-        Message(4096, 0),
-        215,
-        POOLED_4K,
-    ),
+    ("message_4k_pool_across", 2, Message(4096, 0), 215, POOL_4K),
     ("message_1m_across", 2, Message(1 << 20, 0), 115, VECTOR_1M),
     ("alloc_free_1", 1, AllocFree(64, 1), 210, ALLOC),
     ("alloc_free_255", 1, AllocFree(64, 255), 195, ALLOC_255),
@@ -66,6 +60,6 @@ pub(crate) const ROWS: &[Row] = &[
     ("kill_256", 1, Kill(256), 225, KILL_256),
     ("overview", 1, Overview, 560, LOOK),
     ("ping_pong", 2, Work::ToAndFro, 130, &[(1, ToAndFro)]),
-    ("stream", 2, Work::Pass, 130, &[(1, Vector(0))]),
-    ("pairs_4", 4, Work::Pass, 130, &[(1, Vector(0))]),
+    ("stream", 2, GiveTake(0), 130, &[(1, Vector(0))]),
+    ("pairs_4", 4, GiveTake(0), 130, &[(1, Vector(0))]),
 ];
