@@ -48,7 +48,7 @@ impl<'a, 'k, N: Names, R: Wait> Drop for Handle<'a, 'k, N, R> {
 }
 
 impl<'a, 'k, N: Names, R: Wait> Handle<'a, 'k, N, R> {
-    /// A process that this spare starts, and by nothing that its account did before. NoPlace where there is none.
+    /// A new process, by this spare, and by nothing that its account did before. NoPlace where there is no place for it.
     pub(crate) fn start(
         rt: &'a R,
         alloc: Global,

@@ -207,7 +207,7 @@ const LIMIT_TEXTS: &[(Limit, &str)] = &[
     (Limit::Wear, "wear: at most 9223372036854775807"),
 ];
 
-/// A configuration is told which limit it doesn't keep.
+/// A configuration tells which limit it doesn't keep, and a limit what it is.
 #[test]
 fn limits_of_a_configuration(rt: HostRuntime) {
     for (arenas, bytes, records, depth, wear, expected) in CHECKED {
