@@ -10,35 +10,8 @@ mod player;
 mod round;
 
 use crate::round::{ANSWERED, CALLS, Round};
-use std::alloc::Global;
 use std::env;
 use std::process::ExitCode;
-use std::sync::Wait;
-use std::thread::Threads;
-use std::time::Clock;
-use xh_heap::{Refused, run};
-
-// Plays the round of a seed, and counts each call that was answered Ok: what was wrong, or nothing.
-fn play<R: Threads + Wait + Clock + Sync>(
-    rt: &R,
-    alloc: Global,
-    seed: u64,
-    is_scarce: bool,
-    counts: &Round,
-) -> Result<&'static str, Refused> {
-    let round = Round::new(alloc, seed, is_scarce)?;
-    let closed = run(rt, alloc, round.config, round.workers, &round)?;
-    for at in 0..64 {
-        counts.add(ANSWERED, at, round.add(ANSWERED, at, 0));
-    }
-    let (ledger, wrong) = (&closed.books.ledger, *round.wrong.lock(rt));
-    let is_whole = ledger.arenas.iter().all(|it| it.out == 0 && it.holes == 1);
-    Ok(match wrong {
-        "" if ledger.owned != 0 => "an ended process owns blocks",
-        "" if ledger.flight != 0 || !is_whole => "blocks are lost",
-        wrong => wrong,
-    })
-}
 
 fn main(rt: HostRuntime) -> ExitCode {
     let Ok(mut words) = env::args(&rt).map(|words| words.skip(1)) else {
@@ -50,23 +23,23 @@ fn main(rt: HostRuntime) -> ExitCode {
         return ExitCode::from(2);
     };
     let is_scarce = words.next().is_some();
-    let Ok(counts) = Round::new(rt.alloc(), first, is_scarce) else {
+    let Ok(mut round) = Round::new(rt.alloc(), is_scarce) else {
         return ExitCode::from(3);
     };
-    for round in 0..rounds {
-        let seed = first.wrapping_add(round);
-        let wrong = match play(&rt, rt.alloc(), seed, is_scarce, &counts) {
+    for at in 0..rounds {
+        round.seed = first.wrapping_add(at);
+        let wrong = match round.play(&rt) {
             Ok("") => continue,
             Err(_refused) if is_scarce => continue,
             Ok(wrong) => wrong,
             Err(refused) => refused.name(),
         };
-        let _ = eprintln!(rt; "xh_soak: seed {seed}: {wrong}");
+        let _ = eprintln!(rt; "xh_soak: seed {}: {wrong}", round.seed);
         return ExitCode::FAILURE;
     }
     let mut is_short = false;
     for (at, call) in CALLS.split(' ').enumerate() {
-        let count = counts.add(ANSWERED, (at % 64) as u16, 0);
+        let count = round.add(ANSWERED, at, 0);
         is_short |= count == 0;
         let _ = eprintln!(rt; "{call} {count}");
     }

@@ -1,36 +1,34 @@
 //! A process that acts at random, and judges what it is answered.
 ghost use Rattle.xh_heap.specs.declared.values.End.{End};
 
-use crate::round::{ANSWERED, CALLS, Chance, GIVEN, Round, TAKEN};
-use std::time::{Duration, Instant};
+use crate::round::{ANSWERED, ARENAS, CALLS, CHANNELS, Chance, GIVEN, Round, TAKEN};
+use std::mem::replace;
+use std::time::Duration;
 use xh_heap::{
-    Answered, AsEnd, Block, Came, Contract, End, Item, Items, Load, Message, Process, Refused,
-    Returned, Row, Starter,
+    Answered, AsEnd, Block, Came, Contract, End, Item, Items, Message, Process, Refused, Returned,
+    Row, Starter,
 };
 
 // The tag of a message without an end; else it is the end's name.
 const NO_END: u16 = 65_535;
 
-/// An end, and its name: 4 for each channel before its own, 2 where that goes by a contract, and its side.
+/// An end, and its name: 2 for each channel before its own, and its side.
 #[derive(Drop)]
-pub(crate) struct Line {
-    pub(crate) end: End,
-    pub(crate) name: u16,
-}
+pub(crate) struct Line(End, u16);
 
 impl AsEnd for Line {
-    ghost shows = { λ line. line.end };
+    ghost shows = { λ line. line.0 };
 
     fn as_end(&self) -> &End {
-        &self.end
+        &self.0
     }
 }
 
 /// What a process is started for: so many acts, with an end that may go anywhere, and one of a channel to its parent.
-pub(crate) type Task = ([Option<Line>; 2], u32);
+pub(crate) type Task = (Option<Line>, Option<Line>, u32);
 
 /// A process, and what it has: blocks, each with what it begins and ends in, ends that may go anywhere, and those of the channels
-/// to its children.
+/// to its children; and why its last refusal was.
 #[derive(Drop)]
 pub(crate) struct Player<'a, P: Process> {
     own: &'a mut P,
@@ -38,10 +36,10 @@ pub(crate) struct Player<'a, P: Process> {
     round: &'a Round,
     acts: u32,
     chance: Chance,
-    pieces: Vec<(Block, u64)>,
+    blocks: Vec<(Block, [u8; 8])>,
     lines: Vec<Line>,
     children: Vec<Line>,
-    is_over: bool,
+    why: &'static str,
 }
 
 // A call of the process: its answer, where it is Ok.
@@ -52,61 +50,54 @@ macro_rules! ask {
     }};
 }
 
-// The stamp of what is in the message of this number to an end.
-fn sent(to: u16, no: u64) -> u64 {
-    u64::from(to).wrapping_mul(1 << 48).wrapping_add(no)
-}
-
-// What a take at several ends answers, and at which.
-fn came_at(told: Result<Answered, Refused>, at: &mut usize) -> Result<Came, Refused> {
-    let answered = told?;
-    *at = answered.at;
-    answered.answer.map(Came::Message)
-}
-
 impl<'a, P: Process> Player<'a, P> {
-    pub(crate) fn new(
-        own: &'a mut P,
-        threads: &'a Starter<P, Task>,
-        round: &'a Round,
-        acts: u32,
-    ) -> Self {
-        let seed = round
-            .seed
-            .wrapping_mul(65_536)
-            .wrapping_add(u64::from(own.number()));
+    pub(crate) fn new(own: &'a mut P, threads: &'a Starter<P, Task>, round: &'a Round) -> Self {
+        let seed = round.seed.wrapping_mul(65_536);
+        let chance = Chance(seed.wrapping_add(u64::from(own.number())));
         Player {
             own,
             threads,
             round,
-            acts,
-            chance: Chance(seed),
-            pieces: Vec::new(round.alloc),
+            acts: 0,
+            chance,
+            blocks: Vec::new(round.alloc),
             lines: Vec::new(round.alloc),
             children: Vec::new(round.alloc),
-            is_over: false,
+            why: "",
         }
     }
 
-    /// Acts, as long as it runs and nothing is wrong. It waits without an end for its children alone, until each has ended.
-    pub(crate) fn play(&mut self, [line, parent]: [Option<Line>; 2]) {
+    /// Acts, hears its children until each has ended, and tells its parent, which does so too: it waits without an end for them
+    /// alone, and for memory that nobody keeps. Then it closes and frees all that it has, or ends, or both, or neither.
+    pub(crate) fn play(&mut self, (line, parent, acts): Task) {
         self.keep_line(line);
-        for _ in 0..self.acts {
-            if !self.is_over && self.round.wrong.lock(&self.own.rt()).is_empty() {
-                let _ = self.act();
-            }
+        self.acts = acts;
+        for _ in 0..acts {
+            let _ = self.act();
         }
+        let mut children = replace(&mut self.children, Vec::new(self.round.alloc));
+        self.why = "";
         for _ in self.own.rt().forever() {
-            if self.is_over || self.children.is_empty() {
+            if self.why == "Ended" || children.is_empty() {
                 break;
             }
-            let _ = self.take(true);
+            let _ = self.take(&mut children, true);
         }
-        for _ in 0..20 {
-            let _ = parent.as_ref().and_then(|line| self.give(line, true));
+        if let Some(parent) = parent {
+            for _ in 0..20 {
+                let _ = self.give(&parent, true);
+            }
+            self.keep_line(Some(parent));
         }
-        self.keep_line(parent);
-        self.finish();
+        for _ in 0..self.chance.below(2) * 512 {
+            let _ = self.close();
+            let _ = self.free();
+        }
+        if self.chance.below(2) == 0 {
+            let _ = ask!(self, exit());
+            let is_over = self.own.alloc(16).is_err();
+            self.claim(is_over, "it goes on after its end");
+        }
     }
 
     fn act(&mut self) -> Option<()> {
@@ -119,73 +110,59 @@ impl<'a, P: Process> Player<'a, P> {
                 let _ = self.give(&line, false);
                 self.lines.push(line).ok()
             }
-            45..=56 => self.take(false),
-            57 => self.close_one(),
+            45..=56 => {
+                let mut lines = replace(&mut self.lines, Vec::new(self.round.alloc));
+                let _ = self.take(&mut lines, false);
+                self.lines.append(&mut lines).ok()
+            }
+            57 => self.close(),
             58 | 59 => {
                 let (line, other) = self.connect(None)?;
-                self.lines.push(line).ok()?;
+                self.keep_line(Some(line));
                 self.lines.push(other).ok()
             }
             60 | 61 => self.start(),
-            62 => self.look_over(),
-            _ => self.kill(),
+            62 => {
+                let seen = Ok::<_, Refused>(self.own.overview());
+                self.judge("overview", seen).map(|_seen| ())
+            }
+            _ if self.round.kills() => {
+                let number = self.chance.below(256) as u16;
+                ask!(self, kill(number)).map(|_bytes| ())
+            }
+            _ => None,
         }
     }
 
-    // It closes and frees all that it has, or ends, or both, or neither.
-    fn finish(&mut self) {
-        let closes = self.chance.below(2) == 0;
-        for _ in 0..self.lines.len() * usize::from(closes) {
-            let _ = self.close_one();
-        }
-        for _ in 0..self.pieces.len() * usize::from(closes) {
-            let _ = self.free();
-        }
-        if !self.is_over && self.chance.below(2) == 0 {
-            let bytes = ask!(self, exit()).unwrap_or(0);
-            let is_so = !closes || self.round.is_scarce || bytes == 0;
-            self.claim(is_so, "a process has more than it knows");
-            let after = self.own.alloc(16);
-            self.claim(
-                matches!(after, Err(Refused::Ended)),
-                "it goes on after its end",
-            );
-        }
-    }
-
-    fn claim(&self, is_so: bool, wrong: &'static str) {
+    fn claim(&self, is_so: bool, wrong: &'static str) -> Option<()> {
         let mut first = self.round.wrong.lock(&self.own.rt());
         if !is_so && first.is_empty() {
             *first = wrong;
         }
+        Some(())
     }
 
-    // Counts an answer of a call, or judges its refusal: it may be, and comes when it may.
-    fn judge<T: Drop, E: Into<Refused> + Drop>(
-        &mut self,
-        call: &'static str,
-        told: Result<T, E>,
-    ) -> Option<T> {
+    // Counts an answer of a call; a refusal is one that may be.
+    fn judge<T: Drop, E: Into<Refused>>(&mut self, call: &str, told: Result<T, E>) -> Option<T> {
         let why: Refused = match told {
             Ok(value) => {
-                let at = CALLS.split(' ').position(|it| it == call).unwrap_or(63);
-                self.round.add(ANSWERED, (at % 64) as u16, 1);
+                let at = CALLS.split(' ').position(|it| it == call);
+                self.round.add(ANSWERED, at.unwrap_or(63), 1);
                 return Some(value);
             }
             Err(why) => why.into(),
         };
-        let (kills, name) = (self.round.kills, why.name());
-        let is_so = match name {
+        self.why = why.name();
+        let is_so = match self.why {
             "NoSpace" | "NoRecord" => call != "alloc_wait",
-            "Full" | "Empty" => kills || !call.ends_with("_wait"),
-            "Ended" => kills,
+            "Full" | "Empty" => !call.ends_with("_wait") || self.round.kills(),
+            "Ended" => self.round.kills(),
             "OutOfMemory" => self.round.is_scarce,
-            "NoChannel" | "NoPlace" | "NoProcess" | "BadCut" | "PeerClosed" | "Protocol" | "Worn" =>
-                true,
+            "NoChannel" | "NoPlace" | "NoProcess" | "PeerClosed" => true,
+            "BadCut" | "BadSize" | "Protocol" | "Worn" => true,
             _ => false,
         };
-        self.claim(is_so, name);
-        self.is_over |= name == "Ended" && call != "kill";
+        self.claim(is_so, self.why);
         None
     }
 
@@ -193,125 +170,87 @@ impl<'a, P: Process> Player<'a, P> {
         Duration::from_millis(u64::from(self.chance.below(3)))
     }
 
-    pub(crate) fn keep_line(&mut self, line: Option<Line>) {
+    fn keep_line(&mut self, line: Option<Line>) {
         let _ = line.and_then(|line| self.lines.push(line).ok());
     }
 
-    // A new block is as it was asked for. One of the last arena, for whose memory all wait, goes at once.
+    // A new block is as it was asked for. One of the last arena goes at once.
     fn make(&mut self) -> Option<()> {
-        let most = self.round.config.bytes >> (2 * self.chance.below(5));
-        let (n, how) = (
-            self.chance.below(most).saturating_add(1),
-            self.chance.below(6),
-        );
-        let last = u32::from(self.round.config.arenas).saturating_sub(1);
-        let (arena, mut bytes) = (self.chance.below(last), Vec::new(self.round.alloc));
+        let most = 2 << self.chance.below(10);
+        let n = 16 * self.chance.below(most) + 16;
+        let (how, time, arena) = (self.chance.below(6), self.time(), self.chance.below(2));
+        let mut bytes = Vec::new(self.round.alloc);
         bytes.resize(n as usize, 7).ok()?;
-        let time = self.time();
-        let made = match how {
+        let block = match how {
             0 => ask!(self, alloc(n)),
             1 => ask!(self, alloc_in(arena, n)),
             2 => ask!(self, alloc_for(arena, n, time)),
-            3 => ask!(self, alloc_wait(last, n)),
+            3 => ask!(self, alloc_wait(2, n)),
             4 => ask!(self, put(&mut bytes)),
             _ => ask!(self, put_in(arena, &mut bytes)),
-        };
-        let is_moved = how > 3 && made.is_some();
-        self.claim(
-            bytes.is_empty() == is_moved,
-            "bytes are in two places, or in none",
-        );
-        let (block, filled) = (made?, if how > 3 { n as usize } else { 0 });
-        let is_filled = |bytes: &[u8]| {
-            let (start, rest) = bytes.split_at(filled.min(bytes.len()));
-            start.iter().all(|it| *it == 7) && rest.iter().all(|it| *it == 0)
-        };
+        }?;
+        let byte = if how > 3 { 7 } else { 0 };
+        let is_filled = |bytes: &[u8]| bytes.iter().all(|it| *it == byte);
         let is_so = ask!(self, with_bytes(&block, is_filled)) != Some(false);
-        self.claim(
-            is_so && block.len() == n.next_multiple_of(16),
-            "a new block has other bytes",
-        );
-        let _ = ask!(
-            self,
-            with_bytes_mut(&block, |bytes: &mut [u8]| bytes.fill(9))
-        );
+        let is_whole = block.len() == n && bytes.is_empty() == (how > 3);
+        self.claim(is_so && is_whole, "a new block has other bytes");
+        let _ = ask!(self, with_bytes_mut(&block, |bytes| bytes.fill(9)));
         if how == 3 {
-            ask!(self, free(block))?;
-            return Some(());
+            return ask!(self, free(block)).map(|_bytes| ());
         }
         self.keep(block)
     }
 
-    // A block is stamped at both ends.
-    fn stamp(&mut self, block: &Block, stamp: u64) {
-        for at in [0, block.len().saturating_sub(8)] {
-            let _ = ask!(self, write(block, at, &stamp.to_le_bytes()));
-        }
-    }
-
-    fn check(&mut self, block: &Block, at: u32, stamp: u64) {
-        let mut word = [0; 8];
-        let told = ask!(self, read(block, at, &mut word));
-        self.claim(
-            told.is_none() || word == stamp.to_le_bytes(),
-            "a block has another stamp",
-        );
-    }
-
-    // What was made, cut or came gets a stamp of its own.
+    // What was made, cut or came gets a stamp at both ends.
     fn keep(&mut self, block: Block) -> Option<()> {
         let _next = self.chance.below(1);
-        let stamp = self.chance.0;
-        self.stamp(&block, stamp);
-        self.pieces.push((block, stamp)).ok()
+        let stamp = self.chance.0.to_le_bytes();
+        for at in [0, block.len().saturating_sub(8)] {
+            let _ = ask!(self, write(&block, at, &stamp));
+        }
+        self.blocks.push((block, stamp)).ok()
     }
 
-    // A block, whose stamps are as they were left.
-    fn pick(&mut self) -> Option<(Block, u64)> {
-        let (block, stamp) = self.chance.pick(&mut self.pieces)?;
-        self.check(&block, 0, stamp);
-        self.check(&block, block.len().saturating_sub(8), stamp);
-        Some((block, stamp))
+    // What a block is stamped with, at both ends.
+    fn stamp(&mut self, block: &Block) -> Option<[u8; 8]> {
+        let (mut first, mut last) = ([0; 8], [0; 8]);
+        ask!(self, read(block, 0, &mut first))?;
+        ask!(self, read(block, block.len().saturating_sub(8), &mut last))?;
+        self.claim(first == last, "a block has two stamps");
+        Some(first)
+    }
+
+    fn pick(&mut self) -> Option<Block> {
+        let (block, stamp) = self.chance.pick(&mut self.blocks)?;
+        let is_so = self.stamp(&block).is_none_or(|it| it == stamp);
+        self.claim(is_so, "a block has another stamp");
+        Some(block)
     }
 
     fn cut(&mut self) -> Option<()> {
-        let (mut block, stamp) = self.pick()?;
-        let (len, k) = (
-            block.len(),
-            self.chance.below(block.len() / 16).saturating_mul(16),
-        );
+        let mut block = self.pick()?;
+        let (len, k) = (block.len(), 16 * self.chance.below(block.len() / 16));
         if let Some(tail) = ask!(self, split(&mut block, k)) {
-            self.check(&block, 0, stamp);
-            self.check(&tail, tail.len().saturating_sub(8), stamp);
-            self.claim(
-                block.len() == k && tail.len() == len.saturating_sub(k),
-                "a cut has other lengths",
-            );
+            let is_so = block.len() == k && tail.len() == len.saturating_sub(k);
+            self.claim(is_so, "a cut has other lengths");
             let _ = self.keep(tail);
         }
         self.keep(block)
     }
 
     fn free(&mut self) -> Option<()> {
-        let (block, _) = self.pick()?;
+        let block = self.pick()?;
         let len = block.len() as usize;
         let back = match self.chance.below(2) {
             0 => ask!(self, free(block))? as usize,
             _ => ask!(self, into_bytes(block))?.len(),
         };
-        self.claim(back == len, "not all bytes went back");
-        Some(())
+        self.claim(back == len, "not all bytes went back")
     }
 
-    fn close_one(&mut self) -> Option<()> {
+    fn close(&mut self) -> Option<()> {
         let line = self.chance.pick(&mut self.lines)?;
-        self.close(line)
-    }
-
-    fn close(&mut self, line: Line) -> Option<()> {
-        let bytes = ask!(self, close(line.end))?;
-        self.claim(bytes >= 32, "an end has less than its own bytes");
-        Some(())
+        ask!(self, close(line.0)).map(|_bytes| ())
     }
 
     // Starts a child on a thread, with a channel on which it waits for the child, and another.
@@ -320,219 +259,138 @@ impl<'a, P: Process> Player<'a, P> {
         let (line, parent) = self.connect(Some(&child))?;
         self.children.push(line).ok()?;
         let (line, other) = self.connect(Some(&child))?;
-        self.lines.push(line).ok()?;
-        let task = ([Some(other), Some(parent)], self.acts / 4);
+        self.keep_line(Some(line));
+        let task = (Some(other), Some(parent), self.acts / 4);
         let told = self.threads.start(child, task);
         self.judge("start", told)
     }
 
-    // Ends the process of any number: where there was none, nothing is ended.
-    fn kill(&mut self) -> Option<()> {
-        let number = self.chance.below(256);
-        if self.round.kills {
-            ask!(self, kill(number as u16))?;
-        }
-        Some(())
-    }
-
-    fn look_over(&mut self) -> Option<()> {
-        let seen = self.own.overview();
-        let seen = self.judge("overview", Ok::<_, Refused>(seen))?;
-        let is_so = seen.arenas.len() == usize::from(self.round.config.arenas);
-        self.claim(is_so, "other arenas are seen");
-        Some(())
-    }
-
     // A new channel of its own, or to another. By the contract side 0 alone gives, and no end.
     fn connect(&mut self, other: Option<&P>) -> Option<(Line, Line)> {
-        let is_ruled = self.chance.below(4) == 0;
         let row = Row {
             state: 0,
             tag: NO_END,
             side: 0,
             next: 0,
         };
+        let is_ruled = self.chance.below(4) == 0;
         let rules = Contract::new(&[row]).ok().filter(|_| is_ruled);
-        let ends = match (other, rules) {
+        let (end, high) = match (other, rules) {
             (None, None) => ask!(self, open()),
             (None, Some(rules)) => ask!(self, open_with(rules)),
             (Some(other), None) => ask!(self, wire(other)),
             (Some(other), Some(rules)) => ask!(self, wire_with(other, rules)),
-        };
-        Some(self.round.named(ends?, is_ruled))
+        }?;
+        let name = 2 * (self.round.add(CHANNELS, 0, 1) % 32_000) as u16;
+        Some((Line(end, name), Line(high, name + 1)))
     }
 
-    // An end that may be sent there: one of a channel that was opened later, so that none is on its way to itself.
-    fn later_than(&mut self, line: &Line) -> Option<Line> {
-        let at = self
-            .lines
-            .iter()
-            .position(|it| it.name / 4 > line.name / 4)?;
-        if at < self.lines.len() {
-            Some(self.lines.swap_remove(at))
-        } else {
-            None
-        }
-    }
-
-    // Gives bytes, or blocks and perhaps an end, and has again what comes back. It waits for room, or for a time at most.
+    // Gives blocks and perhaps an end, or bytes. It waits for room, or for a time at most. A message has the next number.
     fn give(&mut self, line: &Line, waits: bool) -> Option<()> {
-        let (to, mut tag, mut items) = (line.name ^ 1, NO_END, Items::new());
-        let stamp = sent(to, self.round.add(GIVEN, to, 0).wrapping_add(1));
+        let (mut items, mut tag) = (Items::new(), NO_END);
         for _ in 0..self.chance.below(8) {
-            if let Some((block, _)) = self.pick() {
-                self.stamp(&block, stamp);
+            if let Some(block) = self.pick() {
                 let _ = items.try_push(Item::Block(block));
             }
         }
-        if self.chance.below(4) == 0
-            && let Some(Line { end, name }) = self.later_than(line)
+        // An end of a channel that was opened later, so that none is on its way to itself.
+        let later = self.lines.iter().position(|it| it.1 > line.1 | 1);
+        if let Some(at) = later
+            && at < self.lines.len()
         {
+            let Line(end, name) = self.lines.swap_remove(at);
             tag = name;
             let _ = items.try_push(Item::End(end));
         }
-        let back = match items.pop() {
-            None => return self.give_bytes(line, waits, stamp),
-            Some(Item::Block(block)) if items.is_empty() => {
-                self.send(line, tag, block, waits)?.map(Item::Block)
+        let no = if items.is_empty() {
+            self.give_bytes(&line.0, waits)
+        } else {
+            self.give_items(&line.0, waits, tag, items)
+        }?;
+        let given = self.round.add(GIVEN, usize::from(line.1 ^ 1), 1);
+        self.claim(no == given.wrapping_add(1), "a message has another number")
+    }
+
+    fn give_bytes(&mut self, end: &End, waits: bool) -> Option<u64> {
+        let (mut bytes, tag, time) = (Vec::new(self.round.alloc), NO_END, self.time());
+        bytes.resize(16, 5).ok()?;
+        match (waits, self.chance.below(2)) {
+            (true, 0) => ask!(self, give_bytes_wait(end, tag, &mut bytes)),
+            (true, _) => ask!(self, give_bytes_in_wait(1, end, tag, &mut bytes)),
+            (_, 0) => ask!(self, give_bytes_for(end, tag, &mut bytes, time)),
+            _ => ask!(self, give_bytes_in_for(1, end, tag, &mut bytes, time)),
+        }
+    }
+
+    // What comes back it has again.
+    fn give_items(&mut self, end: &End, waits: bool, tag: u16, items: Items) -> Option<u64> {
+        let (how, time) = (self.chance.below(2), self.time());
+        let (call, told) = match how {
+            _ if waits => ("give_wait", self.own.give_wait(end, tag, items)),
+            0 => ("give", self.own.give(end, tag, items)),
+            _ => ("give_for", self.own.give_for(end, tag, items, time)),
+        };
+        match told {
+            Ok(no) => self.judge(call, Ok::<_, Refused>(no)),
+            Err(Returned { why, value }) => {
+                self.unpack(value, tag);
+                self.judge(call, Err(why))
             }
-            Some(Item::End(end)) if items.is_empty() => {
-                self.send(line, tag, end, waits)?.map(Item::End)
-            }
-            last => {
-                let _ = last.and_then(|last| items.try_push(last).ok());
-                let items = self.send(line, tag, items, waits)?;
-                self.unpack(items, tag, stamp);
+        }
+    }
+
+    // Takes at one of these ends, or at several. It waits, or for a time at most. Messages come in order, without a gap.
+    fn take(&mut self, lines: &mut Vec<Line>, waits: bool) -> Option<()> {
+        let (how, time) = (self.chance.below(5), self.time());
+        let mut at = self.chance.below(64) as usize % lines.len().max(1);
+        let (end, ends) = (&lines.get(at)?.0, &lines[..lines.len().min(64)]);
+        let mut any = None;
+        let mut came = match how {
+            0 | 1 if waits => ask!(self, take_wait(end)).map(Came::Message),
+            2 if waits => ask!(self, take_bytes_wait(end)),
+            0 => ask!(self, take(end)).map(Came::Message),
+            1 => ask!(self, take_for(end, time)).map(Came::Message),
+            2 => ask!(self, take_bytes_for(end, time)),
+            _ => {
+                any = match how {
+                    _ if waits => ask!(self, take_any_wait(ends)),
+                    3 => ask!(self, take_any(ends)),
+                    _ => ask!(self, take_any_for(ends, time)),
+                };
                 None
             }
         };
-        let mut items = Items::new();
-        let _ = items.try_push(back?);
-        self.unpack(items, tag, stamp);
-        Some(())
-    }
-
-    fn send<L: Load>(&mut self, line: &Line, tag: u16, load: L, waits: bool) -> Option<L::Back> {
-        let (how, time) = (self.chance.below(2), self.time());
-        let (call, told) = match how {
-            _ if waits => ("give_wait", self.own.give_wait(&line.end, tag, load)),
-            0 => ("give", self.own.give(&line.end, tag, load)),
-            _ => ("give_for", self.own.give_for(&line.end, tag, load, time)),
-        };
-        let (told, back) = match told {
-            Ok(no) => (Ok(no), None),
-            Err(Returned { why, value }) => (Err(why), Some(value)),
-        };
-        let no = self.judge(call, told);
-        self.count_given(line, no);
-        back
-    }
-
-    // A message that was given has the next number.
-    fn count_given(&mut self, line: &Line, no: Option<u64>) {
-        if let Some(no) = no {
-            let given = self.round.add(GIVEN, line.name ^ 1, 1);
-            self.claim(no == given.wrapping_add(1), "a message has another number");
+        if let Some(answered) = any {
+            at = answered.at;
+            came = self.judge("", answered.answer).map(Came::Message);
         }
-    }
-
-    fn give_bytes(&mut self, line: &Line, waits: bool, stamp: u64) -> Option<()> {
-        let most = u32::from(self.round.config.arenas).saturating_sub(1);
-        let (arena, time, end) = (self.chance.below(most), self.time(), &line.end);
-        let mut bytes = Vec::new(self.round.alloc);
-        bytes.extend_from_slice(&stamp.to_le_bytes()).ok()?;
-        bytes.extend_from_slice(&stamp.to_le_bytes()).ok()?;
-        let no = match (waits, arena) {
-            (true, 0) => ask!(self, give_bytes_wait(end, NO_END, &mut bytes)),
-            (true, _) => ask!(self, give_bytes_in_wait(arena, end, NO_END, &mut bytes)),
-            (_, 0) => ask!(self, give_bytes_for(end, NO_END, &mut bytes, time)),
-            _ => ask!(
-                self,
-                give_bytes_in_for(arena, end, NO_END, &mut bytes, time)
-            ),
-        };
-        let is_so = bytes.is_empty() == no.is_some() || self.round.kills;
-        self.claim(is_so, "bytes are in two places, or in none");
-        self.count_given(line, no);
-        Some(())
-    }
-
-    // Takes at one of its ends, or at one of several. It waits at those of its children, elsewhere for a time at most.
-    fn take(&mut self, waits: bool) -> Option<()> {
-        let (how, time) = (self.chance.below(5), self.time());
-        let lines = if waits { &self.children } else { &self.lines };
-        let mut at = self.chance.below(64) as usize % lines.len().max(1);
-        let (ends, end) = (&lines[..lines.len().min(64)], &lines.get(at)?.end);
-        let (call, told) = match how {
-            0 | 1 if waits => ("take_wait", self.own.take_wait(end).map(Came::Message)),
-            2 if waits => ("take_bytes_wait", self.own.take_bytes_wait(end)),
-            _ if waits => (
-                "take_any_wait",
-                came_at(self.own.take_any_wait(ends), &mut at),
-            ),
-            0 => ("take", self.own.take(end).map(Came::Message)),
-            1 => ("take_for", self.own.take_for(end, time).map(Came::Message)),
-            2 => ("take_bytes_for", self.own.take_bytes_for(end, time)),
-            3 => ("take_any", came_at(self.own.take_any(ends), &mut at)),
-            _ => (
-                "take_any_for",
-                came_at(self.own.take_any_for(ends, time), &mut at),
-            ),
-        };
-        let lines = if waits {
-            &mut self.children
-        } else {
-            &mut self.lines
-        };
-        if at >= lines.len() {
-            return None;
-        }
-        let line = lines.swap_remove(at);
-        if let Err(Refused::PeerClosed { .. }) = told {
-            let (given, taken) = (
-                self.round.add(GIVEN, line.name, 0),
-                self.round.add(TAKEN, line.name, 0),
-            );
+        let name = usize::from(lines.get(at)?.1);
+        let taken = self.round.add(TAKEN, name, u64::from(came.is_some()));
+        if came.is_none() && self.why == "PeerClosed" {
+            let given = self.round.add(GIVEN, name, 0);
             self.claim(given <= taken, "a message is lost that a closed peer gave");
-            return self.close(line);
+            return ask!(self, close(lines.swap_remove(at).0)).map(|_bytes| ());
         }
-        if let Some(came) = self.judge(call, told) {
-            self.receive(line.name, came);
-        }
-        let lines = if waits {
-            &mut self.children
-        } else {
-            &mut self.lines
-        };
-        lines.push(line).ok()
-    }
-
-    fn receive(&mut self, to: u16, came: Came) {
-        let next = self.round.add(TAKEN, to, 1).wrapping_add(1);
-        let (no, tag, items) = match came {
-            Came::Message(Message { no, tag, items }) => (no, tag, items),
-            Came::Bytes { no, tag, bytes } => {
-                let word = sent(to, no).to_le_bytes();
-                let is_so = bytes.starts_with(&word) && bytes.ends_with(&word);
-                self.claim(is_so, "bytes of another message came");
-                (no, tag, Items::new())
+        let (no, tag) = match came? {
+            Came::Bytes { no, tag, .. } => (no, tag),
+            Came::Message(Message { no, tag, items }) => {
+                self.unpack(items, tag);
+                (no, tag)
             }
         };
-        self.claim(no == next, "a message is not the next one");
-        self.unpack(items, tag, sent(to, no));
+        self.claim(no == taken.wrapping_add(1), "a message is not the next one")
     }
 
     // What came by a message, or came back. An end is named by the tag.
-    fn unpack(&mut self, items: Items, tag: u16, stamp: u64) {
-        for item in items.into_iter() {
+    fn unpack(&mut self, items: Items, tag: u16) {
+        for item in items {
             match item {
                 Item::Block(block) => {
-                    self.check(&block, 0, stamp);
-                    self.check(&block, block.len().saturating_sub(8), stamp);
+                    let _ = self.stamp(&block);
                     let _ = self.keep(block);
                 }
-                Item::End(end) => self.keep_line(Some(Line { end, name: tag })),
-                Item::Missing => self.claim(self.round.kills, "an item is missing"),
+                Item::End(end) => self.keep_line(Some(Line(end, tag))),
+                Item::Missing => drop(self.claim(self.round.kills(), "an item is missing")),
             }
         }
     }

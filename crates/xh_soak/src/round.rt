@@ -1,12 +1,14 @@
 //! A round: how it goes, by its seed, and what its processes share beside the heap.
 ghost use Rattle.std.specs.Prelude.{◌≤◌};
 
-use crate::player::{Line, Player, Task};
+use crate::player::{Player, Task};
 use std::alloc::{AllocError, Global};
-use std::sync::Mutex;
 use std::sync::atomic::AtomicU64;
 use std::sync::atomic::Ordering::SeqCst;
-use xh_heap::{Config, End, Host, Process, Refused, Starter, Team, one_arena};
+use std::sync::{Mutex, Wait};
+use std::thread::Threads;
+use std::time::Clock;
+use xh_heap::{Config, Host, Process, Refused, Starter, Team, run};
 
 /// What is counted: the calls of a process, and the start of its thread.
 pub(crate) const CALLS: &str =
@@ -15,15 +17,17 @@ pub(crate) const CALLS: &str =
     give_bytes_in_wait give_bytes_for give_bytes_in_for take take_wait take_for take_bytes_wait \
     take_bytes_for take_any take_any_wait take_any_for close exit kill overview";
 
-/// Where the words begin that count the messages given to an end and taken there, by its name, and the answers of a call.
+/// Where words begin: of the messages given to an end and taken there, by its name, of the channels, and of the calls.
 pub(crate) const GIVEN: usize = 0;
 
 pub(crate) const TAKEN: usize = 65_536;
 
-pub(crate) const ANSWERED: usize = 131_072;
+pub(crate) const CHANNELS: usize = 131_072;
 
-// The word that counts the channels.
-const CHANNELS: usize = 131_136;
+pub(crate) const ANSWERED: usize = 131_073;
+
+/// The arenas of a heap. All wait for memory of the last.
+pub(crate) const ARENAS: u8 = 3;
 
 /// Numbers at random, by a seed.
 #[derive(Clone, Copy, Debug)]
@@ -50,64 +54,69 @@ impl Chance {
     }
 }
 
-/// What the processes of a round share: its plan, words, and what was wrong first.
+/// What the processes of a round share: its seed, words, and what was wrong first.
 #[derive(Drop)]
 pub(crate) struct Round {
     pub(crate) alloc: Global,
     pub(crate) seed: u64,
     pub(crate) is_scarce: bool,
-    pub(crate) config: Config,
-    pub(crate) workers: u8,
-    pub(crate) kills: bool,
     pub(crate) wrong: Mutex<&'static str>,
     words: Vec<AtomicU64>,
 }
 
 impl Round {
-    /// In most rounds memory is nearly full, in one of four an arena wears out, and in one of two processes are killed.
-    pub(crate) fn new(alloc: Global, seed: u64, is_scarce: bool) -> Result<Round, AllocError> {
-        let mut chance = Chance(seed.wrapping_mul(1024).wrapping_add(1023));
-        let wears = chance.below(4) == 0;
-        let config = Config {
-            arenas: (chance.below(3) + 2) as u8,
-            bytes: 16 * chance.below(1024) + 1024,
-            records: (chance.below(200) + 32) as u16,
-            depth: (chance.below(15) + 1) as u8,
-            wear: if wears { 262_144 } else { one_arena(16).wear },
-        };
+    pub(crate) fn new(alloc: Global, is_scarce: bool) -> Result<Round, AllocError> {
         let mut words = Vec::new(alloc);
-        for _ in 0..CHANNELS + 1 {
+        for _ in 0..ANSWERED + 64 {
             words.push(AtomicU64::new(0))?;
         }
+        let wrong = Mutex::new("");
         Ok(Round {
             alloc,
-            seed,
+            seed: 0,
             is_scarce,
-            config,
-            workers: (chance.below(8) + 1) as u8,
-            kills: chance.below(2) == 0,
-            wrong: Mutex::new(""),
+            wrong,
             words,
         })
     }
 
+    /// In every other round processes are killed.
+    pub(crate) fn kills(&self) -> bool {
+        self.seed % 2 == 1
+    }
+
     /// Adds so much to a word: what it was before.
-    pub(crate) fn add(&self, kind: usize, at: u16, more: u64) -> u64 {
-        let word = self.words.get(kind.wrapping_add(usize::from(at)));
+    pub(crate) fn add(&self, kind: usize, at: usize, more: u64) -> u64 {
+        let word = self.words.get(kind.wrapping_add(at));
         word.map_or(0, |word| word.fetch_add(more, SeqCst))
     }
 
-    /// Both ends of a new channel, by their names.
-    pub(crate) fn named(&self, ends: (End, End), is_ruled: bool) -> (Line, Line) {
-        let channel = (self.add(CHANNELS, 0, 1) % 16_000) as u16;
-        let (name, (end, other)) = (channel * 4 + 2 * u16::from(is_ruled), ends);
-        (
-            Line { end, name },
-            Line {
-                end: other,
-                name: name + 1,
-            },
-        )
+    /// Plays it on a heap whose memory is nearly full: what was wrong, or nothing.
+    pub(crate) fn play<R: Threads + Wait + Clock + Sync>(
+        &self,
+        rt: &R,
+    ) -> Result<&'static str, Refused> {
+        for word in self.words.iter().take(ANSWERED) {
+            word.store(0, SeqCst);
+        }
+        let mut chance = Chance(self.seed.wrapping_mul(1024));
+        let _first = chance.below(1);
+        let config = Config {
+            arenas: ARENAS,
+            bytes: 16 * chance.below(1024) + 1024,
+            records: (chance.below(200) + 32) as u16,
+            depth: (chance.below(15) + 1) as u8,
+            wear: 1 << (chance.below(12) + 18),
+        };
+        let workers = (chance.below(7) + 1) as u8;
+        let closed = run(rt, self.alloc, config, workers, self)?;
+        let (ledger, wrong) = (&closed.books.ledger, *self.wrong.lock(rt));
+        let is_whole = ledger.arenas.iter().all(|it| it.out == 0 && it.holes == 1);
+        Ok(match wrong {
+            "" if ledger.owned != 0 => "an ended process owns blocks",
+            "" if ledger.flight != 0 || !is_whole => "blocks are lost",
+            wrong => wrong,
+        })
     }
 }
 
@@ -123,11 +132,10 @@ impl Host for Round {
     }
 
     fn work<P: Process>(&self, _: &(), _index: usize, own: &mut P, threads: &Starter<P, Task>) {
-        Player::new(own, threads, self, 400).play([None, None]);
+        Player::new(own, threads, self).play((None, None, 400));
     }
 
     fn serve<P: Process>(&self, _: &(), task: Task, own: &mut P, threads: &Starter<P, Task>) {
-        let (ends, acts) = task;
-        Player::new(own, threads, self, acts).play(ends);
+        Player::new(own, threads, self).play(task);
     }
 }
