@@ -1,31 +1,15 @@
 //! A process that acts at random, and judges what it is answered.
-ghost use Rattle.xh_heap.specs.declared.values.End.{End};
 
-use crate::round::{ANSWERED, ARENAS, CALLS, CHANNELS, Chance, GIVEN, Round, TAKEN};
+use crate::round::{ANSWERED, CALLS, CHANNELS, Chance, GIVEN, Line, Round, TAKEN, Task};
 use std::mem::replace;
 use std::time::Duration;
 use xh_heap::{
-    Answered, AsEnd, Block, Came, Contract, End, Item, Items, Message, Process, Refused, Returned,
-    Row, Starter,
+    Answered, Block, Came, Contract, End, Item, Items, Message, Process, Refused, Returned, Row,
+    Starter,
 };
 
 // The tag of a message without an end; else it is the end's name.
 const NO_END: u16 = 65_535;
-
-/// An end, and its name: 2 for each channel before its own, and its side.
-#[derive(Drop)]
-pub(crate) struct Line(End, u16);
-
-impl AsEnd for Line {
-    ghost shows = { λ line. line.0 };
-
-    fn as_end(&self) -> &End {
-        &self.0
-    }
-}
-
-/// What a process is started for: so many acts, with an end that may go anywhere, and one of a channel to its parent.
-pub(crate) type Task = (Option<Line>, Option<Line>, u32);
 
 /// A process, and what it has: blocks, each with what it begins and ends in, ends that may go anywhere, and those of the channels
 /// to its children; and why its last refusal was.
@@ -50,10 +34,16 @@ macro_rules! ask {
     }};
 }
 
+// What a take at several ends answers, and at which.
+fn came(told: Result<Answered, Refused>, at: &mut usize) -> Result<Came, Refused> {
+    let answered = told?;
+    *at = answered.at;
+    answered.answer.map(Came::Message)
+}
+
 impl<'a, P: Process> Player<'a, P> {
     pub(crate) fn new(own: &'a mut P, threads: &'a Starter<P, Task>, round: &'a Round) -> Self {
-        let seed = round.seed.wrapping_mul(65_536);
-        let chance = Chance(seed.wrapping_add(u64::from(own.number())));
+        let chance = Chance(round.seed.wrapping_mul(65_536) ^ u64::from(own.number()));
         Player {
             own,
             threads,
@@ -70,7 +60,7 @@ impl<'a, P: Process> Player<'a, P> {
     /// Acts, hears its children until each has ended, and tells its parent, which does so too: it waits without an end for them
     /// alone, and for memory that nobody keeps. Then it closes and frees all that it has, or ends, or both, or neither.
     pub(crate) fn play(&mut self, (line, parent, acts): Task) {
-        self.keep_line(line);
+        let _ = line.and_then(|line| self.lines.push(line).ok());
         self.acts = acts;
         for _ in 0..acts {
             let _ = self.act();
@@ -87,7 +77,7 @@ impl<'a, P: Process> Player<'a, P> {
             for _ in 0..20 {
                 let _ = self.give(&parent, true);
             }
-            self.keep_line(Some(parent));
+            let _ = self.lines.push(parent);
         }
         for _ in 0..self.chance.below(2) * 512 {
             let _ = self.close();
@@ -101,6 +91,7 @@ impl<'a, P: Process> Player<'a, P> {
     }
 
     fn act(&mut self) -> Option<()> {
+        let number = self.chance.below(256) as u16;
         match self.chance.below(64) {
             0..=14 => self.make(),
             15..=20 => self.cut(),
@@ -118,7 +109,7 @@ impl<'a, P: Process> Player<'a, P> {
             57 => self.close(),
             58 | 59 => {
                 let (line, other) = self.connect(None)?;
-                self.keep_line(Some(line));
+                let _ = self.lines.push(line);
                 self.lines.push(other).ok()
             }
             60 | 61 => self.start(),
@@ -126,10 +117,7 @@ impl<'a, P: Process> Player<'a, P> {
                 let seen = Ok::<_, Refused>(self.own.overview());
                 self.judge("overview", seen).map(|_seen| ())
             }
-            _ if self.round.kills() => {
-                let number = self.chance.below(256) as u16;
-                ask!(self, kill(number)).map(|_bytes| ())
-            }
+            _ if self.round.kills() => ask!(self, kill(number)).map(|_bytes| ()),
             _ => None,
         }
     }
@@ -170,14 +158,14 @@ impl<'a, P: Process> Player<'a, P> {
         Duration::from_millis(u64::from(self.chance.below(3)))
     }
 
-    fn keep_line(&mut self, line: Option<Line>) {
-        let _ = line.and_then(|line| self.lines.push(line).ok());
-    }
-
     // A new block is as it was asked for. One of the last arena goes at once.
     fn make(&mut self) -> Option<()> {
-        let most = 2 << self.chance.below(10);
-        let n = 16 * self.chance.below(most) + 16;
+        let most = 2 << self.chance.below(8);
+        let n = self
+            .chance
+            .below(most)
+            .saturating_mul(16)
+            .saturating_add(16);
         let (how, time, arena) = (self.chance.below(6), self.time(), self.chance.below(2));
         let mut bytes = Vec::new(self.round.alloc);
         bytes.resize(n as usize, 7).ok()?;
@@ -229,7 +217,8 @@ impl<'a, P: Process> Player<'a, P> {
 
     fn cut(&mut self) -> Option<()> {
         let mut block = self.pick()?;
-        let (len, k) = (block.len(), 16 * self.chance.below(block.len() / 16));
+        let len = block.len();
+        let k = self.chance.below(len / 16).saturating_mul(16);
         if let Some(tail) = ask!(self, split(&mut block, k)) {
             let is_so = block.len() == k && tail.len() == len.saturating_sub(k);
             self.claim(is_so, "a cut has other lengths");
@@ -259,7 +248,7 @@ impl<'a, P: Process> Player<'a, P> {
         let (line, parent) = self.connect(Some(&child))?;
         self.children.push(line).ok()?;
         let (line, other) = self.connect(Some(&child))?;
-        self.keep_line(Some(line));
+        let _ = self.lines.push(line);
         let task = (Some(other), Some(parent), self.acts / 4);
         let told = self.threads.start(child, task);
         self.judge("start", told)
@@ -344,27 +333,22 @@ impl<'a, P: Process> Player<'a, P> {
         let (how, time) = (self.chance.below(5), self.time());
         let mut at = self.chance.below(64) as usize % lines.len().max(1);
         let (end, ends) = (&lines.get(at)?.0, &lines[..lines.len().min(64)]);
-        let mut any = None;
-        let mut came = match how {
-            0 | 1 if waits => ask!(self, take_wait(end)).map(Came::Message),
-            2 if waits => ask!(self, take_bytes_wait(end)),
-            0 => ask!(self, take(end)).map(Came::Message),
-            1 => ask!(self, take_for(end, time)).map(Came::Message),
-            2 => ask!(self, take_bytes_for(end, time)),
-            _ => {
-                any = match how {
-                    _ if waits => ask!(self, take_any_wait(ends)),
-                    3 => ask!(self, take_any(ends)),
-                    _ => ask!(self, take_any_for(ends, time)),
-                };
-                None
-            }
+        let own = &mut *self.own;
+        let (call, told) = match how {
+            0 | 1 if waits => ("take_wait", own.take_wait(end).map(Came::Message)),
+            2 if waits => ("take_bytes_wait", own.take_bytes_wait(end)),
+            _ if waits => ("take_any_wait", came(own.take_any_wait(ends), &mut at)),
+            0 => ("take", own.take(end).map(Came::Message)),
+            1 => ("take_for", own.take_for(end, time).map(Came::Message)),
+            2 => ("take_bytes_for", own.take_bytes_for(end, time)),
+            3 => ("take_any", came(own.take_any(ends), &mut at)),
+            _ => ("take_any_for", came(own.take_any_for(ends, time), &mut at)),
         };
-        if let Some(answered) = any {
-            at = answered.at;
-            came = self.judge("", answered.answer).map(Came::Message);
+        let came = self.judge(call, told);
+        if at >= lines.len() {
+            return None;
         }
-        let name = usize::from(lines.get(at)?.1);
+        let name = usize::from(lines[at].1);
         let taken = self.round.add(TAKEN, name, u64::from(came.is_some()));
         if came.is_none() && self.why == "PeerClosed" {
             let given = self.round.add(GIVEN, name, 0);
@@ -372,7 +356,11 @@ impl<'a, P: Process> Player<'a, P> {
             return ask!(self, close(lines.swap_remove(at).0)).map(|_bytes| ());
         }
         let (no, tag) = match came? {
-            Came::Bytes { no, tag, .. } => (no, tag),
+            Came::Bytes { no, tag, bytes } => {
+                let is_so = bytes.ends_with(bytes.get(..8)?);
+                self.claim(is_so, "a block has two stamps");
+                (no, tag)
+            }
             Came::Message(Message { no, tag, items }) => {
                 self.unpack(items, tag);
                 (no, tag)
@@ -389,7 +377,7 @@ impl<'a, P: Process> Player<'a, P> {
                     let _ = self.stamp(&block);
                     let _ = self.keep(block);
                 }
-                Item::End(end) => self.keep_line(Some(Line(end, tag))),
+                Item::End(end) => drop(self.lines.push(Line(end, tag))),
                 Item::Missing => drop(self.claim(self.round.kills(), "an item is missing")),
             }
         }

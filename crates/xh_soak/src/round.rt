@@ -1,14 +1,15 @@
 //! A round: how it goes, by its seed, and what its processes share beside the heap.
 ghost use Rattle.std.specs.Prelude.{◌≤◌};
+ghost use Rattle.xh_heap.specs.declared.values.End.{End};
 
-use crate::player::{Player, Task};
+use crate::player::Player;
 use std::alloc::{AllocError, Global};
 use std::sync::atomic::AtomicU64;
 use std::sync::atomic::Ordering::SeqCst;
 use std::sync::{Mutex, Wait};
 use std::thread::Threads;
 use std::time::Clock;
-use xh_heap::{Config, Host, Process, Refused, Starter, Team, run};
+use xh_heap::{AsEnd, Config, End, Host, Process, Refused, Starter, Team, run};
 
 /// What is counted: the calls of a process, and the start of its thread.
 pub(crate) const CALLS: &str =
@@ -26,8 +27,20 @@ pub(crate) const CHANNELS: usize = 131_072;
 
 pub(crate) const ANSWERED: usize = 131_073;
 
-/// The arenas of a heap. All wait for memory of the last.
-pub(crate) const ARENAS: u8 = 3;
+/// An end, and its name: 2 for each channel before its own, and its side.
+#[derive(Drop)]
+pub(crate) struct Line(pub(crate) End, pub(crate) u16);
+
+impl AsEnd for Line {
+    ghost shows = { λ line. line.0 };
+
+    fn as_end(&self) -> &End {
+        &self.0
+    }
+}
+
+/// What a process is started for: so many acts, with an end that may go anywhere, and one of a channel to its parent.
+pub(crate) type Task = (Option<Line>, Option<Line>, u32);
 
 /// Numbers at random, by a seed.
 #[derive(Clone, Copy, Debug)]
@@ -100,15 +113,14 @@ impl Round {
             word.store(0, SeqCst);
         }
         let mut chance = Chance(self.seed.wrapping_mul(1024));
-        let _first = chance.below(1);
         let config = Config {
-            arenas: ARENAS,
+            arenas: 3,
             bytes: 16 * chance.below(1024) + 1024,
             records: (chance.below(200) + 32) as u16,
-            depth: (chance.below(15) + 1) as u8,
+            depth: (chance.below(16) + 1) as u8,
             wear: 1 << (chance.below(12) + 18),
         };
-        let workers = (chance.below(7) + 1) as u8;
+        let workers = (chance.below(8) + 1) as u8;
         let closed = run(rt, self.alloc, config, workers, self)?;
         let (ledger, wrong) = (&closed.books.ledger, *self.wrong.lock(rt));
         let is_whole = ledger.arenas.iter().all(|it| it.out == 0 && it.holes == 1);
