@@ -91,7 +91,7 @@ impl Job for Bench {
         let mut lines = Vec::new(alloc);
         for one in (0..threads).step_by(2) {
             let other = threads.saturating_sub(1).min(one.wrapping_add(1));
-            hold(team.at(one)?, 1 + one as u32, others)?;
+            hold(team.at(one)?, 1 + (one % 7) as u32, others)?;
             lines.push(Line {
                 alloc,
                 bytes: vec![in alloc; 7u8; bytes as usize]?,

@@ -21,8 +21,6 @@ const POOL_4K: Pieces = &[(1, Pooled(4096))];
 
 const ALLOC: Pieces = &[(4, Lock), (4, Exchange), (1, Zeroed(64))];
 
-const ALLOC_255: Pieces = &[(4, Lock), (4, Exchange), (1, Zeroed(64)), (255, Load)];
-
 const MESSAGE_1: Pieces = &[(2, Lock), (1, PushPop), (5, Exchange)];
 
 const MESSAGE_8: Pieces = &[(2, Lock), (1, PushPop), (19, Exchange)];
@@ -38,8 +36,8 @@ const KILL_256: Pieces = &[(256, Lock), (256, Exchange), (128, Zeroed(64))];
 const LOOK: Pieces = &[(8, Lock), (96, Load)];
 
 pub(crate) const ROWS: &[Row] = &[
-    ("message_64", 1, Message(64, 0), 495, VECTOR_64),
-    ("message_64_255", 1, Message(64, 255), 495, VECTOR_64),
+    ("message_64", 1, Message(64, 0), 530, VECTOR_64),
+    ("message_64_255", 1, Message(64, 255), 530, VECTOR_64),
     ("message_4k", 1, Message(4096, 0), 300, VECTOR_4K),
     ("message_4k_pool", 1, Message(4096, 0), 310, POOL_4K),
     ("message_1m", 1, Message(1 << 20, 0), 105, VECTOR_1M),
@@ -47,18 +45,18 @@ pub(crate) const ROWS: &[Row] = &[
     ("message_4k_across", 2, Message(4096, 0), 140, VECTOR_4K),
     ("message_4k_pool_across", 2, Message(4096, 0), 215, POOL_4K),
     ("message_1m_across", 2, Message(1 << 20, 0), 115, VECTOR_1M),
-    ("alloc_free_1", 1, AllocFree(64, 1), 210, ALLOC),
-    ("alloc_free_255", 1, AllocFree(64, 255), 195, ALLOC_255),
-    ("allocs_apart_4", 4, AllocFree(64, 0), 245, ALLOC),
-    ("give_take_1", 1, GiveTake(1), 400, MESSAGE_1),
-    ("give_take_8", 1, GiveTake(8), 580, MESSAGE_8),
-    ("read_16", 1, Read(16), 140, COPY_16),
-    ("read_4096", 1, Read(4096), 185, COPY_4K),
-    ("write_16", 1, Write(16), 140, COPY_16),
-    ("write_4096", 1, Write(4096), 175, COPY_4K),
-    ("kill_16", 1, Kill(16), 215, KILL_16),
-    ("kill_256", 1, Kill(256), 225, KILL_256),
-    ("overview", 1, Overview, 560, LOOK),
+    ("alloc_free_1", 1, AllocFree(64, 1), 225, ALLOC),
+    ("alloc_free_255", 1, AllocFree(64, 255), 240, ALLOC),
+    ("allocs_apart_4", 4, AllocFree(64, 0), 225, ALLOC),
+    ("give_take_1", 1, GiveTake(1), 415, MESSAGE_1),
+    ("give_take_8", 1, GiveTake(8), 505, MESSAGE_8),
+    ("read_16", 1, Read(16), 200, COPY_16),
+    ("read_4096", 1, Read(4096), 130, COPY_4K),
+    ("write_16", 1, Write(16), 210, COPY_16),
+    ("write_4096", 1, Write(4096), 130, COPY_4K),
+    ("kill_16", 1, Kill(16), 195, KILL_16),
+    ("kill_256", 1, Kill(256), 190, KILL_256),
+    ("overview", 1, Overview, 670, LOOK),
     ("ping_pong", 2, Work::ToAndFro, 130, &[(1, ToAndFro)]),
     ("stream", 2, GiveTake(0), 130, &[(1, Vector(0))]),
     ("pairs_4", 4, GiveTake(0), 130, &[(1, Vector(0))]),
