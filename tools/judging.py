@@ -198,8 +198,7 @@ def has_types(*files: pathlib.Path) -> None:
     """These that are Python have no line of more than 100 columns; and the right types, where mypy
     is there."""
     texts = {it: it.read_text() for it in files if it.is_file()}
-    begins = '"""', "#!/usr/bin/env python3\n"
-    ours = [it for it, text in texts.items() if text.startswith(begins)]
+    ours = [it for it, text in texts.items() if re.match('"""|#!.* python3', text)]
     long = [line for it in ours for line in texts[it].splitlines() if len(line) > 100]
     claim(ours and not long, "\n".join(["too long, or no file:", *long]))
     if not shutil.which("mypy"):
