@@ -1,5 +1,5 @@
-"""Random scripts by a seed: every verb of docs/SCRIPT.md, refused ones too, for up to 32
-processes."""
+"""Random scripts by a seed: with every verb of docs/SCRIPT.md, refused ones too, for up to 32
+processes; and small ones for threads."""
 from __future__ import annotations
 
 import functools
@@ -7,8 +7,7 @@ import random
 import re
 from typing import Callable
 
-import soak_reader
-from soak_machine import Heap, Options
+from soak_machine import Heap, Options, command_of
 
 # How often each line comes, and what it is made of.
 OFTEN = """14 alloc {x} {size} {arena}|6 split {data} {cut} {x}|8 read {data} {at} {count}
@@ -24,6 +23,26 @@ FIELDS = {
     "news": "||{new}|{new}|{new}{new}|{new}{new}{new}|" + 8 * "{new}",
     "names": "|".join([" {end}"] * 3 + [it * " {data}" for it in (0, 1, 1, 1, 2, 3, 4, 8, 9, 16)]),
 }
+# What a process does, with a block and an endpoint of its own at random.
+WORKING = """alloc {x} {size} 0|alloc {x} {size} 0|alloc {x} {size} 0|split {x} 16 {x}|read {x} 0 4
+write {x} 1 0{digit}|give {e} {digit} {x}|give {e} {digit} {x}|give {e} 9 {x} {x}|give {e} 10 {e}
+take {e} {x}|take {e} {x}|take {e} {x} {x}|free {x}|free {x}|glance {me}"""
+# Where something ends a give carries at most one block, and only the first process kills, which
+# doesn't end.
+ENDING = """alloc {x} {size} 0|alloc {x} {size} 0|alloc {x} {size} 0|give {e} {digit} {x}
+give {e} {digit} {x}|give {e} {digit} {x}|give {e} 10|take {e} {x}|take {e} {x}|free {x}
+glance {me}|close {e}|close {e}|{end}|{end} 1|{again}"""
+CARRYING = """alloc {x} 16 7|give {e} 65535 u v w x y|give {e} 40000 y x w v u z
+give {e} 32768 z y x w v u s t|give {e} {digit} {x}|take {e} u v w x y z s t
+take {e} s t u v w x y z|free {x}"""
+EIGHT = """alloc u 16 7|alloc v 512 6|alloc w 16 7|alloc x 48 5|alloc y 16 7|alloc z 16 0
+alloc s 32 7|alloc t 16 1"""
+PAIR, RING, STAR = ["a e b f"], ["a e b f", "b g c h", "c i a j"], ["a e b f", "a g c h"]
+# Arenas, their bytes and the depth; the wires; what each process begins with, and the commands that
+# it has at random.
+SETTINGS = [((1, 144, 1), PAIR, "", WORKING), ((1, 256, 1), RING, "", WORKING),
+            ((8, 1024, 16), PAIR, EIGHT, CARRYING), ((1, 4096, 2), PAIR, "", ENDING),
+            ((1, 4096, 2), STAR, "", ENDING), ((8, 1024, 16), STAR, "", ENDING)]
 
 
 class Maker:
@@ -97,7 +116,7 @@ class Maker:
 
     def add(self, line: str, is_any: bool = True) -> None:
         """A line is added that the heap does, or any; most others are passed over."""
-        said = self.heap.step(*soak_reader.command_of(line.encode())[:3])
+        said = self.heap.step(*command_of(line.encode())[:3])
         if is_any or said.startswith("ok") or not self.below(5):
             self.lines.append(line)
 
@@ -125,3 +144,27 @@ def make(seed: int) -> tuple[bytes, Options]:
     """The script and its options."""
     maker = Maker(seed)
     return maker.script().encode(), maker.options
+
+
+def make_small(seed: int) -> tuple[bytes, Options]:
+    """The script and its options. All wait for a process z, so that they begin at once; and between
+    their commands are reads of nothing, which take time."""
+    chance, ends = random.Random(seed), dict[str, list[str]]()
+    (arenas, size, depth), wires, first, commands = SETTINGS[seed % len(SETTINGS)]
+    for name, end in re.findall(r"(\w) (\w)", " ".join(wires)):
+        ends.setdefault(name, []).append(end)
+    lines = [f"process {name}" for name in [*ends, "z"]]
+    lines += [f"wire {it} 0" for it in [*wires, *(f"z {name} {name} start" for name in ends)]]
+    for me, own in ends.items():
+        end, again = ("kill b", "kill c") if me == "a" else ("exit", "again")
+        words: dict[str, list[str]] = {"x": [*"xyz"], "e": own, "size": ["16", "32", "48"]}
+        words |= {"digit": [*"012345678"], "me": [me], "end": [end], "again": [again]}
+        drawn = [chance.choice(re.split(r"\||\n", commands)) for _ in range(chance.randint(1, 7))]
+        lines.append(f"{me} await start")
+        for it in filter(None, [*re.split(r"\||\n", first), *drawn]):
+            lines += [f"{me} read nothing 0 1"] * chance.randint(0, 160)
+            filled = re.sub(r"{(\w+)}", lambda at: chance.choice(words[at[1]]), it)
+            lines.append(f"{me} {filled}")
+    lines += ["z read nothing 0 1"] * 400 + [f"z give {name} 0" for name in ends]
+    options = {"--arenas": arenas, "--bytes": size + 64 * len(ends), "--depth": depth}
+    return "\n".join(lines).encode(), {**options, "--records": 256, "--wear": 1_000_000}

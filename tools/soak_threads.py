@@ -1,17 +1,23 @@
-"""What is so of a run of a script on threads, whatever its schedule was."""
+"""What is so of a run of a script on threads, whatever its schedule was; and the search for an
+order of its commands in which the heap of soak_machine.py has the same replies and ledger."""
 from __future__ import annotations
 
 import contextlib
+import itertools
+import pickle
 import re
-from typing import Any
+from typing import Any, Iterable
 
-import soak_reader
 from judging import Answer, claim, claim_same
-from soak_machine import Arena, Block, Heap, Message, Options, Process, Reply, size_of
-from soak_reader import Command, Refused, need
+from soak_machine import (Arena, Block, Command, Heap, Message, Options, Process, Refused, Reply,
+                          need, read, size_of)
 
 # Of a process: what is not yet followed of it, each a verb, its words, and the words of its reply.
 Own = list[tuple[bytes, list[Any], list[str]]]
+# A command without its line, and its reply.
+Replied = tuple[tuple[Any, ...], str]
+# No search for an order has more steps of the heap than this.
+STEPS = 4000
 
 
 class Later(Exception):
@@ -203,7 +209,7 @@ def judge_flight(heap: Follower, count: int, rows: list[list[str]], is_over: boo
 
 def judge(text: bytes, options: Options, is_serial: bool, answer: Answer) -> None:
     """Where a growth was refused, that may be the answer."""
-    commands, fault = soak_reader.read(text)
+    commands, fault = read(text)
     if answer.is_refused and answer.status == 3:
         claim_same(answer, (3, b"", b"xheap: out of memory\n"))
     elif fault:
@@ -216,3 +222,64 @@ def judge(text: bytes, options: Options, is_serial: bool, answer: Answer) -> Non
         claim(answer.status == 0 and not answer.err and answer.out.endswith(b"\n"), str(answer))
         lines = answer.out.decode("ascii", "replace")[:-1].split("\n")
         follow(commands, options, lines, answer.is_refused)
+
+
+def is_answer(heap: Heap, command: tuple[Any, ...], reply: str) -> bool:
+    """Does the command. A give that found its peer closed in its midst may have been sent: then the
+    peer's end reclaimed it."""
+    said = heap.step(*command)
+    return said == reply or reply == "no 15 PeerClosed 0" and said[:2] == "ok"
+
+
+def read_on(heap: Heap, waiting: list[list[Replied]], at: list[int]) -> None:
+    """Goes on in the processes' commands behind all reads that answer so now; these change nothing,
+    whenever they come."""
+    for number, own in enumerate(waiting):
+        reads = itertools.takewhile(lambda it: it[0][1] == b"read" and is_answer(heap, *it),
+                                    own[at[number] :])
+        at[number] += len([*reads])
+
+
+def judge_order(text: bytes, options: Options, is_serial: bool, answer: Answer) -> bool:
+    """Whether the search was cut off. The numbers of holes have to be the same of two processes
+    where nothing ends."""
+    judge(text, options, is_serial, answer)
+    is_exact, lines = options["--depth"] == 1 and b"process c" not in text, answer.out.decode()
+    is_found = has_order(read(text)[0], options, is_exact, lines.splitlines())
+    claim(is_found is not False, "no order has these replies and this ledger")
+    return is_found is None
+
+
+def has_order(commands: list[Command], options: Options, is_exact: bool,
+              lines: list[str]) -> bool | None:
+    """Whether there is one, each process's commands in their own order; None where the search is
+    cut off."""
+    heap, by_process = Heap(options), dict[Any, list[Replied]]()
+    for (_, by, *command), line in zip(commands, lines):
+        own, it = by_process.setdefault(by, []), ((by, *command), line.partition(" ")[2])
+        own += [] if command[0] == b"read" and own[-1:] == [it] else [it]
+    if not all(is_answer(heap, *head) for head in by_process.pop(None)):
+        return False
+    waiting, ledger = [*by_process.values()], without_holes(lines[len(commands) :], is_exact)
+    begun, steps = [(pickle.dumps(heap), (0,) * len(waiting))], 0
+    seen = set(begun)
+    while begun and steps <= STEPS:
+        state, places = begun.pop()
+        heap, at = pickle.loads(state), [*places]
+        read_on(heap, waiting, at)
+        if at == [*map(len, waiting)] and without_holes(heap.ledger(), is_exact) == ledger:
+            return True
+        for number, own in enumerate(waiting):
+            if at[number] < len(own):
+                heap, steps = pickle.loads(state), steps + 1
+                if is_answer(heap, *own[at[number]]):
+                    further = (*at[:number], at[number] + 1, *at[number + 1 :])
+                    found = pickle.dumps(heap), further
+                    begun += {found} - seen
+                    seen.add(found)
+    return None if steps > STEPS else False
+
+
+def without_holes(ledger: Iterable[str], is_exact: bool) -> list[list[str]]:
+    rows = [line.split(" ") for line in ledger]
+    return [row if is_exact or row[0] != "arena" else row[:4] + row[5:] for row in rows]
