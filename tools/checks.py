@@ -261,7 +261,7 @@ def of_wrappers() -> Iterator[Check]:
     for judge in (knows_what_it_runs, runs_without_room, proves_once, test_tells):
         yield "", judge
     for tool in ("prove", "xheap", "test"):
-        yield "", judging.ends_at_once, "rt", UNPROVED / tool
+        yield "", judging.ends_at_once, UNPROVED / tool
     for how in (SLOW, TYPED, '"$@" <&-', '"$@" </dev/zero', '"$@" >/dev/full 2>&-'):
         yield "", answers_each_way, how, "--depth", "2"
     yield "", answers_each_way, '"$@"', "two  words\nchecked: it", ""

@@ -129,12 +129,11 @@ def wait_for(is_so: Callable[[], object], seconds: int) -> bool:
     return bool(is_so())
 
 
-def ends_at_once(stand_in: str, *command: Word) -> None:
-    """Ended by each signal it ends what it began, of which what it calls by this name sleeps, and
-    leaves no file."""
+def ends_at_once(*command: Word) -> None:
+    """Ended by each signal it ends what it began, where rt sleeps, and leaves no file."""
     kit, null = pathlib.Path(tempfile.mkdtemp(dir=ROOM)), subprocess.DEVNULL
     write(kit / "KIT-ID", "a kit\n")
-    write(kit / "bin" / stand_in, SLEEPER)
+    write(kit / "bin/rt", SLEEPER)
     path = f"PATH={kit}/bin:{os.environ['PATH']}"
     for number in ENDS:
         told, room = kit / f"told_{number}", pathlib.Path(tempfile.mkdtemp(prefix="a ", dir=kit))
@@ -209,13 +208,12 @@ def has_types(*files: pathlib.Path) -> None:
 
 def rt_ci() -> None:
     words = ["timeout", "--signal=KILL", str(LONG), "rt", "ci"]
-    said = [""]
-    with subprocess.Popen(words, stdin=subprocess.DEVNULL, stdout=PIPE) as ran:
-        for line in ran.stdout or ():
-            said.append(line.decode(errors="replace"))
-            print(said[-1], end="", flush=True)
+    said, null = "", subprocess.DEVNULL
+    with subprocess.Popen(words, stdin=null, stdout=PIPE, text=True, errors="replace") as ran:
+        for said in ran.stdout or ():
+            print(said, end="", flush=True)
     claim(ran.returncode == 0, f"rt ci ended with status {ran.returncode}")
-    claim(re.fullmatch(r"[1-9]\d* passed, 0 failed\n", said[-1]), f"its last line: {said[-1]!r}")
+    claim(re.fullmatch(r"[1-9]\d* passed, 0 failed\n", said), f"its last line: {said!r}")
 
 
 def refuses_edits(tool: Word, crate: str, count: int) -> None:
