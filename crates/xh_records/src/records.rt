@@ -191,7 +191,8 @@ impl<B: Fits + Drop> Records<B> {
         self.take(seat, number, OwnerWord::Free)
     }
 
-    // The same from index 0 on, in one round, which gathers the words.
+    // The same from index 0 on, in one round, which gathers the words. (Not inlined its answer would be cleared at each claim.)
+    #[inline(always)]
     fn claim_seen(&self, seat: &mut Seat<B>, arena: u8) -> Result<u16, Seen>
         requires own { IsSeatOf self.now seat.old }
         requires arena { arena < length self.now.shape.names }
