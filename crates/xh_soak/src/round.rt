@@ -1,153 +1,150 @@
-//! A round: how it goes, by its seed, and what its processes share beside the heap.
-ghost use Rattle.std.specs.Prelude.{◌≤◌};
-ghost use Rattle.xh_heap.specs.declared.values.End.{End};
+//! A round: a run of workers that begin with channels round a ring; and its books.
 
-use crate::player::Player;
-use std::alloc::{AllocError, Global};
-use std::sync::atomic::AtomicU64;
-use std::sync::atomic::Ordering::SeqCst;
+use crate::actor::{Actor, Line, Task};
+use crate::board::{CHANNELS, OK, Slate, WORDS};
+use crate::plan::RoundPlan;
+use std::alloc::Global;
 use std::sync::{Mutex, Wait};
 use std::thread::Threads;
 use std::time::Clock;
-use xh_heap::{AsEnd, Config, End, Host, Process, Refused, Starter, Team, run};
+use xh_heap::{Books, End, Host, Process, Refused, Starter, Team, run};
 
 /// What is counted: the calls of a process, and the start of its thread.
 pub(crate) const CALLS: &str =
     "spawn start alloc alloc_in alloc_wait alloc_for put put_in into_bytes split read write with_bytes \
-    with_bytes_mut free open open_with wire wire_with give give_wait give_for give_bytes_wait \
-    give_bytes_in_wait give_bytes_for give_bytes_in_for take take_wait take_for take_bytes_wait \
-    take_bytes_for take_any take_any_wait take_any_for close exit kill overview";
+    with_bytes_mut free open open_with wire wire_with give give_wait give_for \
+    take take_wait take_for take_any take_any_wait take_any_for close exit kill overview";
 
-/// Where words begin: of the messages given to an end and taken there, by its name, of the channels, and of the calls.
-pub(crate) const GIVEN: usize = 0;
-
-pub(crate) const TAKEN: usize = 65_536;
-
-pub(crate) const CHANNELS: usize = 131_072;
-
-pub(crate) const ANSWERED: usize = 131_073;
-
-/// An end, and its name: 2 for each channel before its own, and its side.
-#[derive(Drop)]
-pub(crate) struct Line(pub(crate) End, pub(crate) u16);
-
-impl AsEnd for Line {
-    ghost shows = { λ line. line.0 };
-
-    fn as_end(&self) -> &End {
-        &self.0
-    }
-}
-
-/// What a process is started for: so many acts, with an end that may go anywhere, and one of a channel to its parent.
-pub(crate) type Task = (Option<Line>, Option<Line>, u32);
-
-/// Numbers at random, by a seed.
-#[derive(Clone, Copy, Debug)]
-pub(crate) struct Chance(pub(crate) u64);
-
-impl Chance {
-    /// A number below a count, or 0.
-    pub(crate) fn below(&mut self, count: u32) -> u32
-        ensures { result ≤ count }
-    {
-        let next = self.0.wrapping_mul(6_364_136_223_846_793_005);
-        self.0 = next.wrapping_add(1_442_695_040_888_963_407);
-        (self.0 >> 33) as u32 % count.max(1)
-    }
-
-    /// One of these, taken out.
-    pub(crate) fn pick<T: Drop>(&mut self, of: &mut Vec<T>) -> Option<T> {
-        let at = self.below(1024) as usize % of.len().max(1);
-        if at < of.len() {
-            Some(of.swap_remove(at))
-        } else {
-            None
-        }
-    }
-}
-
-/// What the processes of a round share: its seed, words, and what was wrong first.
+/// What all actors of a round share: its plan, the board, and what was wrong first.
 #[derive(Drop)]
 pub(crate) struct Round {
     pub(crate) alloc: Global,
-    pub(crate) seed: u64,
-    pub(crate) is_scarce: bool,
-    pub(crate) wrong: Mutex<&'static str>,
-    words: Vec<AtomicU64>,
+    pub(crate) plan: RoundPlan,
+    pub(crate) board: Slate,
+    wrong: Mutex<&'static str>,
 }
 
 impl Round {
-    pub(crate) fn new(alloc: Global, is_scarce: bool) -> Result<Round, AllocError> {
-        let mut words = Vec::new(alloc);
-        for _ in 0..ANSWERED + 64 {
-            words.push(AtomicU64::new(0))?;
+    pub(crate) fn count(&self, call: &'static str) {
+        for (at, name) in CALLS.split(' ').enumerate() {
+            if name == call {
+                self.board.add(OK, (at % 64) as u16, 1);
+            }
         }
-        let wrong = Mutex::new("");
-        Ok(Round {
-            alloc,
-            seed: 0,
-            is_scarce,
-            wrong,
-            words,
-        })
     }
 
-    /// In every other round processes are killed.
-    pub(crate) fn kills(&self) -> bool {
-        self.seed % 2 == 1
+    pub(crate) fn is_right<R: Wait>(&self, rt: &R) -> bool {
+        self.wrong.lock(rt).is_empty()
     }
 
-    /// Adds so much to a word: what it was before.
-    pub(crate) fn add(&self, kind: usize, at: usize, more: u64) -> u64 {
-        let word = self.words.get(kind.wrapping_add(at));
-        word.map_or(0, |word| word.fetch_add(more, SeqCst))
-    }
-
-    /// Plays it on a heap whose memory is nearly full: what was wrong, or nothing.
-    pub(crate) fn play<R: Threads + Wait + Clock + Sync>(
-        &self,
-        rt: &R,
-    ) -> Result<&'static str, Refused> {
-        for word in self.words.iter().take(ANSWERED) {
-            word.store(0, SeqCst);
+    pub(crate) fn tell<R: Wait>(&self, rt: &R, wrong: &'static str) {
+        let mut first = self.wrong.lock(rt);
+        if first.is_empty() {
+            *first = wrong;
         }
-        let mut chance = Chance(self.seed.wrapping_mul(1024));
-        let config = Config {
-            arenas: 3,
-            bytes: 16 * chance.below(1024) + 1024,
-            records: (chance.below(200) + 32) as u16,
-            depth: (chance.below(16) + 1) as u8,
-            wear: 1 << (chance.below(12) + 18),
-        };
-        let workers = (chance.below(8) + 1) as u8;
-        let closed = run(rt, self.alloc, config, workers, self)?;
-        let (ledger, wrong) = (&closed.books.ledger, *self.wrong.lock(rt));
-        let is_whole = ledger.arenas.iter().all(|it| it.out == 0 && it.holes == 1);
-        Ok(match wrong {
-            "" if ledger.owned != 0 => "an ended process owns blocks",
-            "" if ledger.flight != 0 || !is_whole => "blocks are lost",
-            wrong => wrong,
-        })
+    }
+
+    /// Both ends of a new channel, by their names.
+    pub(crate) fn named(&self, ends: (End, End), is_ruled: bool) -> (Line, Line) {
+        let number = (self.board.add(CHANNELS, 0, 1) % 16_384) as u16;
+        let name = number.wrapping_mul(4).wrapping_add(2 * u16::from(is_ruled));
+        let (low, end) = ends;
+        let high = name.wrapping_add(1);
+        (Line { end: low, name }, Line { end, name: high })
     }
 }
 
 impl Host for Round {
-    type Plan = ();
+    // The ends that each worker begins with: two for each.
+    type Plan = Vec<Mutex<Option<Line>>>;
 
     type Task = Task;
 
     type Answer = ();
 
-    fn plan<P: Process>(&self, _team: &mut Team<P>) -> Result<(), Refused> {
-        Ok(())
+    fn plan<P: Process>(&self, team: &mut Team<P>) -> Result<Self::Plan, Refused> {
+        let (count, mut all) = (usize::from(self.plan.workers), Vec::new(self.alloc));
+        for at in 0..count {
+            let ends = team.wire(at, at.wrapping_add(1) % count.max(1))?;
+            let (low, high) = self.named(ends, false);
+            all.push(Mutex::new(Some(high)))?;
+            all.push(Mutex::new(Some(low)))?;
+        }
+        Ok(all)
     }
 
-    fn work<P: Process>(&self, _: &(), _index: usize, own: &mut P, threads: &Starter<P, Task>) {
-        Player::new(own, threads, self).play((None, None, 400));
+    fn work<P: Process>(
+        &self,
+        plan: &Self::Plan,
+        index: usize,
+        own: &mut P,
+        threads: &Starter<P, Task>,
+    ) {
+        let (rt, seed) = (
+            own.rt(),
+            self.plan.seed.wrapping_mul(1024).wrapping_add(index as u64),
+        );
+        let (at, count) = (index.wrapping_mul(2).wrapping_add(1), plan.len().max(1));
+        let low = taken(&rt, plan, at);
+        let high = taken(&rt, plan, at.wrapping_add(count).wrapping_sub(3) % count);
+        let mut actor = Actor::new(own, threads, self, seed, 0);
+        actor.keep_line(low);
+        actor.keep_line(high);
+        actor.act_all();
     }
 
-    fn serve<P: Process>(&self, _: &(), task: Task, own: &mut P, threads: &Starter<P, Task>) {
-        Player::new(own, threads, self).play(task);
+    fn serve<P: Process>(
+        &self,
+        _plan: &Self::Plan,
+        (line, seed, level): Task,
+        own: &mut P,
+        threads: &Starter<P, Task>,
+    ) {
+        let mut actor = Actor::new(own, threads, self, seed, level);
+        actor.begin(line);
+        actor.act_all();
     }
+}
+
+fn taken<R: Wait>(rt: &R, plan: &[Mutex<Option<Line>>], at: usize) -> Option<Line> {
+    plan.get(at).and_then(|line| line.lock(rt).take())
+}
+
+// All has ended, and nothing is left; or ends alone that are on their way to themselves.
+fn judge(books: &Books, circles: bool) -> &'static str {
+    let ledger = &books.ledger;
+    let is_whole = ledger.arenas.iter().all(|it| it.out == 0 && it.holes == 1);
+    if ledger.owned != 0 || ledger.out != ledger.flight {
+        "an ended process owns blocks"
+    } else if !circles && (!is_whole || ledger.out != 0 || !books.flight.is_empty()) {
+        "blocks are lost"
+    } else {
+        ""
+    }
+}
+
+/// Plays a round, and counts each call that was answered Ok: what was wrong, or nothing.
+pub(crate) fn play<R: Threads + Wait + Clock + Sync>(
+    rt: &R,
+    alloc: Global,
+    plan: RoundPlan,
+    counts: &Slate,
+) -> Result<&'static str, Refused> {
+    let (board, wrong) = (Slate::new(alloc, WORDS)?, Mutex::new(""));
+    let round = Round {
+        alloc,
+        plan,
+        board,
+        wrong,
+    };
+    let closed = run(rt, alloc, plan.config, plan.workers, &round)?;
+    for at in 0..64 {
+        counts.add(0, at, round.board.get(OK, at));
+    }
+    let wrong = *round.wrong.lock(rt);
+    Ok(if wrong.is_empty() {
+        judge(&closed.books, plan.circles)
+    } else {
+        wrong
+    })
 }
