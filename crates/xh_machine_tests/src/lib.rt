@@ -1,6 +1,6 @@
 //! Tests of machines by one caller. What no script says of the calls of a heap: numbers of processes, accounts, glances, refused
 //! growths, by one table of calls and answers, which is made on the serial machine and on a kernel; and what the calls do that
-//! only a kernel has. Readers and writers that fail, each front of a script, and what is reported of each fault. Whole scripts
+//! only a kernel has. Readers and writers that fail, each prefix of a script, and what is reported of each fault. Whole scripts
 //! stand in `scripts/`, with what they print.
 #![tactic(auto)]
 
@@ -8,7 +8,6 @@
 mod answers;
 #[cfg(test)]
 mod bytes;
-#[cfg(test)]
 #[cfg(test)]
 mod growths;
 #[cfg(test)]
@@ -21,6 +20,7 @@ mod machines;
 mod places;
 #[cfg(test)]
 mod points;
+#[cfg(test)]
 mod prefixes;
 #[cfg(test)]
 mod several;
