@@ -1,5 +1,5 @@
 -- A pair more at the end of the places.
-use Rattle.xh_channel.proofs.Common.{List, MatchOption, None, Option, Some, StandAtTheirNumbers, [], ap, arith, at_place, false, get_or, has_depth, length, refl, set, subst, suc, sym, true}
+use Rattle.xh_channel.proofs.Common.{IsSome, List, None, Option, Some, StandAtTheirNumbers, [], ap, arith, at_place, false, get_or, has_depth, length, refl, set, subst, suc, sym, true}
 use Rattle.xh_channel.proofs.Common.{true≢false, zero, ℕ, ◌++◌, ◌+◌, ◌<◌, ◌==◌, ◌∙◌, ◌∷◌, ◌≡◌}
 use Rattle.std.proofs.lemmas.Bool.Decides.{nat_tests}
 use Rattle.std.proofs.lemmas.Option.{none-some}
@@ -49,13 +49,16 @@ stands_at (x ∷ xs) zero n d long h = refl
 stands_at (x ∷ xs) (suc k) zero d long h = absurd (omega arith)
 stands_at (x ∷ xs) (suc k) (suc n) d long h = stands_at xs k n d (omega (arith, long)) (omega arith)
 
+pub has_pair : (d : ℕ) (x y : Option FreePair) → x ≡ y → has_depth d x ≡ true → IsSome y
+has_pair d x None is e = absurd (true≢false (sym e ∙ ap (has_depth d) is))
+has_pair d x (Some p) is e = refl
+
 -- the pair of the lowest number that is free was taken out
-pub opened : (xs : List (Option FreePair)) (at d : ℕ) (taken left : Option FreePair) (none : Type 0) → StandAtTheirNumbers xs → at_place xs at ≡ taken → left ≡ None
+pub opened : (xs : List (Option FreePair)) (at d : ℕ) (p : FreePair) (left : Option FreePair) → StandAtTheirNumbers xs → at_place xs at ≡ Some p → left ≡ None
     → has_depth d (at_place xs at) ≡ true → ((j : ℕ) → j < at → has_depth d (at_place xs j) ≡ false)
-    → MatchOption taken none (λ p. (p.low.depth ≡ d) × (at_place xs p.low.spot.channel ≡ Some p) × (set xs at left ≡ set xs p.low.spot.channel None)
-    × ((j : ℕ) → j < p.low.spot.channel → has_depth d (at_place xs j) ≡ false))
-opened xs at d None left none stand is gone fits below = absurd (true≢false (sym fits ∙ ap (has_depth d) is))
-opened xs at d (Some p) left none stand is gone fits below =
+    → (p.low.depth ≡ d) × (at_place xs p.low.spot.channel ≡ Some p) × (set xs at left ≡ set xs p.low.spot.channel None)
+    × ((j : ℕ) → j < p.low.spot.channel → has_depth d (at_place xs j) ≡ false)
+opened xs at d p left stand is gone fits below =
     let here : at ≡ p.low.spot.channel = sym (stand at p is) in
     let same : (p.low.depth == d) ≡ true = sym (ap (has_depth d) is) ∙ fits in
     let deep : p.low.depth ≡ d = grind (arith, nat_tests) in

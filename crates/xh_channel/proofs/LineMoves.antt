@@ -221,7 +221,6 @@ module _ (table : TableId) (v : LinePart) (peer : LineAccount) (line line' : Lin
   take_done (Err refused.Empty) t same _ = let unshut = saw_open t.taken.1 in ((kept same).0, λ e _. ((emptied t.taken.0, unshut.0, unshut.1), only_saw same e))
   take_done (Err refused.OutOfMemory) t same _ = absurd t.taken
   take_done (Err refused.BadSize) t same _ = absurd t.taken
-  take_done (Err refused.NoChannel) t same _ = absurd t.taken
 
   pub shut_done : LineShuts line line' k → IsSettled (holding v peer) line' × SeatDoes (line_view table v) seen EndpointShuts
   shut_done t =

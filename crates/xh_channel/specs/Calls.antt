@@ -8,6 +8,8 @@ use Rattle.xh_model.specs.Rows.{allowed}
 use Rattle.xh_channel.specs.declared.message.Message.{Message}
 use Rattle.xh_channel.specs.declared.refused.Refused.{Refused}
 use Rattle.xh_channel.specs.declared.refused.Refused.TheVariants as refused
+use Rattle.xh_channel.specs.declared.unopened.Unopened.{Unopened}
+use Rattle.xh_channel.specs.declared.unopened.Unopened.TheVariants as unopened
 use Rattle.xh_channel.specs.declared.unsent.Unsent.{Unsent}
 use Rattle.xh_channel.specs.declared.unsent.Unsent.TheVariants.{Protocol, PeerClosed, Full}
 use Rattle.xh_channel.specs.Endpoint.{EndpointOf}
@@ -22,9 +24,11 @@ next_state (Some rows) state tag side = allowed rows state tag side
 abbrev pub OnlySaw : EndpointOf → EndpointOf → Type 0
 OnlySaw old new = (new ≡ record old { peer_shut = new.peer_shut }) × (old.peer_shut ≡ true → new.peer_shut ≡ true)
 
--- why no channel was opened: none was free, or where numbers come back memory was refused
-abbrev pub Unopened : Bool → Refused → Type 0
-Unopened comes_back r = (r ≡ refused.NoChannel) ⊎ ((r ≡ refused.OutOfMemory) × (comes_back ≡ true))
+-- why no channel was opened: no number with a pair of this depth was found free, or a count of handles ran out. OutOfMemory comes where numbers come back
+abbrev pub IsUnopened : ℕ → Bool → Unopened → Type 0
+IsUnopened depth comes_back (unopened.NoChannel taken) = taken.depth ≡ depth
+IsUnopened depth comes_back (unopened.OutOfMemory taken) = (taken.depth ≡ depth) × (comes_back ≡ true)
+IsUnopened depth comes_back (unopened.NoHandle _) = Unit {0}
 
 -- ---- put
 

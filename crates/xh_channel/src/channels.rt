@@ -2,7 +2,7 @@
 ghost use Rattle.std.specs.Prelude.{◌≡◌, ℕ, ◌+◌, ◌*◌, ◌<◌, ◌≤◌, ◌⊎◌, true, false, is_some, length, IfOk, IfErr, IfSome, None, Some};
 ghost use Rattle.xh_model.specs.Rows.{row_at};
 ghost use Rattle.xh_model.specs.declared.limits.TheConstants.{CHANNELS, MAX_DEPTH, MAX_MESSAGES, PLACES};
-ghost use Rattle.xh_channel.specs.Calls.{EndpointPuts, EndpointShuts, EndpointTakes, Unopened};
+ghost use Rattle.xh_channel.specs.Calls.{EndpointPuts, EndpointShuts, EndpointTakes, IsUnopened};
 ghost use Rattle.xh_channel.specs.inner.FreeNumbers.{StandAtTheirNumbers, at_place, has_depth};
 ghost use Rattle.xh_channel.specs.Pairs.{IsPair};
 ghost use Rattle.xh_channel.specs.Queues.{IsNewDirection};
@@ -11,7 +11,7 @@ ghost use Rattle.xh_channel.specs.declared.refused.Refused.TheVariants.{OutOfMem
 use crate::channel_end::{self, ChannelEnd};
 use crate::closed_word::ClosedWords;
 use crate::endpoint::Endpoint;
-use crate::free_numbers::{Freed, Home, all_free};
+use crate::free_numbers::{AllTaken, Freed, Home, all_free, handles};
 use crate::free_pair::FreePair;
 use crate::hold::Hold;
 use crate::line_seat::LineSeat;
@@ -19,6 +19,7 @@ use crate::message::Message;
 use crate::queue_end::{QueueEnd, direction};
 use crate::refused::Refused;
 use crate::spot::Spot;
+use crate::unopened::Unopened;
 use crate::unsent::Unsent;
 use crate::waiting::{Bells, OwnBells, OwnSignal, Signal};
 use arrayvec::ArrayVec;
@@ -157,31 +158,33 @@ impl Channels {
     }
 
     // New ends of the lowest number that has none, by whoever has the lock of the free numbers: nobody else makes ends of it meanwhile.
-    fn renewed(&self, alloc: Global) -> Result<FreePair, Refused>
+    fn renewed(&self, alloc: Global, taken: AllTaken) -> Result<FreePair, Unopened>
         ensures ok { IfOk result (λ p. p.low.depth ≡ self.now.depth) }
-        ensures err { IfErr result (Unopened true) }
+        ensures err { IfErr result (IsUnopened taken.depth true) }
     {
         let Some(channel) = self.lowest_gone() else {
-            return Err(Refused::NoChannel);
+            return Err(Unopened::NoChannel(taken));
         };
         let signal = &self.signals[channel as usize];
         signal.forget();
-        let mut words = ClosedWords::from_channel(alloc, channel)?;
-        Ok(pair(alloc, self.depth as usize, &mut words, channel, signal)?)
+        let Ok(mut words) = ClosedWords::from_channel(alloc, channel) else {
+            return Err(Unopened::OutOfMemory(taken));
+        };
+        pair(alloc, self.depth as usize, &mut words, channel, signal).map_err(
+            |_error| Unopened::OutOfMemory(taken),
+        )
     }
 
     // The pair of the lowest number that is free, or that came back.
-    fn open_pair<R: Wait>(&self, rt: &R) -> Result<FreePair, Refused>
+    fn open_pair<R: Wait>(&self, rt: &R) -> Result<FreePair, Unopened>
         ensures ok { IfOk result (λ p. p.low.depth ≡ self.now.depth) }
-        ensures err { IfErr result (Unopened (is_some self.now.come_back)) }
+        ensures err { IfErr result (IsUnopened self.now.depth (is_some self.now.come_back)) }
     {
         let mut free = self.home.lock(rt);
-        if let Some(pair) = free.open(self.depth as usize) {
-            return Ok(pair);
-        }
-        match self.come_back {
-            Some(alloc) => self.renewed(alloc),
-            None => Err(Refused::NoChannel),
+        match (free.open(self.depth as usize), self.come_back) {
+            (Ok(pair), _) => Ok(pair),
+            (Err(taken), Some(alloc)) => self.renewed(alloc, taken),
+            (Err(taken), None) => Err(Unopened::NoChannel(taken)),
         }
     }
 
@@ -189,15 +192,11 @@ impl Channels {
     /// is free NoChannel; or where numbers come back, new ends of the lowest channel of which no end exists any more, with room of
     /// their own: NoChannel where there is none, OutOfMemory where memory for them was refused. An end that is kept keeps its
     /// number, wherever it is: on its way, also to itself.
-    pub fn open<R: Wait>(&self, rt: &R) -> Result<(Endpoint, Endpoint), Refused>
+    pub fn open<R: Wait>(&self, rt: &R) -> Result<(Endpoint, Endpoint), Unopened>
         ensures ok { IfOk result (λ ends. IsPair ends.0 ends.1 × (ends.0.depth ≡ self.now.depth) × (ends.0.contract ≡ None)) }
-        ensures err { IfErr result (Unopened (is_some self.now.come_back)) }
+        ensures err { IfErr result (IsUnopened self.now.depth (is_some self.now.come_back)) }
     {
-        let own: Result<_, _> = Arc::try_clone(&self.home);
-        let peers: Result<_, _> = Arc::try_clone(&self.home);
-        let (Ok(own), Ok(peers)) = (own, peers) else {
-            return Err(Refused::NoChannel);
-        };
+        let (own, peers) = handles(&self.home).map_err(Unopened::NoHandle)?;
         let FreePair { low, high } = self.open_pair(rt)?;
         let low = Endpoint {
             inner: low,
@@ -215,10 +214,10 @@ impl Channels {
         &self,
         rt: &R,
         contract: Contract,
-    ) -> Result<(Endpoint, Endpoint), Refused>
+    ) -> Result<(Endpoint, Endpoint), Unopened>
         ensures ok { IfOk result (λ ends. IsPair ends.0 ends.1 × (ends.0.depth ≡ self.now.depth)) }
         ensures contract { IfOk result (λ ends. (ends.0.contract ≡ Some contract) × (ends.0.state ≡ (row_at contract 0).state)) }
-        ensures err { IfErr result (Unopened (is_some self.now.come_back)) }
+        ensures err { IfErr result (IsUnopened self.now.depth (is_some self.now.come_back)) }
     {
         let (low, high) = self.open(rt)?;
         let (first, second) = channel_end::begin(rt, low.inner, high.inner, contract, self.depth);

@@ -1,5 +1,5 @@
 //! The free numbers of channels.
-ghost use Rattle.std.specs.Prelude.{◌≡◌, ℕ, ◌+◌, ◌*◌, ◌<◌, true, false, Option, Some, None, MatchOption, slice_set, length};
+ghost use Rattle.std.specs.Prelude.{◌≡◌, ℕ, ◌+◌, ◌*◌, ◌<◌, true, false, Option, Some, None, MatchOption, MatchResult, slice_set, length};
 ghost use Rattle.xh_model.specs.declared.limits.TheConstants.{CHANNELS};
 ghost use Rattle.xh_channel.specs.inner.FreeNumbers.{at_place, has_depth, StandAtTheirNumbers, AllFree, NoneFree};
 
@@ -18,6 +18,16 @@ pub struct FreeNumbers {
 /// The free numbers of the channels of one heap. Each endpoint that is out knows them.
 pub type Home = Arc<Mutex<FreeNumbers>, Global>;
 
+/// Shows that `FreeNumbers::open` found no pair of this depth at any number. It is made nowhere else.
+#[derive(Drop)]
+pub struct AllTaken {
+    depth: usize,
+}
+
+/// Shows that a count of handles ran out, which no run meets. It is made nowhere else.
+#[derive(Drop)]
+pub struct NoHandle(AllocError);
+
 /// Shows that a pair was put back among free numbers, by a note of its side 0. It is made nowhere else.
 #[derive(Drop)]
 pub struct Freed {
@@ -29,6 +39,13 @@ pub fn all_free(alloc: Global, pairs: Vec<Option<FreePair>>) -> Result<Home, All
     requires { (length pairs.items ≡ CHANNELS) × StandAtTheirNumbers pairs.items × AllFree pairs.items }
 {
     Ok(Arc::new(alloc, Mutex::new(FreeNumbers { pairs }))?)
+}
+
+/// A handle for each end of a channel.
+pub fn handles(home: &Home) -> Result<(Home, Home), NoHandle> {
+    let own = Arc::try_clone(home).map_err(NoHandle)?;
+    let peers = Arc::try_clone(home).map_err(NoHandle)?;
+    Ok((own, peers))
 }
 
 fn fits(place: &Option<FreePair>, depth: usize) -> bool
@@ -54,14 +71,16 @@ impl FreeNumbers {
     }
 
     /// The pair of the lowest number that is free.
-    pub fn open(&mut self, depth: usize) -> Option<FreePair>
-        ensures { MatchOption result
-            ((self.new.pairs ≡ self.old.pairs) × NoneFree depth self.old.pairs.items)
+    pub fn open(&mut self, depth: usize) -> Result<FreePair, AllTaken>
+        ensures { MatchResult result
             (λ p. (p.low.depth ≡ depth) × (at_place self.old.pairs.items p.low.spot.channel ≡ Some p) × (self.new.pairs.items ≡ slice_set self.old.pairs.items p.low.spot.channel None)
-            × ((j : ℕ) → j < p.low.spot.channel → has_depth depth (at_place self.old.pairs.items j) ≡ false)) }
+            × ((j : ℕ) → j < p.low.spot.channel → has_depth depth (at_place self.old.pairs.items j) ≡ false))
+            (λ taken. (taken.depth ≡ depth) × (self.new.pairs ≡ self.old.pairs) × NoneFree depth self.old.pairs.items) }
     {
-        let at = self.lowest(depth)?;
-        self.pairs[at].take()
+        let Some(at) = self.lowest(depth) else {
+            return Err(AllTaken { depth });
+        };
+        Ok(self.pairs[at].take().unwrap())
     }
 
     /// The number is free again. The note is what side 0 tells side 1.

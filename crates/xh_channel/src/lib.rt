@@ -20,6 +20,7 @@ mod queue_end;
 mod queue_rule;
 mod refused;
 mod spot;
+mod unopened;
 mod unsent;
 mod waiting;
 
@@ -31,4 +32,5 @@ pub use line::Line;
 pub use message::Message;
 pub use refused::Refused;
 pub use spot::Spot;
+pub use unopened::Unopened;
 pub use unsent::Unsent;

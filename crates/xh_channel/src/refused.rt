@@ -17,9 +17,6 @@ pub enum Refused {
     /// The depth is not 1 to 16. Number 2.
     #[error("the depth is not 1 to 16")]
     BadSize,
-    /// Each channel is taken. Number 13.
-    #[error("each channel is taken")]
-    NoChannel,
     /// No message waits, and the peer is shut. Nothing is handed back. Number 15.
     #[error("no message waits, and the peer is shut")]
     PeerClosed { back: ArrayVec<u16, MAX_BLOCKS> },
@@ -35,7 +32,6 @@ impl From<Refused> for xh_core::Refused {
         match refused {
             Refused::OutOfMemory => xh_core::Refused::OutOfMemory,
             Refused::BadSize => xh_core::Refused::BadSize,
-            Refused::NoChannel => xh_core::Refused::NoChannel,
             Refused::PeerClosed { back } => xh_core::Refused::PeerClosed { back },
             Refused::Empty => xh_core::Refused::Empty,
         }

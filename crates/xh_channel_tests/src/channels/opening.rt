@@ -9,7 +9,7 @@ use arrayvec::ArrayVec;
 use std::process::Abort;
 use std::sync::Wait;
 use std::time::Clock;
-use xh_channel::{Channels, Endpoint, Hold, Refused};
+use xh_channel::{Channels, Endpoint, Hold, Unopened};
 use xh_core::{Contract, Row};
 
 /// The rows of no contract.
@@ -51,7 +51,7 @@ fn open<R: Wait + Abort>(
     rt: &R,
     channels: &Channels,
     rows: &[Row],
-) -> Result<(Endpoint, Endpoint), Refused>
+) -> Result<(Endpoint, Endpoint), Unopened>
     ensures { IfOk result (λ e. IsPair e.0 e.1) }
 {
     if rows.is_empty() {
@@ -66,7 +66,7 @@ pub(super) fn opened<R: Wait + Abort>(rt: &R, channels: &Channels, rows: &[Row])
     ensures { IfSome result (λ e. IsPair e.low e.high) }
 {
     let made = match open(rt, channels, rows) {
-        Err(Refused::OutOfMemory) => open(rt, channels, rows),
+        Err(Unopened::OutOfMemory(_)) => open(rt, channels, rows),
         made => made,
     };
     match made {
