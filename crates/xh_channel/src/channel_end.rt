@@ -92,8 +92,6 @@ fn compare_queues(one: ChannelEnd, other: ChannelEnd) -> (ChannelEnd, ChannelEnd
         receiver,
         ..other
     };
-    one.word.agree(&mut other.word);
-    other.word.agree(&mut one.word);
     let note = one.word.note();
     one.word.hear(other.word.note());
     other.word.hear(note);
@@ -140,7 +138,7 @@ impl ChannelEnd {
         line: LineSeat,
         signal: OwnSignal,
     ) -> ChannelEnd
-        requires own { (word.word ≡ 2 * spot.channel + spot.side) × (line.side ≡ spot.side) }
+        requires own { (word.channel ≡ spot.channel) × (word.side ≡ spot.side) × (line.side ≡ spot.side) }
         requires roles { (queues.0.role.pushes ≡ true) × (queues.1.role.pops ≡ true) }
         requires new { AreIdle queues.0 queues.1 word × IsBlank line }
         ensures spot { (result.spot ≡ spot) × (result.depth ≡ queues.0.depth) }

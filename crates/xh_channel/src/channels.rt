@@ -9,7 +9,7 @@ ghost use Rattle.xh_channel.specs.Queues.{IsNewDirection};
 ghost use Rattle.xh_channel.specs.declared.refused.Refused.TheVariants.{OutOfMemory, BadSize};
 
 use crate::channel_end::{self, ChannelEnd};
-use crate::closed_word::ClosedWords;
+use crate::closed_word::ClosedWord;
 use crate::endpoint::Endpoint;
 use crate::free_numbers::{AllTaken, Freed, Home, all_free, handles};
 use crate::free_pair::FreePair;
@@ -56,18 +56,17 @@ fn queues(alloc: Global, depth: usize) -> Result<(Queues, Queues), AllocError>
     Ok(((there.0, back.1), (back.0, there.1)))
 }
 
-// Both ends of the channel that is made next.
+// Both ends of a new channel of this number.
 fn pair(
     alloc: Global,
     depth: usize,
-    words: &mut ClosedWords,
     channel: u8,
     signal: &OwnSignal,
 ) -> Result<FreePair, AllocError>
-    requires { (0 < depth) × (channel < CHANNELS) × (words.old.next ≡ 2 * channel) }
-    ensures { IfOk result (λ p. (p.low.spot.channel ≡ channel) × (p.low.depth ≡ depth) × (words.new.next ≡ 2 * channel + 2)) }
+    requires { (0 < depth) × (channel < CHANNELS) }
+    ensures { IfOk result (λ p. (p.low.spot.channel ≡ channel) × (p.low.depth ≡ depth)) }
 {
-    let words = words.both();
+    let words = ClosedWord::pair(alloc, channel);
     let queues = queues(alloc, depth);
     let lines = LineSeat::pair(alloc);
     let own: Result<_, _> = Arc::try_clone(signal);
@@ -87,16 +86,15 @@ fn pair(
 fn pairs(
     alloc: Global,
     depth: usize,
-    words: &mut ClosedWords,
     signals: &Vec<OwnSignal>,
 ) -> Result<Vec<Option<FreePair>>, AllocError>
-    requires { (0 < depth) × (words.old.next ≡ 0) × (length signals.now.items ≡ CHANNELS) }
+    requires { (0 < depth) × (length signals.now.items ≡ CHANNELS) }
     ensures { IfOk result (λ v. (length v.items ≡ CHANNELS) × StandAtTheirNumbers v.items × ((i : ℕ) → i < CHANNELS → has_depth depth (at_place v.items i) ≡ true)) }
 {
     let mut pairs = Vec::with_capacity(alloc, CHANNELS as usize)?;
     for channel in 0..CHANNELS {
         let signal = &signals[channel as usize];
-        pairs.push(Some(pair(alloc, depth, words, channel, signal)?))?;
+        pairs.push(Some(pair(alloc, depth, channel, signal)?))?;
     }
     Ok(pairs)
 }
@@ -124,10 +122,9 @@ impl Channels {
         if depth == 0 || depth > MAX_DEPTH {
             return Err(Refused::BadSize);
         }
-        let mut words = ClosedWords::new(alloc)?;
         let bells = Bells::new(alloc)?;
         let signals = signals(alloc, &bells)?;
-        let pairs = pairs(alloc, depth as usize, &mut words, &signals)?;
+        let pairs = pairs(alloc, depth as usize, &signals)?;
         Ok(Channels {
             depth,
             home: all_free(alloc, pairs)?,
@@ -167,12 +164,9 @@ impl Channels {
         };
         let signal = &self.signals[channel as usize];
         signal.forget();
-        let Ok(mut words) = ClosedWords::from_channel(alloc, channel) else {
-            return Err(Unopened::OutOfMemory(taken));
-        };
-        pair(alloc, self.depth as usize, &mut words, channel, signal).map_err(
-            |_error| Unopened::OutOfMemory(taken),
-        )
+        pair(alloc, self.depth as usize, channel, signal).map_err(|_error| Unopened::OutOfMemory(
+            taken,
+        ))
     }
 
     // The pair of the lowest number that is free, or that came back.
@@ -237,7 +231,7 @@ impl Channels {
     /// What is answered shows that this very pair was put back.
     pub fn cancel<R: Wait>(&self, rt: &R, low: Endpoint, high: Endpoint) -> Freed
         requires { IsPair low high }
-        ensures freed { (result.note.table ≡ low.closed) × (result.note.word ≡ 2 * low.spot.channel + 1) }
+        ensures freed { result.note.table ≡ low.closed }
     {
         let Endpoint { inner: low, home } = low;
         let mut low = low.without_contract();

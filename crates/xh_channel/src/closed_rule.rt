@@ -1,9 +1,10 @@
-// The closed words, one for each end: 0 open, 1 shut. No value of a `Sight` is made.
+// The closed words of a channel, one for each side: 0 open, 1 shut. No value of a `Sight` is made.
 use atomic_table::{Join, Play, Split, Table, TableRule};
 use std::alloc::Global;
 
-/// The words from `from` to `upto` are for this seat alone to store, and show whether they were shut.
+/// The words from `from` to `upto` of the channel are for this seat alone to store. It knows of the side `from`, and of its peer, whether they were shut.
 pub struct Sight {
+    pub channel: u64,
     pub from: u64,
     pub upto: u64,
     pub shut: bool,
@@ -12,71 +13,48 @@ pub struct Sight {
 
 pub struct Shutting;
 
-impl TableRule<(), Sight, ()> for Shutting {
+impl TableRule<(), Sight, u8> for Shutting {
     ghost use Rattle.std.specs.Prelude.{false};
-    ghost use Rattle.xh_model.specs.declared.limits.TheConstants.{DIRECTIONS};
     ghost use Rattle.xh_channel.specs.inner.ClosedWords.{sight, ShowsWords};
 
     ghost holds = { λ _ s. ShowsWords s };
 
-    ghost first = { λ _. sight 0 DIRECTIONS false false };
+    ghost first = { λ channel. sight channel 0 2 false false };
 }
 
-/// The first word goes to a new seat.
-pub struct OneWord;
+/// The seat of both words keeps side 1's, and a new one has side 0's.
+pub struct Words;
 
-impl Split<Sight> for OneWord {
-    ghost use Rattle.xh_channel.specs.inner.ClosedWords.{one_word, other_words};
+impl Split<Sight> for Words {
+    ghost use Rattle.std.specs.Prelude.{false};
+    ghost use Rattle.xh_channel.specs.inner.ClosedWords.{sight};
 
-    ghost left = { other_words };
+    ghost left = { λ v. sight v.channel 1 2 false false };
 
-    ghost right = { one_word };
+    ghost right = { λ v. sight v.channel 0 1 false false };
 }
 
-/// A new seat tells whether the word was shut.
-pub struct TellsShut;
+/// A new seat tells the peer what this one knows.
+pub struct Tells;
 
-impl Split<Sight> for TellsShut {
-    ghost use Rattle.xh_channel.specs.inner.ClosedWords.{shut_told};
+impl Split<Sight> for Tells {
+    ghost use Rattle.xh_channel.specs.inner.ClosedWords.{told};
 
     ghost left = { λ v. v };
 
-    ghost right = { shut_told };
+    ghost right = { told };
 }
 
-/// A seat hears what another tells of its peer.
-pub struct HearsShut;
+/// A seat hears what its peer tells, and stays. Were it told to be shut and isn't, it would have a sight that no words show.
+pub struct Hears;
 
-impl Join<Sight> for HearsShut {
+impl Join<Sight> for Hears {
     ghost use Rattle.std.specs.Prelude.{false};
-    ghost use Rattle.xh_channel.specs.inner.ClosedWords.{sight, hearing_shut};
+    ghost use Rattle.xh_channel.specs.inner.ClosedWords.{sight, hearing};
 
-    ghost both = { hearing_shut };
+    ghost both = { hearing };
 
-    ghost spent = { sight 0 0 false false };
-}
-
-/// A new seat tells what this one saw of its peer.
-pub struct TellsSeen;
-
-impl Split<Sight> for TellsSeen {
-    ghost use Rattle.xh_channel.specs.inner.ClosedWords.{seen_told};
-
-    ghost left = { λ v. v };
-
-    ghost right = { seen_told };
-}
-
-/// The peer's own seat hears what was seen of it, and stays. Were it not so, it would have a sight that no words show.
-pub struct HearsSeen;
-
-impl Join<Sight> for HearsSeen {
-    ghost use Rattle.std.specs.Prelude.{false};
-    ghost use Rattle.xh_channel.specs.inner.ClosedWords.{sight, hearing_seen};
-
-    ghost both = { hearing_seen };
-
-    ghost spent = { sight 0 0 false false };
+    ghost spent = { sight 0 0 0 false false };
 }
 
 /// A load, by a seat whose sight some words show.
@@ -106,4 +84,4 @@ impl Play<(), Sight> for LooksAtPeer {
     ghost then = { Looked };
 }
 
-pub type Words = Table<(), Sight, (), Shutting, Global>;
+pub type ClosedTable = Table<(), Sight, u8, Shutting, Global>;

@@ -28,7 +28,7 @@ pub struct AllTaken {
 #[derive(Drop)]
 pub struct NoHandle(AllocError);
 
-/// Shows that a pair was put back among free numbers, by a note of its side 0. It is made nowhere else.
+/// Shows that a pair was put back among free numbers, by a note of its closed words, which no other channel has. It is made nowhere else.
 #[derive(Drop)]
 pub struct Freed {
     note: ShutNote,
@@ -83,9 +83,9 @@ impl FreeNumbers {
         Ok(self.pairs[at].take().unwrap())
     }
 
-    /// The number is free again. The note is what side 0 tells side 1.
+    /// The number is free again. The note is of this very channel.
     pub fn cancel(&mut self, pair: FreePair, note: ShutNote) -> Freed
-        requires { (note.table ≡ pair.low.closed) × (note.word ≡ 2 * pair.low.spot.channel + 1) }
+        requires { note.table ≡ pair.low.closed }
         ensures free { self.new.pairs.items ≡ slice_set self.old.pairs.items pair.low.spot.channel (Some pair) }
         ensures freed { result.note ≡ note }
     {

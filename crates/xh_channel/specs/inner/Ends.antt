@@ -1,5 +1,5 @@
 -- The parts of an endpoint.
-use Rattle.std.specs.Prelude.{◌≡◌, ℕ, ◌+◌, ◌*◌, ◌≤◌, Bool, true, false, cond, List, [], ◌∷◌, ◌++◌, length, take, Some, None}
+use Rattle.std.specs.Prelude.{◌≡◌, ℕ, ◌≤◌, Bool, true, false, cond, List, [], ◌∷◌, ◌++◌, length, take, Some, None}
 use Rattle.xh_model.specs.declared.limits.TheConstants.{MAX_MESSAGES}
 use Rattle.xh_channel.specs.declared.message.Message.{Message}
 use Rattle.xh_channel.specs.declared.spot.Spot.{Spot}
@@ -42,7 +42,7 @@ IsByQueues out word put line = IsBlank line × (put ≤ length out.role.sent) ×
 
 -- the parts of an endpoint are those of its spot
 pub record IsEnd (spot : Spot) (has_contract : Bool) (out into : QueueView) (word : ClosedView) (put : ℕ) (line : LineView) : Type 0 where
-  pub own_word : word.word ≡ 2 * spot.channel + spot.side
+  pub own_word : (word.channel ≡ spot.channel) × (word.side ≡ spot.side)
   pub own_seat : line.side ≡ spot.side
   pub pushes : out.role.pushes ≡ true
   pub pops : into.role.pops ≡ true
