@@ -4,9 +4,6 @@
     tools/turns.py TREE [ROW ..]           beside TREE, a clone of another commit in which the
                                            crates below xh_bench are checked: the benchmark of
                                            this one goes there, with the calls that were there
-    tools/turns.py --neighbour [ROW ..]    beside the same tree with a row, a work and a piece
-                                           more: each row, and what stands beside it, should stay
-                                           within 3 in a hundred
     --turns N                              so many turns, 9 or more (21)
     --built HERE THERE [ROW ..]            by these two programs, and nothing is built
 
@@ -30,34 +27,9 @@ from judging import ROOM, TOP, claim
 
 BENCH = "crates/xh_bench"
 BURST = 30e9
-# What a neighbour adds at the end of a list, as a new row would: where, behind what, and what.
-LOOP = """
-#[inline(never)]
-fn near{}, line: &Line, rounds: u64) -> Option<()> {{
-    for _ in 0..rounds {{
-        let mut buffer = filled(line.alloc, &[7; 64])?;
-        {}
-    }}
-    Some(())
-}}
-"""
-PUT = "let block = own.put(&mut buffer).ok()?;\n        buffer = own.into_bytes(block).ok()?;"
-PUSH = "line.free.push(rt, buffer).ok()?;\n        buffer = line.free.pop(rt)?;"
-NEIGHBOUR = (
-    ("calls.rt", "    ToAndFro,\n", "    Near,\n"),
-    ("calls.rt", "to_and_fro(own, half, rounds),\n",
-     "            Work::Near => near(own, half.line, rounds),\n"),
-    ("calls.rt", "", LOOP.format("<P: Process>(own: &mut P", PUT)),
-    ("pieces.rt", "    Pooled(usize),\n", "    Near,\n"),
-    ("pieces.rt", "pooled(rt, self, times),\n",
-     "            Piece::Near => near(rt, line, times),\n"),
-    ("pieces.rt", "", LOOP.format("<R: Wait>(rt: &R", PUSH)),
-    ("rows.rt", '"pairs_4", 4, GiveTake(0), 130, &[(1, Vector(0))]),\n',
-     '    ("near", 1, Work::Near, 1, &[(1, crate::pieces::Piece::Near)]),\n'),
-)
 
 
-def built(tree: pathlib.Path, is_near: bool = False) -> str:
+def built(tree: pathlib.Path) -> str:
     """The benchmark of this tree over the library of another, proved there."""
     crate = tree / BENCH
     if tree.resolve() != TOP:
@@ -69,11 +41,6 @@ def built(tree: pathlib.Path, is_near: bool = False) -> str:
         (tree / "crates.txt").write_text("\n".join(lines) + "\n")
         if "fn give_block" in (tree / "crates/xh_heap/src/process.rt").read_text():
             shutil.copy(TOP / "tools/library_before.txt", crate / "src/library.rt")
-    for file, behind, more in NEIGHBOUR if is_near else ():
-        text = (crate / "src" / file).read_text()
-        claim(behind in text, f"{file}: there is no place for a neighbour")
-        at = text.index(behind) + len(behind) if behind else len(text)
-        (crate / "src" / file).write_text(text[:at] + more + text[at:])
     subprocess.run(["rt", "run", "--", "read_16", "1"], cwd=crate, check=True)
     return str(crate / "out/xh_bench")
 
@@ -136,16 +103,13 @@ def compared(here: str, there: str, names: Sequence[str], turns: int) -> None:
             print(f"| `{' '.join([name, *more])}` | {both} | {told(ours, theirs)}", flush=True)
 
 
-def main(words: Sequence[str], is_near: bool, is_built: bool, turns: int) -> int:
+def main(words: Sequence[str], is_built: bool, turns: int) -> int:
     build_pin()
     if is_built:
         here, there, *names = words
     else:
-        tree, *names = [str(ROOM / "near"), *words] if is_near else words
-        here = built(TOP)
-        if is_near:
-            shutil.copytree(TOP, tree, symlinks=True)
-        there = built(pathlib.Path(tree), is_near)
+        tree, *names = words
+        here, there = built(TOP), built(pathlib.Path(tree))
     compared(here, there, names, turns)
     return 0
 
@@ -154,11 +118,9 @@ if __name__ == "__main__":
     form = argparse.RawDescriptionHelpFormatter
     parser = argparse.ArgumentParser(description=__doc__, formatter_class=form)
     parser.add_argument("word", nargs="*")
-    parser.add_argument("--neighbour", action="store_true")
     parser.add_argument("--built", action="store_true")
     parser.add_argument("--turns", type=int, default=21)
     given = parser.parse_intermixed_args()
-    if len(given.word) < (2 if given.built else not given.neighbour) or given.turns < 9:
+    if len(given.word) < 1 + given.built or given.turns < 9:
         sys.exit(__doc__)
-    run = (given.word, given.neighbour, given.built, given.turns)
-    sys.exit(judging.kept(lambda: main(*run)))
+    sys.exit(judging.kept(lambda: main(given.word, given.built, given.turns)))
