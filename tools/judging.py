@@ -161,8 +161,10 @@ def failure(judge: Callable[..., object], *words: Any) -> str:
     return ""
 
 
-def build_refuser(source: str | pathlib.Path = TOP / "tools/refuse_growth.c") -> None:
-    words = "cc", "-O2", "-shared", "-fPIC", "-o", ROOM / "refuse_growth.so", "-xc", source, "-ldl"
+def build_loaded(name: str, source: str | pathlib.Path = "") -> None:
+    """What is loaded before a program: tools/NAME.c, or another source."""
+    source = source or TOP / f"tools/{name}.c"
+    words = "cc", "-O2", "-shared", "-fPIC", "-o", ROOM / f"{name}.so", "-xc", source, "-ldl"
     claim(run(words).status == 0, f"{source} cannot be built")
 
 

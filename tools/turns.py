@@ -45,12 +45,6 @@ def built(tree: pathlib.Path) -> str:
     return str(crate / "out/xh_bench")
 
 
-def build_pin() -> None:
-    """Builds what keeps threads on their processors."""
-    words = "cc", "-O2", "-shared", "-fPIC", "-o", ROOM / "pin.so", "-xc", TOP / "tools/pin.c"
-    subprocess.run([*words, "-ldl"], check=True)
-
-
 def burst(words: Sequence[str], threads: int) -> int:
     """The picoseconds of a step, on as many processors as it has threads."""
     pins = ",".join(map(str, sorted(os.sched_getaffinity(0))[-threads:]))
@@ -104,7 +98,7 @@ def compared(here: str, there: str, names: Sequence[str], turns: int) -> None:
 
 
 def main(words: Sequence[str], is_built: bool, turns: int) -> int:
-    build_pin()
+    judging.build_loaded("pin")
     if is_built:
         here, there, *names = words
     else:
