@@ -1,169 +1,492 @@
-//! A process that acts at random: what it has, and how the answers of its calls are judged.
-ghost use Rattle.xh_heap.specs.declared.values.End.{End};
+//! A process that acts at random, and judges what it is answered.
 
-use crate::board::AIMED_AT;
-use crate::plan::Chance;
-use crate::round::Round;
+use crate::round::{AIMED_AT, Chance, GIVEN, Line, Round, TAKEN, Task};
+use std::mem::replace;
 use std::time::{Duration, Instant};
-use xh_heap::{AsEnd, Block, End, Process, Refused, Starter};
+use xh_heap::{
+    Answered, Block, Came, Contract, Item, Items, Message, Process, Refused, Returned, Row, Starter,
+};
 
-/// A block, and the number that stands in its first and in its last eight bytes.
-#[derive(Drop)]
-pub(crate) struct Piece {
-    pub(crate) block: Block,
-    pub(crate) id: u16,
-}
+// The tag of a message without an end, the only one by a contract; else it is the end's name.
+const NO_END: u16 = 65_535;
 
-/// An end, and its name: 4 for each channel before its own, 2 where that goes by a contract, and its side.
-#[derive(Drop)]
-pub(crate) struct Line {
-    pub(crate) end: End,
-    pub(crate) name: u16,
-}
+// What a call that makes blocks, and one that makes ends, may be refused.
+const MAKES: &[&str] = &["NoSpace", "NoRecord"];
 
-impl AsEnd for Line {
-    ghost shows = { λ line. line.end };
+const OPENS: &[&str] = &["NoSpace", "NoRecord", "NoChannel"];
 
-    fn as_end(&self) -> &End {
-        &self.end
-    }
-}
-
-/// What a process is started for: to act, by a seed, with an end of a channel to its parent, so many levels below a worker.
-pub(crate) type Task = (Line, u64, u32);
-
-/// A process, and what it has: blocks, ends that may go anywhere, those of the channels to its children, and to its parent.
-/// `due` is until when its call waits, `why` what that was refused, and `is_over` whether it was told Ended.
+/// What a process has: blocks, each with the stamp that it begins and ends in, ends that may go anywhere, those of the channels to
+/// its children, and that to its parent, if any. `due` is until when its call waits, and `is_over` whether it was told Ended.
 #[derive(Drop)]
 pub(crate) struct Actor<'a, 'b, 'c, P: Process> {
-    pub(crate) own: &'a mut P,
-    pub(crate) threads: &'b Starter<P, Task>,
-    pub(crate) round: &'c Round,
-    pub(crate) chance: Chance,
-    pub(crate) level: u32,
-    pub(crate) pieces: Vec<Piece>,
-    pub(crate) lines: Vec<Line>,
-    pub(crate) children: Vec<Line>,
-    pub(crate) parent: Option<Line>,
-    pub(crate) due: Option<Instant>,
-    pub(crate) why: &'static str,
-    pub(crate) is_over: bool,
+    own: &'a mut P,
+    threads: &'b Starter<P, Task>,
+    round: &'c Round,
+    acts: u32,
+    chance: Chance,
+    blocks: Vec<(Block, u64)>,
+    lines: Vec<Line>,
+    children: Vec<Line>,
+    parent: Vec<Line>,
+    due: Option<Instant>,
+    is_over: bool,
+}
+
+// A call of the process: what it was answered, if Ok. A refusal has to be one of these.
+macro_rules! ask {
+    ($actor:ident, $call:ident($($word:expr),*), $may:expr) => {{
+        let told = $actor.own.$call($($word),*);
+        $actor.judge(stringify!($call), told, $may)
+    }};
+}
+
+// The stamp of a block in flight: to an end of this name, to which so many messages were given before, as one of so many items.
+fn sent(to: u16, given: u64, count: usize) -> u64 {
+    1 << 63 | u64::from(to) << 40 | given % (1 << 32) << 8 | (count as u64 % 16) << 4
+}
+
+// What a take at several ends answers, and at which.
+fn came(told: Result<Answered, Refused>, at: &mut usize) -> Result<Came, Refused> {
+    let answered = told?;
+    *at = answered.at;
+    answered.answer.map(Came::Message)
 }
 
 impl<'a, 'b, 'c, P: Process> Actor<'a, 'b, 'c, P> {
-    pub(crate) fn new(
-        own: &'a mut P,
-        threads: &'b Starter<P, Task>,
-        round: &'c Round,
-        seed: u64,
-        level: u32,
-    ) -> Self {
+    pub(crate) fn new(own: &'a mut P, threads: &'b Starter<P, Task>, round: &'c Round) -> Self {
+        let chance = Chance(round.seed.wrapping_mul(65_536) ^ u64::from(own.number()));
         Actor {
             own,
             threads,
             round,
-            chance: Chance(seed),
-            level,
-            pieces: Vec::new(round.alloc),
+            acts: 0,
+            chance,
+            blocks: Vec::new(round.alloc),
             lines: Vec::new(round.alloc),
             children: Vec::new(round.alloc),
-            parent: None,
+            parent: Vec::new(round.alloc),
             due: None,
-            why: "",
             is_over: false,
         }
     }
 
-    /// Acts so often, as long as it runs and nothing is wrong.
-    pub(crate) fn act_all(&mut self) {
-        for _ in 0..self.round.plan.acts >> (2 * self.level.min(4)) {
-            if !self.is_over && self.round.is_right(&self.own.rt()) {
-                self.act();
+    /// Waits for its parent's first message, or its end, and acts so often. Once its children have ended it closes and frees what it
+    /// has, or ends, or both, or neither.
+    pub(crate) fn play(&mut self, lines: Vec<Line>, mut parent: Vec<Line>, acts: u32) {
+        let round = self.round;
+        self.lines = lines;
+        let _ = self.take(&mut parent, true);
+        (self.parent, self.acts) = (parent, acts);
+        for _ in 0..acts {
+            let _ = self.act();
+        }
+        self.hear_all();
+        let _ = self.lines.append(&mut self.parent);
+        for _ in 0..self.lines.len().max(self.blocks.len()) {
+            if round.closes {
+                let _ = self.close_one();
+                let _ = self.free_one();
             }
         }
-        self.finish();
+        if !self.is_over && self.chance.below(2) == 0 {
+            round.add(AIMED_AT, usize::from(self.own.number()), 1);
+            let bytes = ask!(self, exit(), &[]);
+            let may_have = !round.closes || round.is_scarce;
+            let is_so = may_have || bytes.is_none_or(|it| it == 0);
+            self.claim(is_so, "it has more than it knows");
+            let is_over = matches!(self.own.alloc(16), Err(Refused::Ended));
+            self.claim(is_over, "it goes on after its end");
+        }
     }
 
-    fn act(&mut self) {
+    fn act(&mut self) -> Option<()> {
         match self.chance.below(128) {
-            0..=31 => self.make(),
-            32..=41 => self.cut(),
-            42..=51 => self.visit(),
-            52..=65 => self.let_go(),
-            66..=87 => self.give(),
-            88..=99 => self.take(),
-            100..=111 => self.take_any(),
+            _ if self.is_over => None,
+            0..=33 => self.make(),
+            34..=44 => self.cut(),
+            45..=65 => self.free_one(),
+            66..=87 => {
+                let line = self.chance.pick(&mut self.lines)?;
+                let _ = self.give(&line, false);
+                self.lines.push(line).ok()
+            }
+            88..=111 => {
+                let mut lines = replace(&mut self.lines, Vec::new(self.round.alloc));
+                let _ = self.take(&mut lines, false);
+                self.lines.append(&mut lines).ok()
+            }
             112..=114 => self.open(),
             115..=116 => self.close_one(),
             117..=119 => self.start(),
-            120..=121 => self.crowd(),
-            122..=123 => self.report(),
-            124 => self.hear_all(),
-            125..=126 => self.look_over(),
+            // The parent takes, at its end at the latest.
+            120..=121 => {
+                let line = self.parent.pop()?;
+                let _ = self.give(&line, true);
+                self.parent.push(line).ok()
+            }
+            122..=123 => {
+                let seen = Ok::<_, Refused>(self.own.overview());
+                self.judge("overview", seen, &[]).map(|_seen| ())
+            }
+            124 => Some(self.hear_all()),
             _ => self.kill(),
         }
     }
 
-    pub(crate) fn claim(&mut self, is_so: bool, wrong: &'static str) {
-        if !is_so {
-            self.round.tell(&self.own.rt(), wrong);
+    fn claim(&self, is_so: bool, wrong: &'static str) -> Option<()> {
+        let mut first = self.round.wrong.lock(&self.own.rt());
+        if !is_so && first.is_empty() {
+            *first = wrong;
         }
+        Some(())
     }
 
-    /// Counts an answer of a call. A refusal has to be one of these, or one that is by the plan.
-    pub(crate) fn judge<T: Drop>(
+    // Counts an answer of a call. A refusal is one of these, or one that is by the round; where the call waits for a time, it doesn't
+    // come before.
+    fn judge<T: Drop, E: Into<Refused>>(
         &mut self,
-        call: &'static str,
-        told: Result<T, Refused>,
-        may: &[&'static str],
+        call: &str,
+        told: Result<T, E>,
+        may: &[&str],
     ) -> Option<T> {
-        match told {
+        let (round, number) = (self.round, usize::from(self.own.number()));
+        let why: Refused = match told {
             Ok(value) => {
-                self.round.count(call);
-                (self.due, self.why) = (None, "");
-                Some(value)
+                round.count(call);
+                return Some(value);
             }
-            Err(why) => {
-                self.refuse(why.name(), may);
-                None
-            }
-        }
-    }
-
-    pub(crate) fn refuse(&mut self, why: &'static str, may: &[&'static str]) {
-        let number = self.own.number();
-        let is_aimed_at = self.is_aimed_at(number);
-        let is_so = match why {
-            "Ended" => is_aimed_at || may.contains(&why),
-            "OutOfMemory" => self.round.plan.scarce,
-            "Worn" => self.round.plan.wears,
-            _ => may.contains(&why),
+            Err(why) => why.into(),
         };
-        self.claim(is_so, why);
-        if let "NoSpace" | "NoRecord" | "Full" | "Empty" = why {
+        let why = why.name();
+        let is_ended = why == "Ended" && round.add(AIMED_AT, number, 0) > 0;
+        let is_by_round = why == "OutOfMemory" && round.is_scarce || why == "Worn" && round.wears;
+        self.claim(is_ended || is_by_round || may.contains(&why), why);
+        if let "NoSpace" | "NoRecord" | "Full" | "Empty" = why
+            && call.ends_with("_for")
+        {
             let now = Instant::now(&self.own.rt()).ok();
-            let is_late = now.is_none() || now >= self.due;
-            self.claim(is_late, "refused before its time");
+            self.claim(now.is_none() || now >= self.due, "refused before its time");
         }
-        self.is_over |= why == "Ended" && is_aimed_at;
-        (self.due, self.why) = (None, why);
+        self.is_over |= is_ended;
+        None
     }
 
-    /// Whether somebody meant to end the process.
-    pub(crate) fn is_aimed_at(&self, number: u16) -> bool {
-        self.round.board.get(AIMED_AT, number) != 0
-    }
-
-    /// So long the next call waits.
-    pub(crate) fn time(&mut self) -> Duration {
+    // So long the next call waits.
+    fn time(&mut self) -> Duration {
         let time = Duration::from_millis(u64::from(self.chance.below(3)));
         let now = Instant::now(&self.own.rt()).ok();
         self.due = now.and_then(|now| now.checked_add(time));
         time
     }
 
-    /// How its process stands in WHERE.
-    pub(crate) fn here(&self) -> u64 {
-        u64::from(self.own.number()) + 1
+    // One of the last arena goes at once: all wait for its memory, and who has some waits for nobody.
+    fn make(&mut self) -> Option<()> {
+        let (config, mut bytes) = (self.round.config, Vec::new(self.round.alloc));
+        let most = config.bytes >> (2 * self.chance.below(8));
+        let n = self.chance.below(most).saturating_add(1);
+        let (how, time) = (self.chance.below(6), self.time());
+        let last = u32::from(config.arenas).saturating_sub(1);
+        let arena = self.chance.below(last);
+        bytes.resize(n as usize, 7).ok()?;
+        let made = match how {
+            0 => ask!(self, alloc(n), MAKES),
+            1 => ask!(self, alloc_in(arena, n), MAKES),
+            2 => ask!(self, alloc_for(arena, n, time), MAKES),
+            3 => ask!(self, alloc_wait(last, n), &[]),
+            4 => ask!(self, put(&mut bytes), MAKES),
+            _ => ask!(self, put_in(arena, &mut bytes), MAKES),
+        };
+        let is_put = how > 3 && made.is_some();
+        self.claim(bytes.is_empty() == is_put, "bytes in two places, or none");
+        let block = made?;
+        self.check_new(&block, n, if is_put { 7 } else { 0 });
+        if how == 3 {
+            return ask!(self, free(block), &[]).map(|_bytes| ());
+        }
+        self.keep(block)
+    }
+
+    // A new block has so many bytes, rounded up, which are this one, and zeros.
+    fn check_new(&mut self, block: &Block, n: u32, byte: u8) {
+        let is_filled = |bytes: &[u8]| {
+            let (filled, rest) = bytes.split_at(bytes.len().min(n as usize));
+            filled.iter().all(|it| *it == byte) && rest.iter().all(|it| *it == 0)
+        };
+        let is_so = ask!(self, with_bytes(block, is_filled), &[]) != Some(false);
+        let is_whole = block.len() == n.div_ceil(16).saturating_mul(16);
+        self.claim(is_so && is_whole, "a new block has other bytes");
+        let _ = ask!(self, with_bytes_mut(block, |bytes| bytes.fill(9)), &[]);
+    }
+
+    // What was made, cut or came gets a stamp of its own.
+    fn keep(&mut self, block: Block) -> Option<()> {
+        let own = u64::from(self.own.number()) << 32;
+        let stamp = own | u64::from(self.chance.below(1 << 31));
+        self.stamp(&block, stamp);
+        self.blocks.push((block, stamp)).ok()
+    }
+
+    fn stamp(&mut self, block: &Block, stamp: u64) {
+        for at in [0, block.len().saturating_sub(8)] {
+            let _ = ask!(self, write(block, at, &stamp.to_le_bytes()), &[]);
+        }
+    }
+
+    fn check(&mut self, block: &Block, at: u32, stamp: u64) {
+        let mut word = [0; 8];
+        let is_read = ask!(self, read(block, at, &mut word), &[]).is_some();
+        let is_so = !is_read || word == stamp.to_le_bytes();
+        self.claim(is_so, "a block has another stamp");
+    }
+
+    fn pick(&mut self) -> Option<(Block, u64)> {
+        let (block, stamp) = self.chance.pick(&mut self.blocks)?;
+        self.check(&block, 0, stamp);
+        self.check(&block, block.len().saturating_sub(8), stamp);
+        Some((block, stamp))
+    }
+
+    // The tail has the old stamp at its end.
+    fn cut(&mut self) -> Option<()> {
+        let (mut block, stamp) = self.pick()?;
+        let len = block.len();
+        let k = self.chance.below(len / 16).saturating_mul(16);
+        let may = if k == 0 { "BadCut" } else { "NoRecord" };
+        if let Some(tail) = ask!(self, split(&mut block, k), &[may]) {
+            let is_so = block.len() == k && tail.len() == len.saturating_sub(k);
+            self.claim(is_so, "a cut has other lengths");
+            self.check(&tail, tail.len().saturating_sub(8), stamp);
+            let _ = self.keep(tail);
+        }
+        self.keep(block)
+    }
+
+    fn free_one(&mut self) -> Option<()> {
+        let (block, _stamp) = self.pick()?;
+        let (len, how) = (block.len() as usize, self.chance.below(2));
+        let back = match how {
+            0 => ask!(self, free(block), &[])? as usize,
+            _ => ask!(self, into_bytes(block), &[])?.len(),
+        };
+        self.claim(back == len, "not all bytes went back")
+    }
+
+    // At times side 0 alone may give, and no end.
+    fn rules(&mut self) -> Option<Contract> {
+        let row = Row {
+            tag: NO_END,
+            ..Row::default()
+        };
+        let rules = Contract::new(&[row]).ok()?;
+        Some(rules).filter(|_| self.chance.below(4) == 0)
+    }
+
+    fn open(&mut self) -> Option<()> {
+        let rules = self.rules();
+        let is_ruled = rules.is_some();
+        let ends = match rules {
+            Some(rules) => ask!(self, open_with(rules), OPENS),
+            None => ask!(self, open(), OPENS),
+        };
+        let (low, high) = self.round.named(ends?, is_ruled);
+        let _ = self.lines.push(low);
+        self.lines.push(high).ok()
+    }
+
+    // Starts a child on a thread, with a channel to it, by which it is told to begin.
+    fn start(&mut self) -> Option<()> {
+        let child = ask!(self, spawn(), &["NoPlace"])?;
+        let rules = self.rules();
+        let is_ruled = rules.is_some();
+        let (call, told) = match rules {
+            Some(rules) => ("wire_with", self.own.wire_with(&child, rules)),
+            None => ("wire", self.own.wire(&child)),
+        };
+        let is_gone = self.round.add(AIMED_AT, usize::from(child.number()), 0) > 0;
+        let is_ended = is_gone && matches!(told, Err(Refused::Ended));
+        let may = if is_ended { &["Ended"] } else { OPENS };
+        let (line, its) = self.round.named(self.judge(call, told, may)?, is_ruled);
+        let mut parent = Vec::new(self.round.alloc);
+        parent.push(its).ok()?;
+        let told = self.threads.start(child, (parent, self.acts / 4));
+        let _ = self.judge("start", told, &[]);
+        let _ = self.give(&line, false);
+        self.children.push(line).ok()
+    }
+
+    fn close(&mut self, line: Line) -> Option<()> {
+        let bytes = ask!(self, close(line.end), &[])?;
+        self.claim(bytes >= 32, "an end has less than its own bytes")
+    }
+
+    fn close_one(&mut self) -> Option<()> {
+        let line = self.chance.pick(&mut self.lines)?;
+        self.close(line)
+    }
+
+    // Gives blocks and perhaps an end, or bytes. It waits for room, or for a time, or gives at once; what comes back it has again.
+    fn give(&mut self, line: &Line, waits: bool) -> Option<()> {
+        let (to, mut items, mut tag) = (line.name ^ 1, Items::new(), NO_END);
+        let given = self.round.add(GIVEN, usize::from(to), 0);
+        if waits && self.chance.below(2) == 0 {
+            return self.give_bytes(line, sent(to, given, 1).to_le_bytes());
+        }
+        // An end of a channel that was opened later, so that none is on its way to itself.
+        let is_later = |it: &Line| self.round.circles || it.name / 4 > line.name / 4;
+        if let Some(at) = self.lines.iter().position(is_later)
+            && at < self.lines.len()
+            && line.name & 2 == 0
+            && self.chance.below(4) == 0
+        {
+            let Line { end, name } = self.lines.swap_remove(at);
+            tag = name;
+            let _ = items.try_push(Item::End(end));
+        }
+        let blocks = (self.chance.below(8) as usize).min(self.blocks.len());
+        let count = items.len().wrapping_add(blocks);
+        let stamp = sent(to, given, count);
+        for _ in 0..blocks {
+            let (block, _stamp) = self.pick()?;
+            self.stamp(&block, stamp.wrapping_add(items.len() as u64));
+            let _ = items.try_push(Item::Block(block));
+        }
+        let back = self.send(line, tag, items, waits)?;
+        let stamp = Some(stamp).filter(|_| back.len() == count);
+        self.unpack(back, tag, stamp);
+        Some(())
+    }
+
+    fn send(&mut self, line: &Line, tag: u16, items: Items, waits: bool) -> Option<Items> {
+        let (round, to) = (self.round, usize::from(line.name ^ 1));
+        let (given, taken) = (round.add(GIVEN, to, 0), round.add(TAKEN, to, 0));
+        let is_full = !waits && given.wrapping_sub(taken) >= u64::from(round.config.depth);
+        let (how, time, end) = (self.chance.below(2), self.time(), &line.end);
+        let (call, told) = match how {
+            _ if waits => ("give_wait", self.own.give_wait(end, tag, items)),
+            0 => ("give", self.own.give(end, tag, items)),
+            _ => ("give_for", self.own.give_for(end, tag, items, time)),
+        };
+        let (told, back) = match told {
+            Ok(no) => (Ok(no), None),
+            Err(Returned { why, value }) => (Err(why), Some(value)),
+        };
+        self.gave(line, call, told, is_full);
+        back
+    }
+
+    fn give_bytes(&mut self, line: &Line, word: [u8; 8]) -> Option<()> {
+        let mut bytes = Vec::new(self.round.alloc);
+        for _ in 0..2 {
+            bytes.extend_from_slice(&word).ok()?;
+        }
+        let told = self.own.give_bytes_wait(&line.end, NO_END, &mut bytes);
+        self.gave(line, "give_bytes_wait", told, false);
+        Some(())
+    }
+
+    // A message has the next number. Items are lost by kills alone.
+    fn gave(&mut self, line: &Line, call: &str, told: Result<u64, Refused>, is_full: bool) {
+        let may: &[&str] = match told {
+            Err(Refused::Full { .. }) if is_full || self.round.kills => &["Full"],
+            Err(Refused::Protocol { .. }) if line.name & 3 == 3 => &["Protocol"],
+            _ if call == "give_bytes_wait" => &["PeerClosed", "NoSpace", "NoRecord"],
+            _ => &["PeerClosed"],
+        };
+        if let Some(no) = self.judge(call, told, may) {
+            let given = self.round.add(GIVEN, usize::from(line.name ^ 1), 1);
+            self.claim(no == given.wrapping_add(1), "a message has another number");
+        }
+    }
+
+    // Takes from its children until each has ended. It waits without an end for them alone, and they for it: each ends, or takes.
+    fn hear_all(&mut self) {
+        let mut children = replace(&mut self.children, Vec::new(self.round.alloc));
+        for _ in self.own.rt().forever() {
+            if self.is_over || children.is_empty() {
+                return;
+            }
+            let _ = self.take(&mut children, true);
+        }
+    }
+
+    // Takes at one of these ends, or at several. It waits, or for a time, or takes at once. One whose peer is closed is closed too.
+    fn take(&mut self, lines: &mut Vec<Line>, waits: bool) -> Option<()> {
+        let (how, time) = (self.chance.below(4), self.time());
+        let mut at = self.chance.below(65_536) as usize % lines.len().max(1);
+        let line = lines.get(at)?;
+        let (end, ends, own) = (&line.end, &lines[..lines.len().min(64)], &mut *self.own);
+        let given = self.round.add(GIVEN, usize::from(line.name), 0);
+        let (call, told) = match how {
+            0 if waits => ("take_wait", own.take_wait(end).map(Came::Message)),
+            1 if waits => ("take_bytes_wait", own.take_bytes_wait(end)),
+            _ if waits => ("take_any_wait", came(own.take_any_wait(ends), &mut at)),
+            0 => ("take", own.take(end).map(Came::Message)),
+            1 => ("take_for", own.take_for(end, time).map(Came::Message)),
+            2 => ("take_any", came(own.take_any(ends), &mut at)),
+            _ => ("take_any_for", came(own.take_any_for(ends, time), &mut at)),
+        };
+        if at >= lines.len() {
+            return None;
+        }
+        let (line, is_ok) = (lines.swap_remove(at), told.is_ok());
+        let (name, is_closed) = (line.name, matches!(told, Err(Refused::PeerClosed { .. })));
+        let taken = self.round.add(TAKEN, usize::from(name), u64::from(is_ok));
+        let empty = if waits { "PeerClosed" } else { "Empty" };
+        let came = self.judge(call, told, &["PeerClosed", empty]);
+        let is_so = is_ok || self.is_over || how > 1 || given <= taken;
+        self.claim(is_so, "a message is lost");
+        if is_closed {
+            return self.close(line);
+        }
+        let _ = lines.push(line);
+        self.read(name, taken, came?)
+    }
+
+    // A message is the next one, and by the contract.
+    fn read(&mut self, name: u16, taken: u64, came: Came) -> Option<()> {
+        let (no, tag) = match came {
+            Came::Bytes { no, tag, bytes } => {
+                let word = sent(name, taken, 1).to_le_bytes();
+                let is_so = bytes.starts_with(&word) && bytes.ends_with(&word);
+                self.claim(is_so, "other bytes came");
+                (no, tag)
+            }
+            Came::Message(Message { no, tag, items }) => {
+                let stamp = sent(name, taken, items.len());
+                self.unpack(items, tag, Some(stamp));
+                (no, tag)
+            }
+        };
+        self.claim(no == taken.wrapping_add(1), "a message is not the next one");
+        let is_so = name & 2 == 0 || tag == NO_END && name & 1 == 1;
+        self.claim(is_so, "a message is not by the contract")
+    }
+
+    // What came, or came back, each block as it was sent. An end is named by the tag.
+    fn unpack(&mut self, items: Items, tag: u16, stamp: Option<u64>) {
+        for (at, item) in items.into_iter().enumerate() {
+            match item {
+                Item::Block(block) => {
+                    if let Some(stamp) = stamp {
+                        let stamp = stamp.wrapping_add(at as u64);
+                        self.check(&block, 0, stamp);
+                        self.check(&block, block.len().saturating_sub(8), stamp);
+                    }
+                    let _ = self.keep(block);
+                }
+                Item::End(end) => drop(self.lines.push(Line { end, name: tag })),
+                Item::Missing => drop(self.claim(self.round.kills, "an item is missing")),
+            }
+        }
+    }
+
+    // Ends the process of any number: where there was none, nothing is ended.
+    fn kill(&mut self) -> Option<()> {
+        let number = self.chance.below(256) as u16;
+        if self.round.kills {
+            self.round.add(AIMED_AT, usize::from(number), 1);
+            let _ = ask!(self, kill(number), &["NoProcess", "Ended"]);
+        }
+        None
     }
 }
