@@ -4,7 +4,7 @@ ghost use Rattle.xh_kernel.specs.Histories.{IsLaw};
 
 use crate::deadlines::assert_deadlines;
 use crate::memory::{Memory, assert_memory};
-use crate::passing::assert_passes;
+use crate::passing::{assert_comes, assert_passes};
 use crate::serving::assert_served;
 use crate::strangers::assert_answered;
 use crate::waiting::{Waiting, assert_both_woken, assert_wait};
@@ -142,6 +142,7 @@ impl<'a, N: Names + Send + Sync, R: Wait + Clock + Sync, G: Gate + Sync> SharedM
 #[derive(Clone, Copy)]
 pub enum Case<'a> {
     Passes,
+    Comes,
     Waits(Waiting),
     Memory(Memory<'a>),
     BothWait,
@@ -154,6 +155,7 @@ pub enum Case<'a> {
 fn try_case<W: SharedMachine, R: Runtime>(rt: &R, alloc: Global, workers: &mut [W], case: Case) {
     match case {
         Case::Passes => assert_passes(rt, alloc, workers),
+        Case::Comes => assert_comes(rt, alloc, workers),
         Case::Waits(waiting) => assert_wait(rt, alloc, workers, waiting),
         Case::Memory(memory) => assert_memory(rt, alloc, workers, memory),
         Case::BothWait => assert_both_woken(rt, alloc, workers),

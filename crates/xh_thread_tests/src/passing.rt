@@ -11,6 +11,9 @@ const MESSAGES: u8 = 10;
 /// How often a give that finds no room is tried again.
 const TRIES: u32 = 1_000_000;
 
+/// How often a block comes to each process.
+const TURNS: u32 = 10_000;
+
 // Gives the blocks, again while the direction is full. All come back each time.
 fn give_on<M: Machine>(machine: &mut M, tag: u16, blocks: &[u16]) -> Result<u64, Refused> {
     for _ in 0..TRIES {
@@ -54,6 +57,54 @@ fn take_all<M: Machine>(machine: &mut M) -> u8 {
         }
     }
     taken
+}
+
+// The message that comes to the process, by looks without a wait.
+fn look<M: Machine>(machine: &mut M, p: u16, e: u16) -> Result<Received, Refused> {
+    for _ in 0..TRIES {
+        match machine.take(p, e, false) {
+            Err(Refused::Empty) => thread::yield_now(),
+            answer => return answer,
+        }
+    }
+    Err(Refused::Empty)
+}
+
+// The block comes to the process and goes on, so often. How often it came.
+fn pass_on<M: Machine>(machine: &mut M, p: u16, e: u16) -> u32 {
+    let mut came = 0;
+    for turn in 1..=TURNS {
+        match look(machine, p, e) {
+            Ok(message) if matches!(message.blocks.as_slice(), [Some(_)]) => came = turn,
+            _ => break,
+        }
+        if machine.give(p, e, 0, &[0]).is_err() {
+            break;
+        }
+    }
+    came
+}
+
+/// Record 0 goes to and fro, and comes with each message: no take looks at it before it has the message.
+pub fn assert_comes<W: SharedMachine, R: Runtime>(rt: &R, alloc: Global, workers: &mut [W]) {
+    let [mine, other] = workers else {
+        panic!(rt; "not two workers");
+    };
+    assert!(rt; matches!((mine.spawn(), mine.spawn()), (Ok(0), Ok(1))));
+    let made = (
+        mine.alloc(alloc, 0, 16, 0),
+        mine.wire(0, 1, 0, None),
+        mine.give(0, 1, 0, &[0]),
+    );
+    assert!(rt; matches!(made, (Ok(_), Ok(_), Ok(1))));
+    let came = thread::join(rt, || pass_on(mine, 0, 1), || pass_on(other, 1, 2));
+    assert!(rt; came == (TURNS, TURNS));
+}
+
+#[test]
+fn a_block_comes_with_its_message(rt: HostRuntime) {
+    let ledger = on_new_kernel(&rt, rt.alloc(), arena_of(1024, 16), 2, Case::Comes);
+    assert!(&rt; ledger.is_ok());
 }
 
 /// All are given, and all come as they should.
