@@ -1,7 +1,7 @@
 -- What a place's calls say of the tallies that they were lent.
 use Rattle.xh_calls.proofs.Common.{Accepts, Block, Err, FrontOf, HasGivenBack, History, Leaves, List, Ok, PartsOf, PlaceSeen, ReceivesOr, Refused, Result, TallyOf, VaultOf, [], ap, arith, inl, inr}
 use Rattle.xh_calls.proofs.Common.{none_back, refl, subst, sym, ℕ, ⊎_elim, ◌∙◌, ◌∷◌, ◌≡◌}
-use Rattle.xh_calls.specs.Vaults.{Entered, EntersEach}
+use Rattle.xh_calls.specs.Vaults.{Entered}
 use Rattle.xh_place.proofs.Swept.{still}
 use Rattle.xh_place.specs.Vaults.{AsksEach, BringsBack}
 use Rattle.xh_calls.specs.Places.{GivesBack}
@@ -19,17 +19,13 @@ module _ {V : Type 0} {from to : V} (changes : V → V → ℕ → VaultOf → V
 -- what is entered of the calls on vaults that know what the worker has seen
 entered_each : {V : Type 0} (parts : PartsOf) (arenas : List ℕ) (x y : V) (front : V → FrontOf VaultOf) → AsksEach (λ v w. Leaves parts (front v) (front w)) arenas x y
     → Entered arenas (front x) (front y)
-entered_each {V} parts [] x y front h = (ap (λ (v : V). (front v).number) h, ap (λ (v : V). (front v).fronts) h)
+entered_each {V} parts [] x y front h = ap front h
 entered_each {V} parts (a ∷ arenas) x y front h =
-    let mid : V = h.0 in let entry = h.1.2.1 in let rest = entered_each parts arenas mid y front h.2 in
-    let number = ap (λ (f : FrontOf VaultOf). f.number) entry.seen in let fronts = ap (λ (f : FrontOf VaultOf). f.fronts) entry.seen in (
-      rest.0 ∙ number,
-      (
-        entry.others,
-        h.1.1,
-        entry.not_its_own,
-        subst (λ (z : ℕ × List (History VaultOf)). EntersEach arenas z.0 z.1 (front y).fronts) (λ i. (number i, fronts i)) rest.1,
-      ),
+    let mid : V = h.0 in let entry = h.1.2.1 in (
+      entry.others,
+      h.1.1,
+      entry.not_its_own,
+      subst (λ (seen : FrontOf VaultOf). Entered arenas seen (front y)) entry.seen (entered_each parts arenas mid y front h.2),
     )
 
 -- of vaults that were lent with what lies in a till, from the till that was brought to what it is at the end
@@ -48,4 +44,4 @@ module _ {V : Type 0} (parts : PartsOf) (x y : V) (till : V → Till) {f g : Til
 
 -- nothing came back, and no arena was asked
 pub none_given : (f : Till) → GivesBack 0 f f
-none_given f = (none_back refl, ([], (refl, refl), omega arith))
+none_given f = (none_back refl, ([], refl, omega arith))

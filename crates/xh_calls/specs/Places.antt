@@ -1,5 +1,5 @@
 -- A place and a till that a call works on, and how far the process has come that calls.
-use Rattle.std.specs.Prelude.{◌≡◌, ℕ, ◌==◌, cond, List, Result, MatchResult}
+use Rattle.std.specs.Prelude.{◌≡◌, ℕ, ◌==◌, ◌≤◌, cond, List, length, Result, MatchResult}
 use Rattle.xh_arena.specs.Views.{TallyOf}
 use Rattle.xh_core.specs.declared.refused.Refused.{Refused}
 use Rattle.xh_core.specs.declared.status.Status.{Status}
@@ -14,7 +14,7 @@ use Rattle.xh_records.specs.History.{StartsWith}
 use Rattle.xh_records.specs.Seats.{IsSeatOf}
 use Rattle.xh_calls.specs.declared.heap.Till.{Till}
 use Rattle.xh_calls.specs.Parts.{PartsOf}
-use Rattle.xh_calls.specs.Vaults.{EntersSome, IsSeenOf}
+use Rattle.xh_calls.specs.Vaults.{Entered, IsSeenOf}
 
 -- the tallies of the till are of the vaults of these parts, and a worker of theirs has seen what it has of the histories of the arenas
 abbrev pub IsTillOf : PartsOf → Till → Type 0
@@ -22,7 +22,7 @@ IsTillOf parts t = (ids_of t.tallies.items ≡ parts.records.shape.names) × IsS
 
 -- so many bytes were given back by the tallies of the till, and no arena was asked more often than that
 abbrev pub GivesBack : ℕ → Till → Till → Type 0
-GivesBack bytes old new = HasGivenBack bytes old.tallies.items new.tallies.items × EntersSome bytes old.seen new.seen
+GivesBack bytes old new = HasGivenBack bytes old.tallies.items new.tallies.items × ((arenas : List ℕ) × Entered arenas old.seen new.seen × (length arenas ≤ bytes))
 
 -- so many bytes came back to the till, of which this is so
 abbrev pub ComesBack : Till → Till → (ℕ → Type 0) → Type 0

@@ -57,20 +57,12 @@ pub record Enters (a : ℕ) (v w : VaultOf) (old new : FrontOf VaultOf) : Type 0
   pub found : EndsIn v (at old.fronts a ++ others)
   pub seen : new ≡ record old { fronts = slice_set old.fronts a ((at old.fronts a ++ others) ++ (old.number, w) ∷ []) }
 
--- The worker of this number called on these arenas, one after another: each time what it had seen of the arena's history is what it had, then entries of others, then one of its own. Of all other
--- arenas it has seen what it had.
-abbrev pub EntersEach : List ℕ → ℕ → List (History VaultOf) → List (History VaultOf) → Type 0
-EntersEach [] number old new = new ≡ old
-EntersEach (a ∷ arenas) number old new = (others : History VaultOf) × (w : VaultOf) × (calls_of number others ≡ [])
-    × EntersEach arenas number (slice_set old a ((at old a ++ others) ++ (number, w) ∷ [])) new
-
--- so did the worker that has seen this
+-- The worker that has seen this called on these arenas, one after another: each time what it had seen of the arena's history is what it had, then entries of others, then one of its own. Of all
+-- other arenas it has seen what it had.
 abbrev pub Entered : List ℕ → FrontOf VaultOf → FrontOf VaultOf → Type 0
-Entered arenas old new = (new.number ≡ old.number) × EntersEach arenas old.number old.fronts new.fronts
-
--- on some arenas, no more often than so many bytes came back
-abbrev pub EntersSome : ℕ → FrontOf VaultOf → FrontOf VaultOf → Type 0
-EntersSome bytes old new = (arenas : List ℕ) × Entered arenas old new × (length arenas ≤ bytes)
+Entered [] old new = new ≡ old
+Entered (a ∷ arenas) old new = (others : History VaultOf) × (w : VaultOf) × (calls_of old.number others ≡ [])
+    × Entered arenas (record old { fronts = slice_set old.fronts a ((at old.fronts a ++ others) ++ (old.number, w) ∷ []) }) new
 
 -- the call was one on the arena of these parts
 abbrev pub Leaves : PartsOf → FrontOf VaultOf → FrontOf VaultOf → ℕ → VaultOf → VaultOf → Type 0

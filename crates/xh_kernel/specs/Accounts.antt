@@ -1,9 +1,9 @@
 -- What contracts see of an account, and what calls do to it.
-use Rattle.std.specs.Prelude.{◌≡◌, ℕ, ◌<◌, List, [], ◌∷◌, map, replicate, slice_index_or, length, Option, Some, None, Result, MatchResult}
+use Rattle.std.specs.Prelude.{◌≡◌, ℕ, ◌<◌, ◌≤◌, List, [], ◌∷◌, map, replicate, slice_index_or, length, Option, Some, None, Result, MatchResult}
 use Rattle.xh_arena.specs.Views.{TallyOf, VaultOf}
 use Rattle.xh_calls.specs.Parts.{PartsOf}
 use Rattle.xh_calls.specs.Tallies.{fresh_tally}
-use Rattle.xh_calls.specs.Vaults.{AsksVault, Entered, EntersSome}
+use Rattle.xh_calls.specs.Vaults.{AsksVault, Entered}
 use Rattle.xh_core.specs.declared.refused.Refused.{Refused}
 use Rattle.xh_history.specs.Histories.{FrontOf, History, LookOf, fresh_front}
 use Rattle.xh_calls.specs.declared.call.Entry.{Entry}
@@ -47,7 +47,7 @@ GivesBytes arena size result old new = MatchResult result
 
 -- so many bytes were given back, of each arena some or none, and no others moved, by no more calls on arenas
 abbrev pub HasBack : ℕ → AccountOf → AccountOf → Type 0
-HasBack bytes old new = HasGivenBack bytes old.tallies new.tallies × EntersSome bytes old.vaults new.vaults
+HasBack bytes old new = HasGivenBack bytes old.tallies new.tallies × ((arenas : List ℕ) × Entered arenas old.vaults new.vaults × (length arenas ≤ bytes))
 
 -- ---- new accounts
 
