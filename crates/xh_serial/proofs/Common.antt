@@ -7,7 +7,7 @@ pub use Rattle.std.proofs.lemmas.Bool.{cases_Bool, cases_eq, cases_lt, eq-eqb, e
 pub use Rattle.std.proofs.lemmas.List.{at_drop_all, get_or_default, length-append, length-replicate, length-set, length-take-le, nil_from_length, set-get_or, set-set, set_comm}
 pub use Rattle.std.proofs.lemmas.List.Sums.{get_or-le-sum_by, passes_at_first, prefix_len-le-length, sum_by-append, sum_by-cons, sum_by-le, sum_by-remove, sum_by-take-drop, sum_by-take-le}
 pub use Rattle.std.specs.List.{flat_map, list_all, list_any, position, position_or_len, range_with_len, remove, sum_by}
-pub use Rattle.std.specs.Prelude.{All, AllPairs, Option, is_none, is_some, map, nat_lt, not, ok_or, replicate, slice_index_or, slice_set, unwrap_or, ◌==◌}
+pub use Rattle.std.specs.Prelude.{All, AllPairs, IsSome, Option, is_none, is_some, map, nat_lt, not, ok_or, replicate, slice_index_or, slice_set, unwrap_or, ◌==◌}
 pub use Rattle.xh_core.proofs.{Claiming.in_range, Claiming.no_bytes, Claiming.one_time, Firsts.first_append, Firsts.first_later, FreshPlain.at_replicate, Stores.arena_there, Stores.at_set, Stores.count_append}
 pub use Rattle.xh_core.proofs.{Stores.done, Stores.is_there}
 pub use Rattle.xh_core.proofs.{Stores.len_back, Stores.len_back_else, Stores.same_direction, Stores.same_known, Stores.same_len, Stores.same_process, Stores.times-cons}
@@ -26,7 +26,7 @@ pub use Rattle.xh_serial.specs.{EndingCommands.moved_last, Sweeping.SweepsOver, 
 pub use Rattle.xh_serial.specs.{declared.message.Message.Message, declared.place.Place.Place, inner.Channeling.IsSound, inner.Checks.MayGive, inner.Checks.MaySplit, inner.Checks.MayTake}
 pub use Rattle.xh_serial.specs.{inner.Holding.BlocksOf, PlaceCommands.started_at}
 pub use Rattle.xh_serial.specs.Commands.{accept_all, accept_from, described, pass_all}
-pub use Rattle.xh_serial.specs.Lines.{AreNumbered, IsNumbered, carried, contract_of, drained_state, is_banned, line, new_line, state_then, no_line, no_message, peer, put_line, shut_in, shut_line}
+pub use Rattle.xh_serial.specs.Lines.{AreNumbered, IsNumbered, carried, contract_of, drained_state, line, new_line, next_state, no_line, no_message, peer, put_line, shut_in, shut_line}
 pub use Rattle.xh_serial.specs.Lines.{tags_of, taken_line, told_line, way_in}
 pub use Rattle.xh_serial.specs.Machine.{AreChannels, ArePlaces, AreWired, HaveEnds, IsEndRecord, IsWhole, Machine, arriving, blocks, buffer}
 pub use Rattle.xh_serial.specs.Machine.{end_of, is_current, listed, no_place, on_way, place, relisted, restated, serial_status, waiting, with_last}

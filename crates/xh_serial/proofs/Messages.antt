@@ -1,14 +1,15 @@
 -- A give and a take leave a whole machine.
-use Rattle.xh_serial.proofs.Common.{place, Bool, Direction, Holder, InStep, IsValid, IsWhole, Line, List, Machine, MayGive, MayTake, Message, None, Option, Process, Row, Some, []}
+use Rattle.xh_serial.proofs.Common.{place, Bool, Direction, Holder, InStep, IsSome, IsValid, IsWhole, Line, List, Machine, MayGive, MayTake, Message, None, Option, Process, Row, Some, []}
 use Rattle.xh_serial.proofs.Common.{accept_all, allowed, ap, append-nil, arith, at_set, blocks, carried, cond, contract_of, count_append}
-use Rattle.xh_serial.proofs.Common.{false, false≢true, flat_map-append, front_message, get_or-set_other, get_or-set_same, given, has_twice, holds, is_banned, is_none, length, length-append}
-use Rattle.xh_serial.proofs.Common.{length-set, line, list_all, list_any, listed, nat_lt, nat_tests, state_then, no_line, no_message, on_way, pass_all, peer, put_line, put_step}
+use Rattle.xh_serial.proofs.Common.{false, false≢true, flat_map-append, front_message, front_step, get_or-set_other, get_or-set_same, given, has_twice, holds, length, length-append}
+use Rattle.xh_serial.proofs.Common.{length-set, line, list_all, list_any, listed, nat_lt, nat_tests, next_state, no_line, no_message, on_way, pass_all, peer, put_line, put_step}
 use Rattle.xh_serial.proofs.Common.{refl, remove, slice_index_or, slice_set, subst, sym, tags_of, take_step, taken, taken_line, times, times-cons, told_line, toward, true, unwrap_or}
 use Rattle.xh_serial.proofs.Common.{waiting, without_records, ℕ, ◌%◌, ◌*◌, ◌++◌, ◌+◌, ◌-◌, ◌/◌, ◌<◌, ◌==◌, ◌∙◌, ◌∷◌, ◌≡◌, ◌≢◌, ◌≤◌}
+use Rattle.xh_model.specs.Rows.{IsFrontAllowed}
 use Rattle.xh_serial.proofs.Accepting.{Went, accepted_all, passed_all}
 use Rattle.xh_serial.proofs.Room.{handed_whole, has, room}
 use Rattle.xh_serial.proofs.Machines.{busy_place, current_blocks, current_generation, current_range, list_set, peer_half, peer_ne, place_there, places_set, runs_busy, way_else, way_here}
-use Rattle.xh_serial.proofs.Wired.{IsPair, half_apart, put_numbered, same_lines, set_numbered, set_reached, state_in, tags_in, taken_numbered, wired_pair}
+use Rattle.xh_serial.proofs.Wired.{IsPair, half_apart, put_numbered, same_lines, set_numbered, set_reached, taken_numbered, wired_pair}
 
 pub any_times : (q : ℕ) (bs : List ℕ) → list_any (λ b. b == q) bs ≡ nat_lt 0 (times q bs)
 any_times q [] = refl
@@ -30,18 +31,18 @@ tags_append : (ms : List Message) (m : Message) → tags_of (ms ++ m ∷ []) ≡
 tags_append [] m = refl
 tags_append (k ∷ ms) m = ap (λ (xs : List ℕ). k.tag ∷ xs) (tags_append ms m)
 
-some_of : (o : Option ℕ) → is_none o ≡ false → (k : ℕ) × (o ≡ Some k)
+some_of : (o : Option ℕ) → IsSome o → (k : ℕ) × (o ≡ Some k)
 some_of o h = grind (arith, nat_tests)
 
 -- the end that puts a message is in step again
-give_pair : (rows : List Row) (lines new : List Line) (d tag : ℕ) (bs : List ℕ) → IsValid rows → is_banned (Some rows) (d % 2) (state_in lines d) tag ≡ false →
+give_pair : (rows : List Row) (lines new : List Line) (d tag : ℕ) (bs : List ℕ) → IsValid rows → IsSome (allowed rows (slice_index_or lines d no_line).state tag (d % 2)) →
     slice_index_or new d no_line ≡ told_line (Some rows) (d % 2) tag (slice_index_or lines d no_line) →
     slice_index_or new (peer d) no_line ≡ put_line tag bs (slice_index_or lines (peer d) no_line) → IsPair rows lines d → IsPair rows new d
 give_pair rows lines new d tag bs valid free lo hi pair =
     let mine : Line = slice_index_or lines d no_line in
     let theirs : Line = slice_index_or lines (peer d) no_line in
     let row = some_of (allowed rows mine.state tag (d % 2)) free in
-    let next : state_then (Some rows) (d % 2) mine.state tag ≡ row.0 = ap (λ (o : Option ℕ). unwrap_or o mine.state) row.1 in
+    let next : unwrap_or (allowed rows mine.state tag (d % 2)) mine.state ≡ row.0 = ap (λ (o : Option ℕ). unwrap_or o mine.state) row.1 in
     let step : InStep rows (d % 2) row.0 (tags_of mine.waiting.items) theirs.state (tags_of theirs.waiting.items ++ tag ∷ []) =
     put_step rows (d % 2) mine.state tag row.0 theirs.state (tags_of mine.waiting.items) (tags_of theirs.waiting.items) valid pair row.1 in
     let more : tags_of (put_line tag bs theirs).waiting.items ≡ tags_of theirs.waiting.items ++ tag ∷ [] = tags_append theirs.waiting.items _ in
@@ -111,7 +112,7 @@ module _ (m : Machine) (p e tag : ℕ) (bs : List ℕ) (w : IsWhole m) (g : MayG
         numbered = set_numbered told d y there (set_numbered m.lines own z own_there w.channels.numbered (w.channels.numbered own)) (put_numbered tag bs (line m.lines d) (w.channels.numbered d));
         contracts_long = w.channels.contracts_long;
         wired = wired_pair m.contracts m.lines (slice_set told d y) own w.channels.wired (λ rows is valid pair. give_pair rows m.lines (slice_set told d y) own tag bs valid
-            (subst (λ (o : Option (List Row)). is_banned o (own % 2) (line m.lines own).state tag ≡ false) is g.allowed)
+            (subst (λ (o : Option (List Row)). IsSome (next_state o (own % 2) (line m.lines own).state tag)) is g.allowed)
             (get_or-set_other told d own y no_line (λ s. peer_ne own (sym s)) ∙ get_or-set_same m.lines own z no_line own_there
             ∙ ap (λ (o : Option (List Row)). told_line o (own % 2) tag (line m.lines own)) is)
             (get_or-set_same told d y no_line there) pair)
@@ -150,10 +151,11 @@ take_pair rows lines new d some lo hi pair =
     let tag : ℕ = front_tag l in
     let rest : List ℕ = tags_of (remove l.waiting.items 0) in
     let split : tags_of l.waiting.items ≡ tag ∷ rest = front_tags l.waiting.items some in
-    let s = take_step rows (d % 2) l.state tag (state_in lines (peer d)) rest (tags_in lines (peer d))
-    (subst (λ (xs : List ℕ). InStep rows (d % 2) l.state xs (state_in lines (peer d)) (tags_in lines (peer d))) split pair) in
-    let next : state_then (Some rows) (1 - d % 2) l.state tag ≡ s.0 = ap (λ (o : Option ℕ). unwrap_or o l.state) s.1 in
-    grind (arith, nat_tests, same_lines, state_in, tags_in)
+    let other : Line = slice_index_or lines (peer d) no_line in
+    let s = take_step rows (d % 2) l.state tag other.state rest (tags_of other.waiting.items)
+    (subst (λ (xs : List ℕ). InStep rows (d % 2) l.state xs other.state (tags_of other.waiting.items)) split pair) in
+    let next : unwrap_or (allowed rows l.state tag (1 - d % 2)) l.state ≡ s.0 = ap (λ (o : Option ℕ). unwrap_or o l.state) s.1 in
+    grind (arith, nat_tests, same_lines)
 
 module _ (m : Machine) (p e : ℕ) (w : IsWhole m) (t : MayTake m p e (toward m e)) where
   abbrev way_d : ℕ
@@ -204,12 +206,8 @@ module _ (m : Machine) (p e : ℕ) (w : IsWhole m) (t : MayTake m p e (toward m 
       (set_reached m.ends m.lines m.opened way_d shorter way_there refl (λ s. ap (λ (ms : List Message). remove ms 0) (w.reached.drained way_d s)) w.reached)
 
   -- the front message is one that the contract allows
-  pub front_allowed : (o : Option (List Row)) → contract_of m.contracts way_d ≡ o → is_banned o (1 - way_d % 2) (line m.lines way_d).state (front_message m e).tag ≡ false
+  pub front_allowed : (o : Option (List Row)) → contract_of m.contracts way_d ≡ o → IsSome (next_state o (1 - way_d % 2) (line m.lines way_d).state (front_message m e).tag)
   front_allowed None is = refl
   front_allowed (Some rows) is =
       let pair : IsPair rows m.lines way_d = (w.channels.wired way_d rows is).1 in
-      let rest : List ℕ = tags_of (remove (waiting m way_d) 0) in
-      let split : tags_of (waiting m way_d) ≡ (front_message m e).tag ∷ rest = front_tags (waiting m way_d) t.some in
-      let s = take_step rows (way_d % 2) (line m.lines way_d).state (front_message m e).tag (state_in m.lines (peer way_d)) rest (tags_in m.lines (peer way_d))
-      (subst (λ (xs : List ℕ). InStep rows (way_d % 2) (line m.lines way_d).state xs (state_in m.lines (peer way_d)) (tags_in m.lines (peer way_d))) split pair) in
-      ap (λ (o : Option ℕ). is_none o) s.1
+      subst (IsFrontAllowed rows (way_d % 2) (line m.lines way_d).state) (front_tags (waiting m way_d) t.some) (front_step rows (way_d % 2) _ _ _ _ pair)

@@ -13,10 +13,6 @@ use Rattle.xh_serial.proofs.Room.{room}
 use Rattle.xh_model.proofs.Lawful.{back_bytes, back_lawful}
 use Rattle.xh_serial.proofs.Wired.{shut_numbered, shut_reached, shut_wired}
 
--- the records on their way to an endpoint, if there is one
-abbrev pub on_way_to : Machine → Option ℕ → List ℕ
-on_way_to m o = way_in m.lines o
-
 -- the entry at a place of the list
 abbrev pub entry : Machine → ℕ → ℕ → ℕ
 entry m p from = slice_index_or (blocks m p) from 0
@@ -50,12 +46,12 @@ entry_room m p from o w l = grind (arith, nat_tests, current_blocks, lists_curre
 abbrev accepted_store : ℕ → ℕ → Machine → Store
 accepted_store p r m = accept_from p (end_of m r) (arriving m r) m.store
 
-came_from : (m : Machine) (p : ℕ) (e : Option ℕ) → IsWhole m → p < 65504 → Went (Process p) (on_way_to m e) m.store (accept_from p e (on_way_to m e) m.store)
+came_from : (m : Machine) (p : ℕ) (e : Option ℕ) → IsWhole m → p < 65504 → Went (Process p) (way_in m.lines e) m.store (accept_from p e (way_in m.lines e) m.store)
 came_from m p None w l = record { owners = λ q. refl; many = refl; arenas = refl }
 came_from m p (Some d) w l = accepted_all p d (on_way m d) m.store l (λ q. let e = w.once (Direction d) q in omega arith)
 
 -- what comes to a record is held by a direction
-none_of_own : (m : Machine) (p r : ℕ) (e : Option ℕ) → IsWhole m → holds m.store (Process p) r ≡ true → times r (on_way_to m e) ≡ 0
+none_of_own : (m : Machine) (p r : ℕ) (e : Option ℕ) → IsWhole m → holds m.store (Process p) r ≡ true → times r (way_in m.lines e) ≡ 0
 none_of_own m p r None w h = refl
 none_of_own m p r (Some d) w h = grind (arith, nat_tests, w.once (Direction d) r)
 
@@ -131,7 +127,7 @@ ends_now m p from q w l =
     let there : r < length m.ends = (let a : r < length m.store.owners = is_there m.store (Process p) r (entry_held m p from w l) in omega arith) in
     at_set m.ends r q None None there
 
-arriving_by : (m : Machine) (p from q : ℕ) (e : Option ℕ) → IsWhole m → q ≢ entry m p from → end_of m q ≡ e → on_way_to (sweep_one p from m) e ≡ on_way_to m e
+arriving_by : (m : Machine) (p from q : ℕ) (e : Option ℕ) → IsWhole m → q ≢ entry m p from → end_of m q ≡ e → way_in (sweep_one p from m).lines e ≡ way_in m.lines e
 arriving_by m p from q e w n eq = grind (arith, nat_tests, way)
 
 pub arriving_else : (m : Machine) (p from q : ℕ) → IsWhole m → from < length (blocks m p) → q ≢ entry m p from → arriving (sweep_one p from m) q ≡ arriving m q
@@ -146,11 +142,11 @@ times_removed : (q k : ℕ) (rs cs : List ℕ) → k < length rs → times q (re
 times_removed q k rs cs l = grind (arith, nat_tests, length-append, sum_by-remove, get_or_append_left)
 
 -- a record that came is held by the direction that it came from
-pub came_held : (m : Machine) (q : ℕ) (o : Option ℕ) → IsWhole m → nat_lt 0 (times q (on_way_to m o)) ≡ true → (d : ℕ) × (o ≡ Some d) × (owner m.store q ≡ Some (Direction d))
+pub came_held : (m : Machine) (q : ℕ) (o : Option ℕ) → IsWhole m → nat_lt 0 (times q (way_in m.lines o)) ≡ true → (d : ℕ) × (o ≡ Some d) × (owner m.store q ≡ Some (Direction d))
 came_held m q None w h = absurd (false≢true h)
 came_held m q (Some d) w h = (d, refl, same_direction _ _ (grind (arith, nat_tests, w.once (Direction d) q)))
 
-came_most : (m : Machine) (q : ℕ) (o : Option ℕ) → IsWhole m → times q (on_way_to m o) ≤ 1
+came_most : (m : Machine) (q : ℕ) (o : Option ℕ) → IsWhole m → times q (way_in m.lines o) ≤ 1
 came_most m q None w = omega arith
 came_most m q (Some d) w = grind (arith, nat_tests, w.once (Direction d) q)
 

@@ -5,13 +5,6 @@ use Rattle.xh_serial.proofs.Common.{length, line, nat_tests, no_line, none-some,
 use Rattle.xh_serial.proofs.Common.{true, walk, ℕ, ◌%◌, ◌*◌, ◌++◌, ◌+◌, ◌-◌, ◌/◌, ◌<◌, ◌==◌, ◌∙◌, ◌∷◌, ◌≡◌, ◌≢◌}
 use Rattle.xh_serial.proofs.Machines.{peer_half, peer_ne}
 
--- the state of the end that a direction leads to, and the tags on their way to it
-abbrev pub state_in : List Line → ℕ → ℕ
-state_in lines d = (slice_index_or lines d no_line).state
-
-abbrev pub tags_in : List Line → ℕ → List ℕ
-tags_in lines d = tags_of (slice_index_or lines d no_line).waiting.items
-
 -- two lines whose ends are in step
 abbrev pub ArePaired : List Row → ℕ → Line → Line → Type 0
 ArePaired rows side x y = InStep rows side x.state (tags_of x.waiting.items) y.state (tags_of y.waiting.items)

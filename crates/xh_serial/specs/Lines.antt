@@ -1,6 +1,6 @@
 -- The directions of channels as a list of lines, their contracts, and what becomes of a line.
 use Rattle.std.specs.Prelude.{◌≡◌, ℕ, ◌+◌, ◌-◌, ◌/◌, ◌%◌, ◌==◌, ◌||◌, Bool, true, false, cond, List}
-use Rattle.std.specs.Prelude.{[], ◌∷◌, ◌++◌, Option, Some, None, is_none, length, map, nat_le, slice_set, slice_index_or, unwrap_or}
+use Rattle.std.specs.Prelude.{[], ◌∷◌, ◌++◌, Option, Some, None, length, map, nat_le, slice_set, slice_index_or, unwrap_or}
 use Rattle.std.specs.List.{flat_map, remove}
 use Rattle.xh_model.specs.declared.limits.TheConstants.{MAX_MESSAGES}
 use Rattle.xh_model.specs.declared.row.Row.{Row}
@@ -55,20 +55,15 @@ abbrev pub first_state : Option (List Row) → ℕ
 first_state None = 0
 first_state (Some rows) = (row_at rows 0).state
 
--- whether an end's contract, if it has one, allows no such message from this side
-abbrev pub is_banned : Option (List Row) → ℕ → ℕ → ℕ → Bool
-is_banned None side state tag = false
-is_banned (Some rows) side state tag = is_none (allowed rows state tag side)
+-- the state of an end after a message with this tag from this side, if its contract allows it; without a contract the same
+abbrev pub next_state : Option (List Row) → ℕ → ℕ → ℕ → Option ℕ
+next_state None side state tag = Some state
+next_state (Some rows) side state tag = allowed rows state tag side
 
--- the state of an end after a message with this tag from this side; without a contract, and where no row allows it, the same
-abbrev pub state_then : Option (List Row) → ℕ → ℕ → ℕ → ℕ
-state_then None side state tag = state
-state_then (Some rows) side state tag = unwrap_or (allowed rows state tag side) state
-
--- the same after messages with these tags
+-- the state after messages with these tags, of which one that is not allowed changes nothing
 abbrev pub drained_state : Option (List Row) → ℕ → ℕ → List ℕ → ℕ
 drained_state contract side state [] = state
-drained_state contract side state (tag ∷ tags) = drained_state contract side (state_then contract side state tag) tags
+drained_state contract side state (tag ∷ tags) = drained_state contract side (unwrap_or (next_state contract side state tag) state) tags
 
 -- ---- what becomes of a line
 
@@ -78,7 +73,7 @@ new_line contract = record { shut = false; state = first_state contract; put = 0
 
 -- the end that puts a message is in its contract's next state
 abbrev pub told_line : Option (List Row) → ℕ → ℕ → Line → Line
-told_line contract side tag l = record l { state = state_then contract side l.state tag }
+told_line contract side tag l = record l { state = unwrap_or (next_state contract side l.state tag) l.state }
 
 -- a direction with one more message at its back
 abbrev pub put_line : ℕ → List ℕ → Line → Line
@@ -89,7 +84,7 @@ no_message = record { no = 0; tag = 0; blocks = record { items = [] } }
 
 -- a direction without its front message, whose end is in its contract's next state
 abbrev pub taken_line : Option (List Row) → ℕ → ℕ → Line → Line
-taken_line contract side tag l = record l { state = state_then contract side l.state tag; waiting = record { items = remove l.waiting.items 0 } }
+taken_line contract side tag l = record l { state = unwrap_or (next_state contract side l.state tag) l.state; waiting = record { items = remove l.waiting.items 0 } }
 
 -- the end that a line leads to is closed, and what waited for it is taken
 abbrev pub shut_line : Option (List Row) → ℕ → Line → Line

@@ -1,5 +1,5 @@
 -- The commands give and take.
-use Rattle.std.specs.Prelude.{◌≡◌, ℕ, ◌+◌, ◌-◌, ◌*◌, ◌%◌, ◌==◌, ◌⊎◌, not, List, [], ◌++◌, Some, None, length, slice_set, slice_index_or, Ok}
+use Rattle.std.specs.Prelude.{◌≡◌, ℕ, ◌+◌, ◌-◌, ◌*◌, ◌%◌, ◌==◌, ◌⊎◌, not, List, [], ◌++◌, Some, None, is_none, length, slice_set, slice_index_or, Ok}
 use Rattle.std.specs.List.{list_any, filter}
 use Rattle.xh_model.specs.declared.event.Holder.TheVariants.{Process}
 use Rattle.xh_model.specs.declared.row.Row.{Row}
@@ -10,7 +10,7 @@ use Rattle.xh_serial.specs.declared.message.Taken.{Taken}
 use Rattle.xh_serial.specs.declared.line.Line.{Line}
 use Rattle.xh_core.specs.Calls.{start, end_tests, given_tests, put_tests, take_tests}
 use Rattle.xh_core.specs.Refusing.{Tests, first_refusal}
-use Rattle.xh_serial.specs.Lines.{contract_of, is_banned, is_full, line, no_message, peer, put_line, tags_of, taken_line, told_line}
+use Rattle.xh_serial.specs.Lines.{contract_of, is_full, line, next_state, no_message, peer, put_line, tags_of, taken_line, told_line}
 use Rattle.xh_serial.specs.Machine.{Machine, blocks, relisted, serial_status, waiting}
 use Rattle.xh_serial.specs.Commands.{Answer, accept_all, answered, described, header_found, pass_all, toward}
 
@@ -22,7 +22,7 @@ give_refusals m p e tag bs =
     let own : ℕ = toward m e in
     let to : ℕ = peer own in
     start (serial_status m p) ++ end_tests (header_found m p e) ++ given_tests (holds m.store (Process p)) e bs
-    ++ put_tests (is_banned (contract_of m.contracts own) (own % 2) (line m.lines own).state tag) (line m.lines to).shut (is_full m.depth (line m.lines to)) bs
+    ++ put_tests (is_none (next_state (contract_of m.contracts own) (own % 2) (line m.lines own).state tag)) (line m.lines to).shut (is_full m.depth (line m.lines to)) bs
 
 -- the list without these records
 abbrev pub without_records : List ℕ → List ℕ → List ℕ

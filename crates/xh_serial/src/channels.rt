@@ -1,7 +1,7 @@
 //! The channels: the two directions of each, and its contract.
-ghost use Rattle.std.specs.Prelude.{◌≡◌, ℕ, ◌+◌, ◌-◌, ◌*◌, ◌/◌, ◌%◌, ◌<◌, ◌≤◌, ◌==◌, [], IfOk, None, Some, false, length, replicate, slice_set, slice_index_or};
+ghost use Rattle.std.specs.Prelude.{◌≡◌, ℕ, ◌+◌, ◌-◌, ◌*◌, ◌/◌, ◌%◌, ◌<◌, ◌≤◌, ◌==◌, [], IfOk, None, Some, false, is_none, length, replicate, slice_set, slice_index_or};
 ghost use Rattle.xh_model.specs.declared.limits.TheConstants.{CHANNELS, DIRECTIONS, MAX_BLOCKS, MAX_DEPTH, MAX_MESSAGES};
-ghost use Rattle.xh_serial.specs.Lines.{carried, contract_of, drained_state, first_state, is_banned, is_full, line, new_line, state_then, no_line, no_message, peer, put_line};
+ghost use Rattle.xh_serial.specs.Lines.{carried, contract_of, drained_state, first_state, is_full, line, new_line, next_state, no_line, no_message, peer, put_line};
 ghost use Rattle.xh_serial.specs.Lines.{shut_in, tags_of, taken_line, told_line, way_in};
 ghost use Rattle.xh_serial.specs.inner.Channeling.{IsSound};
 ghost use Rattle.std.specs.List.{remove};
@@ -73,23 +73,24 @@ fn new_line(state: u8) -> Line
     }
 }
 
-/// The contract's state of an end after a message with this tag, which `side` put.
-fn state_after(contract: &Option<Contract>, side: u8, state: u8, tag: u16) -> u8
-    ensures { result ≡ state_then contract.now side state tag }
+/// The state of an end after a message with this tag, which `side` put; without a contract the same.
+/// None where the contract allows no such message.
+fn next_state(contract: &Option<Contract>, side: u8, state: u8, tag: u16) -> Option<u8>
+    ensures { result ≡ next_state contract.now side state tag }
 {
     match contract {
-        Some(contract) => contract.allows(state, tag, side).unwrap_or(state),
-        None => state,
+        Some(contract) => contract.allows(state, tag, side),
+        None => Some(state),
     }
 }
 
-/// The same after all of these messages.
+/// The state after all of these messages.
 fn state_at_end(contract: &Option<Contract>, side: u8, state: u8, messages: &[Message]) -> u8
     ensures { result ≡ drained_state contract.now side state (tags_of messages.now) }
 {
     let mut end = state;
     for message in messages {
-        end = state_after(contract, side, end, message.tag);
+        end = next_state(contract, side, end, message.tag).unwrap_or(end);
     }
     end
 }
@@ -103,16 +104,6 @@ fn carried(messages: &ArrayVec<Message, ROOM>) -> ArrayVec<u16, WAITING>
         extend(&mut list, message.blocks.as_slice());
     }
     list
-}
-
-/// Whether an end's contract, if it has one, allows no such message from this side.
-fn is_against(contract: &Option<Contract>, side: u8, state: u8, tag: u16) -> bool
-    ensures { result ≡ is_banned contract.now side state tag }
-{
-    match contract {
-        Some(contract) => contract.allows(state, tag, side).is_none(),
-        None => false,
-    }
 }
 
 /// The message at the front of a direction leaves it.
@@ -192,10 +183,10 @@ impl SerialChannels {
     /// Whether the end at `d` goes by a contract that allows it no such message now.
     pub(crate) fn is_against(&self, d: u8, tag: u16) -> bool
         requires { d < DIRECTIONS }
-        ensures { result ≡ is_banned (contract_of self.now.contracts d) (d % 2) (line self.now.lines d).state tag }
+        ensures { result ≡ is_none (next_state (contract_of self.now.contracts d) (d % 2) (line self.now.lines d).state tag) }
     {
         let state = self.lines[usize::from(d)].state;
-        is_against(&self.contracts[usize::from(d / 2)], d % 2, state, tag)
+        next_state(&self.contracts[usize::from(d / 2)], d % 2, state, tag).is_none()
     }
 
     /// Whether a direction takes no further message.
@@ -232,12 +223,8 @@ impl SerialChannels {
         ensures { self.new ≡ record self.old { lines = slice_set self.old.lines own (told_line (contract_of self.old.contracts own) (own % 2) tag (line self.old.lines own)) } }
     {
         let line = &mut self.lines[usize::from(own)];
-        line.state = state_after(
-            &self.contracts[usize::from(own / 2)],
-            own % 2,
-            line.state,
-            tag,
-        );
+        let contract = &self.contracts[usize::from(own / 2)];
+        line.state = next_state(contract, own % 2, line.state, tag).unwrap_or(line.state);
     }
 
     /// A message goes to the back of a direction. Its number.
@@ -269,12 +256,8 @@ impl SerialChannels {
     {
         let line = &mut self.lines[usize::from(d)];
         let message = take_first(line);
-        line.state = state_after(
-            &self.contracts[usize::from(d / 2)],
-            1 - d % 2,
-            line.state,
-            message.tag,
-        );
+        let contract = &self.contracts[usize::from(d / 2)];
+        line.state = next_state(contract, 1 - d % 2, line.state, message.tag).unwrap_or(line.state);
         message
     }
 

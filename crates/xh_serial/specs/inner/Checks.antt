@@ -1,5 +1,5 @@
 -- What a check finds out of a command that it lets pass.
-use Rattle.std.specs.Prelude.{◌≡◌, ℕ, ◌*◌, ◌/◌, ◌%◌, ◌<◌, ◌≤◌, List, true, false, Some, None, length}
+use Rattle.std.specs.Prelude.{◌≡◌, ℕ, ◌*◌, ◌/◌, ◌%◌, ◌<◌, ◌≤◌, List, true, false, Some, None, IsSome, length}
 use Rattle.std.specs.List.{list_all}
 use Rattle.xh_model.specs.declared.limits.TheConstants.{MAX_BLOCKS, MAX_MESSAGES, MAX_RECORDS, UNIT}
 use Rattle.xh_model.specs.Store.{holds, len}
@@ -7,7 +7,7 @@ use Rattle.xh_model.specs.declared.event.Holder.TheVariants.{Process}
 use Rattle.xh_serial.specs.Machine.{Machine, end_of, waiting}
 use Rattle.xh_serial.specs.Commands.{IsRunning}
 use Rattle.xh_core.specs.Space.{free_record}
-use Rattle.xh_serial.specs.Lines.{contract_of, is_banned, line, peer}
+use Rattle.xh_serial.specs.Lines.{contract_of, line, next_state, peer}
 use Rattle.xh_core.specs.Several.{has_twice}
 
 -- no test of a split that comes before its memory is true: t is the record for the tail
@@ -28,7 +28,7 @@ pub record MayGive (m : Machine) (p e tag : ℕ) (bs : List ℕ) (d : ℕ) : Typ
   pub few : length bs ≤ MAX_BLOCKS
   pub held : list_all (λ r. holds m.store (Process p) r) bs ≡ true
   pub once : has_twice bs ≡ false
-  pub allowed : is_banned (contract_of m.contracts d) (d % 2) (line m.lines d).state tag ≡ false
+  pub allowed : IsSome (next_state (contract_of m.contracts d) (d % 2) (line m.lines d).state tag)
   pub not_shut : (line m.lines (peer d)).shut ≡ false
   pub room : length (waiting m (peer d)) < m.depth
   pub more : (line m.lines (peer d)).put < MAX_MESSAGES

@@ -1,6 +1,6 @@
 //! Messages: give and take.
-ghost use Rattle.std.specs.Prelude.{◌≡◌, ℕ, ◌-◌, ◌/◌, ◌%◌, ◌<◌, IfOk, false};
-ghost use Rattle.xh_serial.specs.Lines.{IsNumbered, contract_of, is_banned, line};
+ghost use Rattle.std.specs.Prelude.{◌≡◌, ℕ, ◌-◌, ◌/◌, ◌%◌, ◌<◌, IfOk, IsSome};
+ghost use Rattle.xh_serial.specs.Lines.{IsNumbered, contract_of, line, next_state};
 ghost use Rattle.xh_serial.specs.Commands.{toward};
 ghost use Rattle.xh_serial.specs.MessageCommands.{HasOrderlyLines, give, take};
 
@@ -44,7 +44,7 @@ impl Serial {
     pub fn take(&mut self, p: u16, e: u16) -> Result<Taken, Refused>
         ensures is { take p e self.old ≡ (result, self.new) }
         ensures allowed { IfOk result (λ taken.
-            is_banned (contract_of self.old.contracts (toward self.old e)) (1 - toward self.old e % 2) (line self.old.lines (toward self.old e)).state taken.tag ≡ false) }
+            IsSome (next_state (contract_of self.old.contracts (toward self.old e)) (1 - toward self.old e % 2) (line self.old.lines (toward self.old e)).state taken.tag)) }
     {
         let _start = &self.plain;
         let d = self.check_take(p, e)?;
@@ -63,7 +63,7 @@ impl Serial {
     pub fn take_wait(&mut self, p: u16, e: u16) -> Result<Taken, Refused>
         ensures is { take p e self.old ≡ (result, self.new) }
         ensures allowed { IfOk result (λ taken.
-            is_banned (contract_of self.old.contracts (toward self.old e)) (1 - toward self.old e % 2) (line self.old.lines (toward self.old e)).state taken.tag ≡ false) }
+            IsSome (next_state (contract_of self.old.contracts (toward self.old e)) (1 - toward self.old e % 2) (line self.old.lines (toward self.old e)).state taken.tag)) }
     {
         self.take(p, e)
     }

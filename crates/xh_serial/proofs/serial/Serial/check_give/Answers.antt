@@ -1,4 +1,4 @@
-use Rattle.xh_serial.proofs.Common.{List, Machine, Process, Some, Tests, ap, contract_of, holds, is_banned, line, peer, toward}
+use Rattle.xh_serial.proofs.Common.{List, Machine, Process, Some, Tests, ap, contract_of, holds, is_none, line, next_state, peer, toward}
 use Rattle.xh_serial.proofs.Common.{ℕ, ◌%◌, end_tests, err_from_is_err_and, first_append, first_later, header_found, start, serial_status, sym, ◌++◌, ◌∙◌}
 use Rattle.xh_core.specs.Calls.{given_tests, put_tests}
 use Rattle.xh_serial.specs.Lines.{is_full}
@@ -10,7 +10,7 @@ message_tests m p e tag bs =
     let own : ℕ = toward m e in
     let to : ℕ = peer own in
     given_tests (holds m.store (Process p)) e bs
-    ++ put_tests (is_banned (contract_of m.contracts own) (own % 2) (line m.lines own).state tag) (line m.lines to).shut (is_full m.depth (line m.lines to)) bs
+    ++ put_tests (is_none (next_state (contract_of m.contracts own) (own % 2) (line m.lines own).state tag)) (line m.lines to).shut (is_full m.depth (line m.lines to)) bs
 
 pub returns-in_err-check_start : goal.returns-in_err-check_start
 returns-in_err-check_start c =
