@@ -1,9 +1,9 @@
 -- What a change of a list, of a status or of free records leaves: a whole machine; and what a stop and a close reclaim.
-use Rattle.xh_serial.proofs.Common.{relisted, Bool, Carve, Claim, Cut, Direction, Ending, Frees, Gained, Holder, IsRunning, IsWhole, List, Machine, None, Process, Some, Status, Store, SweepsOver, []}
-use Rattle.xh_serial.proofs.Common.{after, allocated, ap, append-nil, arith, arriving, at_set, blocks, buffer, cond, count_append, drop, end_of, eq-eqb, false≢true, freed_block, holds, in_range}
-use Rattle.xh_serial.proofs.Common.{is_known, is_over, is_some, last, len, length, length-drop, length-remove, length-replicate, length-set, length-take-le, listed, moved_last, nat_tests, ne_eqb}
-use Rattle.xh_serial.proofs.Common.{nil_from_length, not, one_time, owner, parted, passes_at_first, place, position, position_or_len, prefix_len-le-length, refl, remove, replicate, rules}
-use Rattle.xh_serial.proofs.Common.{set-get_or, slice_index_or, slice_set, subst, suc, sum_by-remove, sweep, sweep_one, sym, take, times, times-cons, true, unwrap_or, restated, zero}
+use Rattle.xh_serial.proofs.Common.{BodyOf, Bool, Carve, Claim, Cut, Direction, Ending, Frees, Gained, Holder, IsRunning, IsWhole, List, Machine, None, Process, Some, Status, Store, SweepsOver, []}
+use Rattle.xh_serial.proofs.Common.{after, allocated, ap, append-nil, arith, arriving, at_set, blocks, body, buffer, cond, count_append, drop, end_of, eq-eqb, false≢true, freed_block, holds}
+use Rattle.xh_serial.proofs.Common.{in_range, is_known, is_over, is_some, last, len, length, length-drop, length-remove, length-replicate, length-set, length-take-le, listed, moved_last, nat_tests}
+use Rattle.xh_serial.proofs.Common.{ne_eqb, nil_from_length, not, one_time, owner, parted, passes_at_first, place, position, position_or_len, refilled, refl, relisted, remove, replicate}
+use Rattle.xh_serial.proofs.Common.{prefix_len-le-length, set-get_or, slice_index_or, subst, suc, sum_by-remove, sweep, sweep_one, sym, take, times, times-cons, true, unwrap_or, restated, zero}
 use Rattle.xh_serial.proofs.Common.{ℕ, ◌*◌, ◌++◌, ◌+◌, ◌-◌, ◌<◌, ◌==◌, ◌∙◌, ◌∷◌, ◌≡◌, ◌≢◌, ◌≤◌}
 use Rattle.xh_serial.proofs.Machines.{IsPlace, busy_place, current_blocks, current_generation, list_set, place_here, place_there, places_set, places_whole, runs_busy, same_lists}
 use Rattle.xh_serial.proofs.Sweeps.{finishes, sweep_frees, sweep_sweeps}
@@ -116,8 +116,8 @@ free_no_end m r w f = grind (arith, nat_tests)
 
 -- p gains free records; endpoints, channels and the other lists stay
 module _ (p : ℕ) (rs : List ℕ) (m n : Machine) (w : IsWhole m) (r : IsRunning m p) (g : Gained p rs m.store n.store) (places : n.places ≡ relisted p (blocks m p ++ rs) m.places)
-    (ends : n.ends ≡ m.ends) (lines : n.lines ≡ m.lines) (contracts : n.contracts ≡ m.contracts) (opened : n.opened ≡ m.opened) (depth : n.depth ≡ m.depth)
-    (buffers : length n.buffers ≡ length m.buffers) (bytes : (q : ℕ) → length (buffer n q) ≡ cond (is_some (end_of m q)) 0 (len n.store q)) where
+    (ends : (q : ℕ) → end_of n q ≡ end_of m q) (lines : n.lines ≡ m.lines) (contracts : n.contracts ≡ m.contracts) (opened : n.opened ≡ m.opened) (depth : n.depth ≡ m.depth)
+    (bodies : length n.bodies ≡ length m.bodies) (bytes : (q : ℕ) → length (buffer n q) ≡ cond (is_some (end_of m q)) 0 (len n.store q)) where
   lists : (k : Holder) (q : ℕ) → times q (listed n k) + has None k * times q rs ≡ times q (listed m k) + has (Some (Process p)) k * times q rs
   lists (Process k) q = grind (arith, nat_tests, places, list_set m.places p (blocks m p ++ rs) (place_there m p w) (current_generation m p r.0) k, count_append q (blocks m p) rs)
   lists (Direction d) q = rw lines (omega arith)
@@ -130,20 +130,28 @@ module _ (p : ℕ) (rs : List ℕ) (m n : Machine) (w : IsWhole m) (r : IsRunnin
     kept = g.kept;
     many = g.many;
     ends = ends;
-    buffers = buffers;
+    bodies = bodies;
     bytes = bytes;
     places = rw places (places_set m.places p _ w.places (busy_place m p (blocks m p ++ rs) w (runs_busy m p r)));
     channels = rw (lines, contracts, opened) w.channels;
-    reached = rw (ends, lines, opened) w.reached;
+    reached = rw (lines, opened) w.reached;
     opened = opened;
     depth = depth;
   })
 
 -- ---- alloc
 
--- a free record has a buffer, and no bytes in it
-pub free_there : (m : Machine) (r : ℕ) → IsWhole m → is_known m.store r ≡ true → r < length m.buffers
-free_there m r w k = subst (λ (n : ℕ). r < n) (sym w.buffers) (in_range m.store r w.store k)
+-- other bytes of a record leave the directions as they were
+module _ (bodies : List BodyOf) (r : ℕ) (bytes : List ℕ) (there : r < length bodies) (q : ℕ) where
+  refilled_end : (body (refilled r bytes bodies) q).end ≡ (body bodies q).end
+  refilled_end = grind (arith, nat_tests, at_set)
+
+  refilled_bytes : (body (refilled r bytes bodies) q).bytes ≡ cond (q == r) bytes (body bodies q).bytes
+  refilled_bytes = grind (arith, nat_tests, at_set)
+
+-- a free record has a body
+pub free_there : (m : Machine) (r : ℕ) → IsWhole m → is_known m.store r ≡ true → r < length m.bodies
+free_there m r w k = subst (λ (n : ℕ). r < n) (sym w.bodies) (in_range m.store r w.store k)
 
 -- the list of a process has room for a record that nobody holds
 pub room_for : (m : Machine) (p r : ℕ) → IsWhole m → IsRunning m p → owner m.store r ≡ None → r < length m.store.owners → length (place m.places p).blocks.items < 2048
@@ -160,8 +168,8 @@ pub allocated_whole : (m : Machine) (p r n : ℕ) → IsWhole m → IsRunning m 
     ((q : ℕ) → q ≢ r → len (after (Carve p r n) (after (Claim p r) m.store)) q ≡ len m.store q) → IsWhole (allocated p r n m)
 unfolding allocated
 allocated_whole m p r n w run g f there long others =
-    gained_whole p (r ∷ []) m (allocated p r n m) w run g refl refl refl refl refl refl (length-set m.buffers r (replicate n 0))
-    (λ q. grind (arith, nat_tests, at_set m.buffers r q (replicate n 0) [] (rw w.buffers there), free_no_end m r w f, length-replicate {A = ℕ} n 0, others q, w.bytes q, long))
+    gained_whole p (r ∷ []) m (allocated p r n m) w run g refl (refilled_end m.bodies r (replicate n 0) (rw w.bodies there)) refl refl refl refl (length-set m.bodies r _)
+    (λ q. grind (arith, nat_tests, refilled_bytes m.bodies r (replicate n 0) (rw w.bodies there) q, free_no_end m r w f, length-replicate {A = ℕ} n 0, others q, w.bytes q, long))
 
 -- ---- free
 
@@ -179,7 +187,7 @@ freed_whole m p r w h e =
 
 split_bytes : (m : Machine) (u : Store) (r t k : ℕ) → IsWhole m → end_of m r ≡ None → owner m.store t ≡ None → r ≢ t → r < length m.store.owners → t < length m.store.owners → k ≤ len m.store r →
     len u r ≡ k → len u t + k ≡ len m.store r → ((q : ℕ) → q ≢ r → q ≢ t → len u q ≡ len m.store q) →
-    (q : ℕ) → length (slice_index_or (slice_set (slice_set m.buffers t (drop k (buffer m r))) r (take k (buffer m r))) q []) ≡ cond (is_some (end_of m q)) 0 (len u q)
+    (q : ℕ) → length (body (refilled t (drop k (buffer m r)) (refilled r (take k (buffer m r)) m.bodies)) q).bytes ≡ cond (is_some (end_of m q)) 0 (len u q)
 split_bytes m u r t k w d f ne there t_there few head tail others q = grind (arith, nat_tests, length-set, at_set, eq-eqb, length-take-le, few, ne_eqb, free_no_end, length-drop)
 
 -- a block is split
@@ -188,10 +196,15 @@ pub parted_whole : (m : Machine) (p r t k : ℕ) → IsWhole m → IsRunning m p
     len (after (Cut p r t k) (after (Claim p t) m.store)) r ≡ k → len (after (Cut p r t k) (after (Claim p t) m.store)) t + k ≡ len m.store r →
     ((q : ℕ) → q ≢ r → q ≢ t → len (after (Cut p r t k) (after (Claim p t) m.store)) q ≡ len m.store q) → IsWhole (parted p r t k m)
 unfolding parted
-parted_whole m p r t k w run g d f ne there t_there few head tail others = search (rules, gained_whole, length-set, split_bytes, few)
+parted_whole m p r t k w run g d f ne there t_there few head tail others =
+    let first : List BodyOf = refilled r (take k (buffer m r)) m.bodies in
+    let same : length first ≡ length m.bodies = length-set m.bodies r _ in
+    gained_whole p (t ∷ []) m (parted p r t k m) w run g refl
+    (λ q. refilled_end first t (drop k (buffer m r)) (rw (same, w.bodies) t_there) q ∙ refilled_end m.bodies r (take k (buffer m r)) (rw w.bodies there) q)
+    refl refl refl refl (length-set first t _ ∙ same) (split_bytes m (parted p r t k m).store r t k w d f ne there t_there few head tail others)
 
 -- ---- write
 
 -- a block has other bytes, as many as before
-pub written_whole : (m : Machine) (r : ℕ) (new : List ℕ) → IsWhole m → r < length m.buffers → length new ≡ length (buffer m r) → IsWhole (record m { buffers = slice_set m.buffers r new })
+pub written_whole : (m : Machine) (r : ℕ) (new : List ℕ) → IsWhole m → r < length m.bodies → length new ≡ length (buffer m r) → IsWhole (record m { bodies = refilled r new m.bodies })
 written_whole m r new w l e = grind (arith, nat_tests, length-set, at_set)

@@ -1,6 +1,6 @@
 -- A give and a take leave a whole machine.
 use Rattle.xh_serial.proofs.Common.{place, Bool, Direction, Holder, InStep, IsSome, IsValid, IsWhole, Line, List, Machine, MayGive, MayTake, Message, None, Option, Process, Row, Some, []}
-use Rattle.xh_serial.proofs.Common.{accept_all, allowed, ap, append-nil, arith, at_set, blocks, carried, cond, contract_of, count_append}
+use Rattle.xh_serial.proofs.Common.{accept_all, allowed, ap, append-nil, arith, at_set, blocks, carried, cond, contract_of, count_append, end_of}
 use Rattle.xh_serial.proofs.Common.{false, false≢true, flat_map-append, front_message, front_step, get_or-set_other, get_or-set_same, given, has_twice, holds, length, length-append}
 use Rattle.xh_serial.proofs.Common.{length-set, line, list_all, list_any, listed, nat_lt, nat_tests, next_state, no_line, no_message, on_way, pass_all, peer, put_line, put_step}
 use Rattle.xh_serial.proofs.Common.{refl, remove, slice_index_or, slice_set, subst, sym, tags_of, take_step, taken, taken_line, times, times-cons, told_line, toward, true, unwrap_or}
@@ -119,8 +119,8 @@ module _ (m : Machine) (p e tag : ℕ) (bs : List ℕ) (w : IsWhole m) (g : MayG
             (λ k h. other_lines k (half_apart own k h) (λ s. h (ap (λ (i : ℕ). i / 2) s ∙ peer_half own)));
         few = w.channels.few;
       })
-      (set_reached m.ends told m.opened d y there (grind (arith, nat_tests, get_or-set_other, peer_ne)) (λ s. absurd (false≢true (sym g.not_shut ∙ s)))
-      (set_reached m.ends m.lines m.opened own z own_there refl (w.reached.drained own) w.reached))
+      (set_reached (end_of m) told m.opened d y there (grind (arith, nat_tests, get_or-set_other, peer_ne)) (λ s. absurd (false≢true (sym g.not_shut ∙ s)))
+      (set_reached (end_of m) m.lines m.opened own z own_there refl (w.reached.drained own) w.reached))
 
 -- ---- take
 
@@ -203,7 +203,7 @@ module _ (m : Machine) (p e : ℕ) (w : IsWhole m) (t : MayTake m p e (toward m 
             (λ k h. get_or-set_other m.lines way_d k shorter no_line (half_apart way_d k h));
         few = w.channels.few;
       })
-      (set_reached m.ends m.lines m.opened way_d shorter way_there refl (λ s. ap (λ (ms : List Message). remove ms 0) (w.reached.drained way_d s)) w.reached)
+      (set_reached (end_of m) m.lines m.opened way_d shorter way_there refl (λ s. ap (λ (ms : List Message). remove ms 0) (w.reached.drained way_d s)) w.reached)
 
   -- the front message is one that the contract allows
   pub front_allowed : (o : Option (List Row)) → contract_of m.contracts way_d ≡ o → IsSome (next_state o (1 - way_d % 2) (line m.lines way_d).state (front_message m e).tag)

@@ -1,6 +1,6 @@
 -- A new machine is whole, and so is one where a process starts, and one where a channel is opened.
-use Rattle.xh_serial.proofs.Common.{new_line, ArePlaces, Bool, Config, Direction, Holder, IsConfig, IsLawful, IsNumbered, IsRunning, IsSound, IsWhole, Line, List, Machine, None, Option, Paired}
-use Rattle.xh_serial.proofs.Common.{Place, Process, Row, Some, Store, [], accept_all, ap, arith, at_replicate, at_set, blocks, buffer, cases_eq, cond, count_append, end_of, eq-eqb}
+use Rattle.xh_serial.proofs.Common.{new_line, ArePlaces, BodyOf, Bool, Config, Direction, Holder, IsConfig, IsLawful, IsNumbered, IsRunning, IsSound, IsWhole, Line, List, Machine, None, Option}
+use Rattle.xh_serial.proofs.Common.{Paired, Place, Process, Row, Some, Store, [], accept_all, ap, arith, at_replicate, at_set, blank, blocks, body, cases_eq, cond, count_append, end_of, eq-eqb}
 use Rattle.xh_serial.proofs.Common.{false, false≢true, get_or-set_other, get_or-set_same, holds, inl, inr, is_held_by, is_over, is_ready, is_some, is_there, len, length, length-append}
 use Rattle.xh_serial.proofs.Common.{length-replicate, length-set, line, listed, moved, nat_tests, ne_eqb, new_machine, new_store, no_bytes, no_line, no_place, on_way, one_time, owner, pass_all, peer}
 use Rattle.xh_serial.proofs.Common.{place, position, position-Some, refl, same_len, same_process, slice_index_or, slice_set, serial_started, started_at, subst, sym, times, true, waiting, with_last, with_pair}
@@ -39,13 +39,13 @@ module _ (c : Config) (is : IsConfig c) (lawful : IsLawful (new_store c)) where
   m = new_machine c
 
   -- what is read of it at any number
-  bare : (r : ℕ) → (owner m.store r ≡ None) × (end_of m r ≡ None) × (buffer m r ≡ []) × (place m.places r ≡ no_place) × (line m.lines r ≡ no_line)
+  bare : (r : ℕ) → (owner m.store r ≡ None) × (body m.bodies r ≡ blank None) × (place m.places r ≡ no_place) × (line m.lines r ≡ no_line)
   unfolding new_machine new_store
-  bare r = (at_replicate (256 * c.arenas) r None, at_replicate (256 * c.arenas) r None, at_replicate (256 * c.arenas) r [], at_replicate 32 (r % 32) no_place, at_replicate 128 r no_line)
+  bare r = (at_replicate (256 * c.arenas) r None, at_replicate (256 * c.arenas) r (blank None), at_replicate 32 (r % 32) no_place, at_replicate 128 r no_line)
 
   once : (h : Holder) (r : ℕ) → times r (listed m h) ≡ cond (holds m.store h r) 1 0
-  once (Process p) r = grind (arith, nat_tests, (bare p).3, (bare r).0)
-  once (Direction d) r = rw ((bare d).4, (bare r).0) refl
+  once (Process p) r = grind (arith, nat_tests, (bare p).2, (bare r).0)
+  once (Direction d) r = rw ((bare d).3, (bare r).0) refl
 
   pub new_whole : IsWhole m
   unfolding new_machine new_store
@@ -53,24 +53,24 @@ module _ (c : Config) (is : IsConfig c) (lawful : IsLawful (new_store c)) where
     store = lawful;
     once = once;
     full = λ h r y. absurd (false≢true (ap (λ o. is_held_by o h) (sym (bare r).0) ∙ y));
-    kinds = length-replicate {A = Option ℕ} (256 * c.arenas) None ∙ sym (length-replicate {A = Option Holder} (256 * c.arenas) None);
-    ends = λ r d e. absurd (false≢true (ap is_some (sym (bare r).1 ∙ e)));
-    buffers = length-replicate {A = List ℕ} (256 * c.arenas) [] ∙ sym (length-replicate {A = Option Holder} (256 * c.arenas) None);
-    bytes = λ r. rw ((bare r).2, (bare r).1) (sym (no_bytes (owner m.store r) (len m.store r) (bare r).0 (lawful.owned r)));
+    bodies = length-replicate {A = BodyOf} (256 * c.arenas) (blank None) ∙ sym (length-replicate {A = Option Holder} (256 * c.arenas) None);
+    ends = λ r d e. absurd (false≢true (ap (λ (b : BodyOf). is_some b.end) (sym (bare r).1) ∙ ap is_some e));
+    bytes = λ r. subst (λ (b : BodyOf). length b.bytes ≡ cond (is_some b.end) 0 (len m.store r)) (sym (bare r).1)
+        (sym (no_bytes (owner m.store r) (len m.store r) (bare r).0 (lawful.owned r)));
     places = record {
       long = length-replicate 32 no_place;
-      generations = λ p. rw (bare p).3 (omega arith);
-      idle = λ p s. ap (λ (x : Place). x.blocks.items) (bare p).3;
+      generations = λ p. rw (bare p).2 (omega arith);
+      idle = λ p s. ap (λ (x : Place). x.blocks.items) (bare p).2;
     };
     channels = record {
       long = length-replicate 128 no_line;
-      fresh = λ d h. (bare d).4;
-      numbered = λ d. subst IsNumbered (sym (bare d).4) (1, refl);
+      fresh = λ d h. (bare d).3;
+      numbered = λ d. subst IsNumbered (sym (bare d).3) (1, refl);
       contracts_long = length-replicate {A = Option (List Row)} 64 None;
       wired = λ k rows e. absurd (false≢true (ap is_some (sym (at_replicate {A = Option (List Row)} 64 (k / 2) None) ∙ e)));
       few = omega arith;
     };
-    reached = record { drained = λ d h. ap (λ (l : Line). l.waiting.items) (bare d).4; there = λ d h. absurd (omega (arith, h)) };
+    reached = record { drained = λ d h. ap (λ (l : Line). l.waiting.items) (bare d).3; there = λ d h. absurd (omega (arith, h)) };
     deep = is.most_depth;
   }
 
@@ -203,14 +203,17 @@ module _ (p q a r t : ℕ) (contract : Option (List Row)) (m : Machine) (v : Con
 
   -- ---- the endpoints
 
-  there : (k : ℕ) → ((k == r) || (k == t)) ≡ true → k < length m.ends
-  there k y = rw v.whole.kinds (pair_there p a r t m.store pair v.pair k y)
+  there : (k : ℕ) → ((k == r) || (k == t)) ≡ true → k < length m.bodies
+  there k y = rw v.whole.bodies (pair_there p a r t m.store pair v.pair k y)
+
+  body_is : (k : ℕ) → body n.bodies k ≡ cond (k == t) (blank (Some (2 * m.opened + 1))) (cond (k == r) (blank (Some (2 * m.opened))) (body m.bodies k))
+  body_is k =
+      let low : r < length m.bodies = there r (grind (arith, nat_tests)) in
+      let high : t < length m.bodies = there t (grind (arith, nat_tests)) in
+      grind (arith, nat_tests, length-set, at_set)
 
   end_is : (k : ℕ) → end_of n k ≡ cond (k == t) (Some (2 * m.opened + 1)) (cond (k == r) (Some (2 * m.opened)) (end_of m k))
-  end_is k =
-      let low : r < length m.ends = there r (grind (arith, nat_tests)) in
-      let high : t < length m.ends = there t (grind (arith, nat_tests)) in
-      grind (arith, nat_tests, length-set, at_set)
+  end_is k = grind (arith, nat_tests, body_is k)
 
   drained : (d : ℕ) → (line n.lines d).shut ≡ true → waiting n d ≡ []
   drained d = grind (arith, nat_tests, line_is d, v.whole.reached.drained d)
@@ -230,7 +233,7 @@ module _ (p q a r t : ℕ) (contract : Option (List Row)) (m : Machine) (v : Con
     store = v.lawful;
     once = once_now;
     full = λ h k y. grind (arith, nat_tests, owners k, lens k, v.pair.head, v.pair.tail, v.pair.kept k, v.whole.full h k);
-    kinds = length-set (slice_set m.ends r (Some (2 * m.opened))) t (Some (2 * m.opened + 1)) ∙ (length-set m.ends r (Some (2 * m.opened)) ∙ (v.whole.kinds ∙ sym many));
+    bodies = length-set (slice_set m.bodies r _) t _ ∙ (length-set m.bodies r _ ∙ (v.whole.bodies ∙ sym many));
     ends = λ k d e.
         let held : end_of m k ≡ Some d → is_some (owner m.store k) ≡ true = λ f. (v.whole.ends k d f).held in
         let below : (j : ℕ) → end_of m j ≡ Some d → d < 2 * m.opened = λ j f. (v.whole.ends j d f).opened in
@@ -239,8 +242,7 @@ module _ (p q a r t : ℕ) (contract : Option (List Row)) (m : Machine) (v : Con
           opened = grind (arith, nat_tests, end_is k, below k);
           alone = λ j f. grind (arith, nat_tests, end_is k, end_is j, below k, below j, alone j);
         };
-    buffers = v.whole.buffers ∙ sym many;
-    bytes = λ k. grind (arith, nat_tests, end_is k, lens k, v.pair.kept k, v.pair.free.0, v.pair.free.1, empty k, v.whole.bytes k);
+    bytes = λ k. grind (arith, nat_tests, body_is k, lens k, v.pair.kept k, v.pair.free.0, v.pair.free.1, empty k, v.whole.bytes k);
     places = longer_places (with_last p r m.places) q t middle busy_q;
     channels = record {
       long = length-set (slice_set m.lines (2 * m.opened) (new_line contract)) (2 * m.opened + 1) (new_line contract)

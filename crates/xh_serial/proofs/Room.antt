@@ -1,9 +1,9 @@
 -- Records that go from one holder, or from none, to another, or to none; how many there are at most, and how many bytes they have.
 use Rattle.xh_serial.proofs.Common.{AreChannels, ArePlaces, Direction, HaveEnds, Holder, IsEndRecord, IsLawful, IsWhole, Line, List, Machine, None, Option, Place, Process, Some, Store, [], all_holders}
-use Rattle.xh_serial.proofs.Common.{all_out, ap, arith, blocks, buffer, bytes_of, carried, cond, count_append, end_of, get_or, holders, holds, is_held_by, is_some, is_there, len, length}
+use Rattle.xh_serial.proofs.Common.{all_out, arith, blocks, buffer, bytes_of, carried, cond, count_append, end_of, get_or, holders, holds, is_held_by, is_some, is_there, len, length}
 use Rattle.xh_serial.proofs.Common.{length-append, length-range_with_len, listed, map, nat_lt, nat_tests, no_line, no_place, numbers, on_way, owner, range_with_len, refl, same_direction}
-use Rattle.xh_serial.proofs.Common.{same_known, same_len, same_process, slice_index_or, sum_add, sum_by, sum_by-append, sum_by-cons, sum_by-le, sum_same, sum_zero, sym, times, times-cons, total}
-use Rattle.xh_serial.proofs.Common.{total_bytes, true, way_in, ℕ, ◌%◌, ◌*◌, ◌++◌, ◌+◌, ◌<◌, ◌==◌, ◌∙◌, ◌∷◌, ◌≡◌, ◌≤◌}
+use Rattle.xh_serial.proofs.Common.{same_known, same_len, same_process, slice_index_or, subst, sum_add, sum_by, sum_by-append, sum_by-cons, sum_by-le, sum_same, sum_zero, sym, times, times-cons}
+use Rattle.xh_serial.proofs.Common.{total, total_bytes, true, way_in, ℕ, ◌%◌, ◌*◌, ◌++◌, ◌+◌, ◌<◌, ◌==◌, ◌∙◌, ◌∷◌, ◌≡◌, ◌≤◌}
 use Rattle.xh_core.proofs.Ranges.{exchanged, indexed, picked, same_range, sum_mapped}
 
 one_number : (f : ℕ → ℕ) (q r : ℕ) (rs : List ℕ) → times q (r ∷ rs) * f q ≡ cond (r == q) (f r) 0 + times q rs * f q
@@ -67,34 +67,30 @@ pub record Came (from : Option Holder) (h : Holder) (rs : List ℕ) (m n : Machi
   pub full : (q : ℕ) → nat_lt 0 (times q rs) ≡ true → 0 < len n.store q
   pub kept : (q : ℕ) → 0 < len m.store q → 0 < len n.store q
   pub many : length n.store.owners ≡ length m.store.owners
-  pub ends : n.ends ≡ m.ends
-  pub buffers : length n.buffers ≡ length m.buffers
+  pub ends : (q : ℕ) → end_of n q ≡ end_of m q
+  pub bodies : length n.bodies ≡ length m.bodies
   pub bytes : (q : ℕ) → length (buffer n q) ≡ cond (is_some (end_of m q)) 0 (len n.store q)
   pub places : ArePlaces n.places
   pub channels : AreChannels n.lines n.contracts n.opened
-  pub reached : HaveEnds n.ends n.lines n.opened
+  pub reached : HaveEnds (end_of m) n.lines n.opened
   pub opened : n.opened ≡ m.opened
   pub depth : n.depth ≡ m.depth
 
 module _ (from : Option Holder) (h : Holder) (rs : List ℕ) (m n : Machine) (w : IsWhole m) (v : Came from h rs m n) where
-  same_end : (q : ℕ) → end_of n q ≡ end_of m q
-  same_end q = rw (v.ends) refl
-
   end_now : (r d : ℕ) → end_of n r ≡ Some d → IsEndRecord n r d
-  end_now r d e = grind (arith, nat_tests, same_end)
+  end_now r d e = grind (arith, nat_tests, v.ends)
 
   pub came_whole : IsWhole n
   came_whole = record {
     store = v.lawful;
     once = λ k q. grind (arith, nat_tests, v.moved.were q, v.moved.once q, v.moved.owners q, v.moved.lists k q, w.once k q);
     full = λ k q y. grind (arith, nat_tests, v.moved.owners q, v.full q, v.kept q, w.full k q);
-    kinds = ap length v.ends ∙ (w.kinds ∙ sym v.many);
+    bodies = v.bodies ∙ (w.bodies ∙ sym v.many);
     ends = end_now;
-    buffers = v.buffers ∙ (w.buffers ∙ sym v.many);
-    bytes = λ q. v.bytes q ∙ rw (same_end q) refl;
+    bytes = λ q. v.bytes q ∙ rw (v.ends q) refl;
     places = v.places;
     channels = v.channels;
-    reached = v.reached;
+    reached = subst (λ (end : ℕ → Option ℕ). HaveEnds end n.lines n.opened) (λ i q. sym (v.ends q) i) v.reached;
     deep = rw v.depth w.deep;
   }
 
@@ -120,15 +116,15 @@ module _ (g h : Holder) (rs : List ℕ) (m : Machine) (t : Store) (ps : List Pla
   handed = record m { store = t; places = ps; lines = ls }
 
   pub handed_whole : ((k : Holder) (q : ℕ) → times q (listed handed k) + has (Some g) k * times q rs ≡ times q (listed m k) + has (Some h) k * times q rs) →
-      ArePlaces ps → AreChannels ls m.contracts m.opened → HaveEnds m.ends ls m.opened → IsWhole handed
+      ArePlaces ps → AreChannels ls m.contracts m.opened → HaveEnds (end_of m) ls m.opened → IsWhole handed
   handed_whole lists places channels reached = came_whole (Some g) h rs m handed w (record {
     lawful = grind (arith, nat_tests, few, had_bytes, same_len, same_known, were);
     moved = record { were = were; once = λ q. grind (arith, nat_tests, held q); owners = owners; lists = lists };
     full = had_bytes;
     kept = λ q l. rw (same_len m.store t q arenas) l;
     many = many;
-    ends = refl;
-    buffers = refl;
+    ends = λ q. refl;
+    bodies = refl;
     bytes = λ q. rw (same_len m.store t q arenas) (w.bytes q);
     places = places;
     channels = channels;

@@ -1,6 +1,6 @@
 -- What sweeping one entry leaves: a whole machine.
 use Rattle.xh_serial.proofs.Common.{place, Bool, Direction, GiveBack, Holder, IsEndRecord, IsLawful, IsWhole, Line, List, Machine, None, Option, Place, Process, Row, Some, Store, Vacate, []}
-use Rattle.xh_serial.proofs.Common.{accept_from, after, all_out, ap, arena_there, arith, arriving, at_set, blocks, buffer, cases_Bool, change, cond, count_append, done}
+use Rattle.xh_serial.proofs.Common.{accept_from, after, all_out, ap, arena_there, arith, arriving, at_set, blank, blocks, body, buffer, cases_Bool, change, cond, count_append, done}
 use Rattle.xh_serial.proofs.Common.{end_of, eq-eqb, false, false≢true, get_or-le-sum_by, get_or-set_other, holds, inl, inr, is_some, is_there, len, len_back, len_back_else, length, length-append}
 use Rattle.xh_serial.proofs.Common.{length-set, line, listed, lt-ltb, nat_lt, nat_tests, ne_eqb, no_line, on_way, owner, refl, relisted, remove, same_direction, same_known, same_len, same_process}
 use Rattle.xh_serial.proofs.Common.{shut_in, slice_index_or, sum_by-remove, sweep, sweep_one, sym, times, true, way_in, ℕ, ◌*◌, ◌++◌, ◌+◌, ◌-◌, ◌/◌, ◌<◌, ◌==◌, ◌∙◌, ◌≡◌, ◌≢◌, ◌≤◌, ◌⊎◌}
@@ -119,13 +119,12 @@ pub way : (m : Machine) (p from e : ℕ) → IsWhole m → on_way (sweep_one p f
 unfolding sweep_one
 way m p from e w = shut_at m (end_of m (entry m p from)) e (end_range m (entry m p from) w)
 
-pub ends_now : (m : Machine) (p from q : ℕ) → IsWhole m → from < length (blocks m p) → end_of (sweep_one p from m) q ≡ cond (q == entry m p from) None (end_of m q)
+body_now : (m : Machine) (p from q : ℕ) → IsWhole m → from < length (blocks m p) → body (sweep_one p from m).bodies q ≡ cond (q == entry m p from) (blank None) (body m.bodies q)
 unfolding sweep_one
-ends_now m p from q w l =
-    let r : ℕ = entry m p from in
-    let k = w.kinds in
-    let there : r < length m.ends = (let a : r < length m.store.owners = is_there m.store (Process p) r (entry_held m p from w l) in omega arith) in
-    at_set m.ends r q None None there
+body_now m p from q w l = at_set m.bodies (entry m p from) q (blank None) (blank None) (rw w.bodies (entry_there m p from w l))
+
+pub ends_now : (m : Machine) (p from q : ℕ) → IsWhole m → from < length (blocks m p) → end_of (sweep_one p from m) q ≡ cond (q == entry m p from) None (end_of m q)
+ends_now m p from q w l = grind (arith, nat_tests, body_now m p from q w l)
 
 arriving_by : (m : Machine) (p from q : ℕ) (e : Option ℕ) → IsWhole m → q ≢ entry m p from → end_of m q ≡ e → way_in (sweep_one p from m).lines e ≡ way_in m.lines e
 arriving_by m p from q e w n eq = grind (arith, nat_tests, way)
@@ -212,12 +211,7 @@ fresh_now m p from k w h = grind (arith, nat_tests, fresh_shut)
 
 bytes_now : (m : Machine) (p from q : ℕ) → IsWhole m → from < length (blocks m p) →
     length (buffer (sweep_one p from m) q) ≡ cond (is_some (end_of (sweep_one p from m) q)) 0 (len (sweep_one p from m).store q)
-unfolding sweep_one
-bytes_now m p from q w l =
-    let r : ℕ = entry m p from in
-    let k = w.buffers in
-    let a : r < length m.store.owners = is_there m.store (Process p) r (entry_held m p from w l) in
-    grind (arith, nat_tests, ends_now m p from q w l, at_set m.buffers r q [] [] (omega (arith, k, a)), len_now m p from q w l, w.bytes q)
+bytes_now m p from q w l = grind (arith, nat_tests, body_now m p from q w l, len_now m p from q w l, w.bytes q)
 
 lawful_now : (m : Machine) (p from : ℕ) → IsWhole m → from < length (blocks m p) → IsLawful (sweep_one p from m).store
 lawful_now m p from w l =
@@ -245,9 +239,8 @@ whole_one m p from w l =
       store = lawful_now m p from w l;
       once = swept_once m p from w l;
       full = λ h q. full_now m p from h q w l;
-      kinds = length-set m.ends (entry m p from) None ∙ (w.kinds ∙ sym s.many);
+      bodies = length-set m.bodies (entry m p from) (blank None) ∙ (w.bodies ∙ sym s.many);
       ends = λ r d e. end_now m p from r d w l e;
-      buffers = length-set m.buffers (entry m p from) [] ∙ (w.buffers ∙ sym s.many);
       bytes = λ q. bytes_now m p from q w l;
       places = places_set m.places p _ w.places (busy_place m p _ w (grind (arith, nat_tests, w.places.idle p)));
       channels = record {
@@ -258,7 +251,7 @@ whole_one m p from w l =
         wired = shut_wired m.contracts m.lines (end_of m (entry m p from)) (end_range m (entry m p from) w) w.channels.wired;
         few = w.channels.few;
       };
-      reached = shut_reached m.ends m.contracts m.lines m.opened (entry m p from) (end_of m (entry m p from)) (rw w.kinds (entry_there m p from w l)) refl (end_range m (entry m p from) w) w.reached;
+      reached = shut_reached (end_of m) _ m.contracts m.lines m.opened (entry m p from) (end_of m (entry m p from)) (λ q. ends_now m p from q w l) refl (end_range m (entry m p from) w) w.reached;
       deep = w.deep;
     }
 

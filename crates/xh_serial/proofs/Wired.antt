@@ -2,7 +2,7 @@
 use Rattle.xh_serial.proofs.Common.{AreNumbered, HasOrderlyLines, AreWired, Bool, HaveEnds, InStep, IsNumbered, IsValid, Line, List, Machine, Message, None, Option, Row, Some, [], allowed, ap}
 use Rattle.xh_serial.proofs.Common.{arith, at_set, cases_Bool, cases_Option, cases_eq, contract_of, drain_step, drained_state, eq-eqb, front_step, get_or-set_other, get_or-set_same, inl, inr}
 use Rattle.xh_serial.proofs.Common.{length, line, nat_tests, no_line, none-some, peer, put_line, refl, same_Some, shut_in, shut_line, slice_index_or, slice_set, subst, sym, tags_of, taken_line}
-use Rattle.xh_serial.proofs.Common.{true, walk, ℕ, ◌%◌, ◌*◌, ◌++◌, ◌+◌, ◌-◌, ◌/◌, ◌<◌, ◌==◌, ◌∙◌, ◌∷◌, ◌≡◌, ◌≢◌}
+use Rattle.xh_serial.proofs.Common.{cond, true, walk, ℕ, ◌%◌, ◌*◌, ◌++◌, ◌+◌, ◌-◌, ◌/◌, ◌<◌, ◌==◌, ◌∙◌, ◌∷◌, ◌≡◌, ◌≢◌}
 use Rattle.xh_serial.proofs.Machines.{peer_half, peer_ne}
 
 -- two lines whose ends are in step
@@ -116,14 +116,14 @@ shut_numbered contracts lines (Some d) there all = set_numbered lines d _ (there
 -- ---- a direction has its end, or is shut and holds nothing
 
 -- one line is another, shut as before
-pub set_reached : (ends : List (Option ℕ)) (lines : List Line) (opened d : ℕ) (l : Line) → d < length lines → l.shut ≡ (slice_index_or lines d no_line).shut → (l.shut ≡ true → l.waiting.items ≡ []) →
-    HaveEnds ends lines opened → HaveEnds ends (slice_set lines d l) opened
-set_reached ends lines opened d l within same empty h = grind (arith, nat_tests, at_set)
+pub set_reached : (end : ℕ → Option ℕ) (lines : List Line) (opened d : ℕ) (l : Line) → d < length lines → l.shut ≡ (slice_index_or lines d no_line).shut → (l.shut ≡ true → l.waiting.items ≡ []) →
+    HaveEnds end lines opened → HaveEnds end (slice_set lines d l) opened
+set_reached end lines opened d l within same empty h = grind (arith, nat_tests, at_set)
 
 -- an end is swept: its direction is shut and drained
-pub shut_reached : (ends : List (Option ℕ)) (contracts : List (Option (List Row))) (lines : List Line) (opened r : ℕ) (o : Option ℕ) → r < length ends → slice_index_or ends r None ≡ o →
-    ((d : ℕ) → o ≡ Some d → d < length lines) → HaveEnds ends lines opened → HaveEnds (slice_set ends r None) (shut_in contracts lines o) opened
-shut_reached ends contracts lines opened r o there is l h = record {
+pub shut_reached : (end now : ℕ → Option ℕ) (contracts : List (Option (List Row))) (lines : List Line) (opened r : ℕ) (o : Option ℕ) → ((q : ℕ) → now q ≡ cond (q == r) None (end q)) →
+    end r ≡ o → ((d : ℕ) → o ≡ Some d → d < length lines) → HaveEnds end lines opened → HaveEnds now (shut_in contracts lines o) opened
+shut_reached end now contracts lines opened r o left is l h = record {
   drained = λ k. grind (arith, nat_tests, at_set, h.drained k);
-  there = λ k below not_shut. let e = h.there k below (grind (arith, nat_tests, at_set)) in (e.0, grind (arith, nat_tests, at_set, e.1, is));
+  there = λ k below not_shut. let e = h.there k below (grind (arith, nat_tests, at_set)) in (e.0, grind (arith, nat_tests, at_set, left e.0, e.1, is));
 }

@@ -1,5 +1,5 @@
 -- The commands alloc, split, read, write and free.
-use Rattle.std.specs.Prelude.{ℕ, ◌+◌, ◌-◌, ◌/◌, ◌==◌, Bool, List, [], ◌∷◌, ◌++◌, is_none, length, take, drop, replicate, slice_set, Ok}
+use Rattle.std.specs.Prelude.{ℕ, ◌+◌, ◌-◌, ◌/◌, ◌==◌, Bool, List, [], ◌∷◌, ◌++◌, None, is_none, length, take, drop, replicate, slice_set, Ok}
 use Rattle.std.specs.List.{remove, position_or_len}
 use Rattle.xh_model.specs.declared.limits.TheConstants.{MAX_RECORDS}
 use Rattle.xh_model.specs.declared.event.Event.TheVariants.{Claim, Carve, Cut, GiveBack, Vacate}
@@ -9,7 +9,7 @@ use Rattle.xh_core.specs.declared.refused.Refused.TheVariants.{OutOfMemory, NoRe
 use Rattle.xh_core.specs.Calls.{start, alloc_tests, data_tests, split_tests, range_tests}
 use Rattle.xh_core.specs.Refusing.{Tests, first_refusal}
 use Rattle.xh_core.specs.Space.{free_record, lowest, rounded, space_tests}
-use Rattle.xh_serial.specs.Machine.{Machine, buffer, blocks, relisted, serial_status}
+use Rattle.xh_serial.specs.Machine.{Machine, blank, blocks, buffer, refilled, relisted, serial_status}
 use Rattle.xh_serial.specs.Commands.{Answer, answered, header_found}
 
 -- ---- alloc
@@ -26,7 +26,7 @@ alloc_refusals is_refused m p n a = alloc_heads m p n a ++ (is_refused, OutOfMem
 unfoldable pub allocated : ℕ → ℕ → ℕ → Machine → Machine
 allocated p r n m = record m {
   store = after (Carve p r n) (after (Claim p r) m.store);
-  buffers = slice_set m.buffers r (replicate n 0);
+  bodies = refilled r (replicate n 0) m.bodies;
   places = relisted p (blocks m p ++ r ∷ []) m.places;
 }
 
@@ -42,11 +42,11 @@ split_heads m p r k = start (serial_status m p) ++ split_tests (header_found m p
 abbrev pub split_refusals : Bool → Machine → ℕ → ℕ → ℕ → Tests
 split_refusals is_refused m p r k = split_heads m p r k ++ (is_refused, OutOfMemory) ∷ []
 
--- a free record t is claimed and gets what is past the first k bytes of r; the buffer is cut in two
+-- a free record t is claimed and gets what is past the first k bytes of r; its bytes are cut in two
 unfoldable pub parted : ℕ → ℕ → ℕ → ℕ → Machine → Machine
 parted p r t k m = record m {
   store = after (Cut p r t k) (after (Claim p t) m.store);
-  buffers = slice_set (slice_set m.buffers t (drop k (buffer m r))) r (take k (buffer m r));
+  bodies = refilled t (drop k (buffer m r)) (refilled r (take k (buffer m r)) m.bodies);
   places = relisted p (blocks m p ++ t ∷ []) m.places;
 }
 
@@ -70,7 +70,7 @@ overwritten at bytes old = take at old ++ (bytes ++ drop (at + length bytes) old
 
 unfoldable pub write : ℕ → ℕ → ℕ → List ℕ → Machine → Answer (Unit {0})
 write p r at bytes m = answered (first_refusal (range_refusals m p r at (length bytes))) m
-    (Ok tt, record m { buffers = slice_set m.buffers r (overwritten at bytes (buffer m r)) })
+    (Ok tt, record m { bodies = refilled r (overwritten at bytes (buffer m r)) m.bodies })
 
 -- ---- free
 
@@ -81,7 +81,7 @@ free_refusals m p r = start (serial_status m p) ++ data_tests (header_found m p 
 unfoldable pub freed_block : ℕ → ℕ → Machine → Machine
 freed_block p r m = record m {
   store = after (Vacate p r) (after (GiveBack p r) m.store);
-  buffers = slice_set m.buffers r [];
+  bodies = slice_set m.bodies r (blank None);
   places = relisted p (remove (blocks m p) (position_or_len (λ q. q == r) (blocks m p))) m.places;
 }
 

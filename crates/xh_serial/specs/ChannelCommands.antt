@@ -4,7 +4,7 @@ use Rattle.xh_model.specs.declared.limits.TheConstants.{END_BYTES}
 use Rattle.xh_model.specs.declared.row.Row.{Row}
 use Rattle.xh_core.specs.declared.block.Block.{Block}
 use Rattle.xh_serial.specs.Lines.{new_line}
-use Rattle.xh_serial.specs.Machine.{Machine, serial_status, with_last}
+use Rattle.xh_serial.specs.Machine.{Machine, blank, serial_status, with_last}
 use Rattle.xh_serial.specs.Commands.{Answer, answered}
 use Rattle.xh_core.specs.Calls.{start, channel_tests}
 use Rattle.xh_core.specs.Pairing.{moved, with_pair}
@@ -26,7 +26,7 @@ ends_at r t = (record { rec = r; len = END_BYTES }, record { rec = t; len = END_
 abbrev pub wired : ℕ → ℕ → ℕ → ℕ → Option (List Row) → Machine → Machine
 wired p q r t contract m = record m {
   store = moved p q t (2 * m.opened + 1) (with_pair p r t m.store);
-  ends = slice_set (slice_set m.ends r (Some (2 * m.opened))) t (Some (2 * m.opened + 1));
+  bodies = slice_set (slice_set m.bodies r (blank (Some (2 * m.opened)))) t (blank (Some (2 * m.opened + 1)));
   places = with_last q t (with_last p r m.places);
   lines = slice_set (slice_set m.lines (2 * m.opened) (new_line contract)) (2 * m.opened + 1) (new_line contract);
   contracts = slice_set m.contracts m.opened contract;

@@ -15,12 +15,16 @@ use Rattle.xh_core.specs.declared.status.Status.TheVariants.{Vacant}
 use Rattle.xh_core.specs.Several.{times}
 use Rattle.xh_core.specs.Statuses.{is_over, status_of}
 
--- Who holds each record, and the arenas; by record the direction toward it, where it is an endpoint, and its bytes, where it is a data block;
--- the places; the directions; by channel its contract, where it has one; how many channels were opened; how many messages may wait in a direction.
+-- The direction toward a record, where it is an endpoint, and its bytes, where it is a data block.
+pub record BodyOf : Type 0 where
+  pub end : Option ℕ
+  pub bytes : List ℕ
+
+-- Who holds each record, and the arenas; by record its body; the places; the directions; by channel its contract, where it has one;
+-- how many channels were opened; how many messages may wait in a direction.
 pub record Machine : Type 0 where
   pub store : Store
-  pub ends : List (Option ℕ)
-  pub buffers : List (List ℕ)
+  pub bodies : List BodyOf
   pub places : List Place
   pub lines : List Line
   pub contracts : List (Option (List Row))
@@ -29,13 +33,24 @@ pub record Machine : Type 0 where
 
 -- ---- records
 
+-- a record without bytes
+abbrev pub blank : Option ℕ → BodyOf
+blank end = record { end = end; bytes = [] }
+
+abbrev pub body : List BodyOf → ℕ → BodyOf
+body bodies r = slice_index_or bodies r (blank None)
+
+-- a record has other bytes
+abbrev pub refilled : ℕ → List ℕ → List BodyOf → List BodyOf
+refilled r bytes bodies = slice_set bodies r (record (body bodies r) { bytes = bytes })
+
 -- the direction toward the endpoint r
 abbrev pub end_of : Machine → ℕ → Option ℕ
-end_of m r = slice_index_or m.ends r None
+end_of m r = (body m.bodies r).end
 
 -- the bytes of the data block r
 abbrev pub buffer : Machine → ℕ → List ℕ
-buffer m r = slice_index_or m.buffers r []
+buffer m r = (body m.bodies r).bytes
 
 -- ---- places
 
@@ -116,20 +131,19 @@ pub record AreChannels (lines : List Line) (contracts : List (Option (List Row))
   pub few : opened ≤ CHANNELS
 
 -- a direction that is shut holds no message, and one that was opened and isn't shut has its end
-pub record HaveEnds (ends : List (Option ℕ)) (lines : List Line) (opened : ℕ) : Type 0 where
+pub record HaveEnds (end : ℕ → Option ℕ) (lines : List Line) (opened : ℕ) : Type 0 where
   pub drained : (d : ℕ) → (line lines d).shut ≡ true → (line lines d).waiting.items ≡ []
-  pub there : (d : ℕ) → d < 2 * opened → (line lines d).shut ≡ false → (e : ℕ) × (slice_index_or ends e None ≡ Some d)
+  pub there : (d : ℕ) → d < 2 * opened → (line lines d).shut ≡ false → (e : ℕ) × (end e ≡ Some d)
 
--- each record stands once in its holder's list and in no other; each held record has bytes; a data block's buffer has its length
+-- each record stands once in its holder's list and in no other; each held record has bytes; a data block has as many bytes as its length
 pub record IsWhole (m : Machine) : Type 0 where
   pub store : IsLawful m.store
   pub once : (h : Holder) (r : ℕ) → times r (listed m h) ≡ cond (holds m.store h r) 1 0
   pub full : HasLengths m.store
-  pub kinds : length m.ends ≡ length m.store.owners
+  pub bodies : length m.bodies ≡ length m.store.owners
   pub ends : (r d : ℕ) → end_of m r ≡ Some d → IsEndRecord m r d
-  pub buffers : length m.buffers ≡ length m.store.owners
   pub bytes : (r : ℕ) → length (buffer m r) ≡ cond (is_some (end_of m r)) 0 (len m.store r)
   pub places : ArePlaces m.places
   pub channels : AreChannels m.lines m.contracts m.opened
-  pub reached : HaveEnds m.ends m.lines m.opened
+  pub reached : HaveEnds (end_of m) m.lines m.opened
   pub deep : m.depth ≤ MAX_DEPTH

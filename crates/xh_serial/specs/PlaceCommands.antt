@@ -14,7 +14,7 @@ use Rattle.xh_core.specs.declared.refused.Refused.{Refused}
 use Rattle.xh_core.specs.declared.refused.Refused.TheVariants.{NoProcess, NoPlace}
 use Rattle.xh_core.specs.declared.status.Status.TheVariants.{Running}
 use Rattle.xh_serial.specs.Lines.{carried, no_line}
-use Rattle.xh_serial.specs.Machine.{Machine, no_place}
+use Rattle.xh_serial.specs.Machine.{Machine, blank, no_place}
 use Rattle.xh_core.specs.Glances.{line_of}
 use Rattle.xh_core.specs.Statuses.{can_start, is_vacant}
 use Rattle.xh_serial.specs.Commands.{Answer}
@@ -24,8 +24,7 @@ use Rattle.xh_core.specs.ArenaLines.{arena_line}
 unfoldable pub new_machine : Config → Machine
 new_machine c = record {
   store = new_store c;
-  ends = replicate (MAX_RECORDS * c.arenas) None;
-  buffers = replicate (MAX_RECORDS * c.arenas) [];
+  bodies = replicate (MAX_RECORDS * c.arenas) (blank None);
   places = replicate PLACES no_place;
   lines = replicate DIRECTIONS no_line;
   contracts = replicate CHANNELS None;

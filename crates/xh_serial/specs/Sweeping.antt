@@ -1,12 +1,12 @@
 -- The sweep: what reclaiming one entry of a list does, and as many as a budget allows.
-use Rattle.std.specs.Prelude.{◌≡◌, ℕ, zero, suc, ◌<◌, ◌≤◌, cond, List, [], ◌++◌, Some, None, length, take, drop, nat_lt, slice_set, slice_index_or}
+use Rattle.std.specs.Prelude.{◌≡◌, ℕ, zero, suc, ◌<◌, ◌≤◌, cond, List, ◌++◌, Some, None, length, take, drop, nat_lt, slice_set, slice_index_or}
 use Rattle.std.specs.List.{flat_map, remove}
 use Rattle.xh_model.specs.declared.event.Holder.TheVariants.{Direction}
 use Rattle.xh_model.specs.declared.event.Event.TheVariants.{GiveBack, Vacate}
 use Rattle.xh_model.specs.Store.{owner, after}
 use Rattle.xh_serial.specs.Commands.{accept_from}
 use Rattle.xh_serial.specs.Lines.{shut_in}
-use Rattle.xh_serial.specs.Machine.{Machine, end_of, blocks, relisted, arriving}
+use Rattle.xh_serial.specs.Machine.{Machine, arriving, blank, blocks, end_of, relisted}
 use Rattle.xh_core.specs.Several.{times}
 
 -- The entry at `from` of a list is swept: where it is an endpoint its side is shut, and what is on its way to it is accepted and put at the end of the list;
@@ -16,8 +16,7 @@ sweep_one p from m =
     let r : ℕ = slice_index_or (blocks m p) from 0 in
     record m {
       store = after (Vacate p r) (after (GiveBack p r) (accept_from p (end_of m r) (arriving m r) m.store));
-      ends = slice_set m.ends r None;
-      buffers = slice_set m.buffers r [];
+      bodies = slice_set m.bodies r (blank None);
       places = relisted p (remove (blocks m p ++ arriving m r) from) m.places;
       lines = shut_in m.contracts m.lines (end_of m r);
     }

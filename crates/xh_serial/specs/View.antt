@@ -5,8 +5,7 @@ use Rattle.xh_serial.specs.Machine.{Machine}
 abbrev pub machine_of : SerialInside → Machine
 machine_of s = record {
   store = s.plain;
-  ends = s.blocks.ends;
-  buffers = s.blocks.buffers;
+  bodies = s.blocks;
   places = s.places;
   lines = s.channels.lines;
   contracts = s.channels.contracts;

@@ -1,167 +1,109 @@
 //! What the blocks of all records hold.
-ghost use Rattle.std.specs.Prelude.{◌≡◌, ◌≢◌, ◌+◌, ◌≤◌, ◌<◌, [], IfOk, None, OnErr, OnOk, drop, length, replicate, slice_index_or, slice_set, take};
+ghost use Rattle.std.specs.Prelude.{◌≡◌, ◌+◌, ◌≤◌, ◌<◌, IfOk, None, OnErr, OnOk, drop, length, replicate, slice_set, take};
 ghost use Rattle.xh_serial.specs.BlockCommands.{overwritten};
+ghost use Rattle.xh_serial.specs.Machine.{blank, body, refilled};
 
 use std::alloc::{AllocError, Global};
 use std::marker::Model;
 
-/// The bytes of a data block; none for a record that is no data block.
+/// The direction toward a record, where it is an endpoint, and its bytes, where it is a data block.
 #[derive(Drop)]
-pub(crate) struct Buffer {
+struct Body {
+    end: Option<u8>,
     bytes: Vec<u8>,
 }
 
-impl Model for Buffer {
-    ghost use Rattle.std.specs.Prelude.{List, ℕ};
+impl Model for Body {
+    ghost use Rattle.xh_serial.specs.Machine.{BodyOf};
 
-    ghost Value = { List ℕ };
+    ghost Value = { BodyOf };
 
-    ghost view = { λ b. b.bytes.items };
+    ghost view = { λ b. record { end = b.end; bytes = b.bytes.items } };
 }
 
-impl Buffer {
-    fn none(alloc: Global) -> Buffer
-        ensures { result ≡ [] }
-    {
-        Buffer {
-            bytes: Vec::new(alloc),
-        }
-    }
-
-    /// So many zeros.
-    pub(crate) fn zeroed(alloc: Global, count: u32) -> Result<Buffer, AllocError>
-        ensures { IfOk result (λ buffer. buffer ≡ replicate count 0) }
-    {
-        let bytes = vec![in alloc; 0; count as usize]?;
-        Ok(Buffer { bytes })
-    }
-
-    fn copy(&self, at: usize, out: &mut [u8])
-        requires { at + length out.old ≤ length self.now }
-        ensures { out.new ≡ take (length out.old) (drop at self.now) }
-    {
-        out.copy_from_slice(&self.bytes[at..at + out.len()]);
-    }
-
-    fn overwrite(&mut self, at: usize, bytes: &[u8])
-        requires { at + length bytes.now ≤ length self.old }
-        ensures { self.new ≡ overwritten at bytes.now self.old }
-    {
-        self.bytes[at..at + bytes.len()].copy_from_slice(bytes);
-    }
-
-    /// What is past the first `at` bytes goes to a buffer of its own, and its memory here is given
-    /// back.
-    fn split_off(&mut self, alloc: Global, at: usize) -> Result<Buffer, AllocError>
-        requires { at ≤ length self.old }
-        ensures head { OnOk result (self.new ≡ take at self.old) }
-        ensures tail { IfOk result (λ tail. tail ≡ drop at self.old) }
-        ensures kept { OnErr result (self.new ≡ self.old) }
-    {
-        let tail = self.bytes[at..].to_vec(alloc)?;
-        self.bytes.truncate(at);
-        self.bytes.shrink_to_fit();
-        Ok(Buffer { bytes: tail })
+/// A record without bytes.
+fn blank(alloc: Global, end: Option<u8>) -> Body
+    ensures { result ≡ blank end }
+{
+    Body {
+        end,
+        bytes: Vec::new(alloc),
     }
 }
 
-/// The direction toward each endpoint, and the bytes of each data block, one buffer for each, of
-/// exactly its length.
+/// So many zeros.
+pub(crate) fn zeros(alloc: Global, count: u32) -> Result<Vec<u8>, AllocError>
+    ensures { IfOk result (λ bytes. bytes.items ≡ replicate count 0) }
+{
+    vec![in alloc; 0; count as usize]
+}
+
+/// What each record has, the bytes of a data block in memory of exactly its length.
 #[derive(Drop)]
 pub(crate) struct Blocks {
-    /// By record, the direction toward it, where it is an endpoint.
-    ends: Vec<Option<u8>>,
-    /// By record, its bytes, where it is a data block.
-    buffers: Vec<Buffer>,
+    bodies: Vec<Body>,
 }
 
 impl Model for Blocks {
-    ghost use Rattle.std.specs.Prelude.{◌≡◌, length};
-    ghost use Rattle.xh_serial.specs.inner.Holding.{BlocksOf};
+    ghost use Rattle.std.specs.Prelude.{List};
+    ghost use Rattle.xh_serial.specs.Machine.{BodyOf};
 
-    ghost Value = { BlocksOf };
+    ghost Value = { List BodyOf };
 
-    ghost view = { λ b. record { ends = b.ends.items; buffers = b.buffers.items } };
-
-    ghost invariant = { λ b. length b.ends.items ≡ length b.buffers.items };
-}
-
-/// No endpoint.
-fn no_ends(alloc: Global, count: usize) -> Result<Vec<Option<u8>>, AllocError>
-    ensures { IfOk result (λ ends. ends.items ≡ replicate count None) }
-{
-    vec![in alloc; None; count]
-}
-
-/// No bytes for any record.
-fn no_buffers(alloc: Global, count: usize) -> Result<Vec<Buffer>, AllocError>
-    ensures { IfOk result (λ buffers. buffers.items ≡ replicate count []) }
-{
-    let mut buffers = Vec::with_capacity(alloc, count)?;
-    for _ in 0..count {
-        buffers.push(Buffer::none(alloc))?;
-    }
-    Ok(buffers)
+    ghost view = { λ b. b.bodies.items };
 }
 
 impl Blocks {
     /// No endpoints and no bytes.
     pub(crate) fn none(alloc: Global, count: u16) -> Result<Blocks, AllocError>
-        ensures { IfOk result (λ blocks. blocks ≡ record { ends = replicate count None; buffers = replicate count [] }) }
+        ensures { IfOk result (λ blocks. blocks ≡ replicate count (blank None)) }
     {
-        Ok(Blocks {
-            ends: no_ends(alloc, usize::from(count))?,
-            buffers: no_buffers(alloc, usize::from(count))?,
-        })
+        let mut bodies = Vec::with_capacity(alloc, usize::from(count))?;
+        for _ in 0..count {
+            bodies.push(blank(alloc, None))?;
+        }
+        Ok(Blocks { bodies })
     }
 
     /// The direction toward a record, where it is an endpoint.
     pub(crate) fn end(&self, r: u16) -> Option<u8>
-        ensures { result ≡ slice_index_or self.now.ends r None }
+        ensures { result ≡ (body self.now r).end }
     {
-        self.ends.get(usize::from(r)).copied().flatten()
+        self.bodies.get(usize::from(r))?.end
     }
 
-    /// A record is an endpoint from now on, and this the direction toward it; or it is none.
+    /// A record has no bytes from now on; this is the direction toward it, where it is an endpoint.
     pub(crate) fn bind(&mut self, r: u16, end: Option<u8>)
-        requires { r < length self.old.buffers }
-        ensures { self.new ≡ record self.old { ends = slice_set self.old.ends r end } }
+        requires { r < length self.old }
+        ensures { self.new ≡ slice_set self.old r (blank end) }
     {
-        self.ends[usize::from(r)] = end;
+        self.bodies[usize::from(r)] = blank(*self.bodies.allocator(), end);
     }
 
     /// A record has these bytes from now on.
-    pub(crate) fn fill(&mut self, r: u16, bytes: Buffer)
-        requires { r < length self.old.buffers }
-        ensures { self.new ≡ record self.old { buffers = slice_set self.old.buffers r bytes } }
+    pub(crate) fn fill(&mut self, r: u16, bytes: Vec<u8>)
+        requires { r < length self.old }
+        ensures { self.new ≡ refilled r bytes.items self.old }
     {
-        self.buffers[usize::from(r)] = bytes;
-    }
-
-    /// A record has no bytes from now on.
-    pub(crate) fn clear(&mut self, r: u16)
-        requires { r < length self.old.buffers }
-        ensures { self.new ≡ record self.old { buffers = slice_set self.old.buffers r [] } }
-    {
-        self.buffers[usize::from(r)] = Buffer::none(*self.buffers.allocator());
+        self.bodies[usize::from(r)].bytes = bytes;
     }
 
     /// Writes the bytes of a record from `at` on into `out`, as many as it has room for.
     pub(crate) fn copy(&self, r: u16, at: usize, out: &mut [u8])
-        requires there { r < length self.now.buffers }
-        requires within { at + length out.old ≤ length (slice_index_or self.now.buffers r []) }
-        ensures { out.new ≡ take (length out.old) (drop at (slice_index_or self.now.buffers r [])) }
+        requires there { r < length self.now }
+        requires within { at + length out.old ≤ length (body self.now r).bytes }
+        ensures { out.new ≡ take (length out.old) (drop at (body self.now r).bytes) }
     {
-        self.buffers[usize::from(r)].copy(at, out);
+        out.copy_from_slice(&self.bodies[usize::from(r)].bytes[at..at + out.len()]);
     }
 
     /// These bytes come in the place of as many of a record from `at` on.
     pub(crate) fn overwrite(&mut self, r: u16, at: usize, bytes: &[u8])
-        requires there { r < length self.old.buffers }
-        requires within { at + length bytes.now ≤ length (slice_index_or self.old.buffers r []) }
-        ensures { self.new ≡ record self.old { buffers = slice_set self.old.buffers r (overwritten at bytes.now (slice_index_or self.old.buffers r [])) } }
+        requires there { r < length self.old }
+        requires within { at + length bytes.now ≤ length (body self.old r).bytes }
+        ensures { self.new ≡ refilled r (overwritten at bytes.now (body self.old r).bytes) self.old }
     {
-        self.buffers[usize::from(r)].overwrite(at, bytes);
+        self.bodies[usize::from(r)].bytes[at..at + bytes.len()].copy_from_slice(bytes);
     }
 
     /// Only the first `at` bytes of a record stay, and the record `t` gets what is past them. A
@@ -173,15 +115,17 @@ impl Blocks {
         t: u16,
         at: usize,
     ) -> Result<(), AllocError>
-        requires there { r < length self.old.buffers }
-        requires within { at ≤ length (slice_index_or self.old.buffers r []) }
-        requires other { t < length self.old.buffers }
-        requires apart { r ≢ t }
-        ensures done { OnOk result (let old = slice_index_or self.old.buffers r [] in self.new ≡ record self.old { buffers = slice_set (slice_set self.old.buffers t (drop at old)) r (take at old) }) }
+        requires there { r < length self.old }
+        requires within { at ≤ length (body self.old r).bytes }
+        requires other { t < length self.old }
+        ensures done { OnOk result (self.new ≡ refilled t (drop at (body self.old r).bytes) (refilled r (take at (body self.old r).bytes) self.old)) }
         ensures kept { OnErr result (self.new ≡ self.old) }
     {
-        let tail = self.buffers[usize::from(r)].split_off(alloc, at)?;
-        self.buffers[usize::from(t)] = tail;
+        let bytes = &mut self.bodies[usize::from(r)].bytes;
+        let tail = bytes[at..].to_vec(alloc)?;
+        bytes.truncate(at);
+        bytes.shrink_to_fit();
+        self.fill(t, tail);
         Ok(())
     }
 }

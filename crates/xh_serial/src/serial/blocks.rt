@@ -11,7 +11,7 @@ ghost use Rattle.xh_serial.specs.Commands.{IsRunning};
 ghost use Rattle.xh_core.specs.Refusing.{Tested};
 ghost use Rattle.xh_serial.specs.inner.Checks.{MaySplit};
 
-use crate::blocks::Buffer;
+use crate::blocks::zeros;
 use crate::serial::Serial;
 use std::alloc::Global;
 use xh_core::{Block, Refused};
@@ -52,11 +52,11 @@ impl Serial {
     {
         let r = self.check_alloc(p, n, arena)?;
         let len = round(n);
-        let zeros = Buffer::zeroed(alloc, len)?;
+        let bytes = zeros(alloc, len)?;
         if let Err(refused) = self.plain.allocate(p, r, len) {
             return Err(refused);
         }
-        self.blocks.fill(r, zeros);
+        self.blocks.fill(r, bytes);
         self.places.add(p, r);
         Ok(Block { rec: r, len })
     }
@@ -68,7 +68,7 @@ impl Serial {
     {
         self.check_free(p, r)?;
         let len = self.plain.discard(p, r);
-        self.blocks.clear(r);
+        self.blocks.bind(r, None);
         self.places.remove(p, r);
         Ok(len)
     }

@@ -32,7 +32,6 @@ impl Serial {
         self.places.add_all(p, came.as_slice());
         let bytes = self.plain.discard(p, r);
         self.blocks.bind(r, None);
-        self.blocks.clear(r);
         self.places.remove_at(p, from);
         bytes
     }

@@ -42,9 +42,9 @@ passed : (b : Bool) (c : After-round-len) → first_refusal (alloc_heads (was c)
     first_refusal (later b c.args.n c.args.arena (was c))
 passed b c = first_later (alloc_heads (was c) c.args.p c.args.n c.args.arena) (later b c.args.n c.args.arena (was c)) (tested c)
 
-pub returns-in_err-zeros-clause-refused : goal.returns-in_err-zeros-clause-refused
+pub returns-in_err-bytes-clause-refused : goal.returns-in_err-bytes-clause-refused
 unfolding alloc
-returns-in_err-zeros-clause-refused c = λ h. rw (h, ← c.self.view_is, passed true (goal.at.returns-in_err-zeros-clause-refused c).After-round-len) refl
+returns-in_err-bytes-clause-refused c = λ h. rw (h, ← c.self.view_is, passed true (goal.at.returns-in_err-bytes-clause-refused c).After-round-len) refl
 
 pub allocate-requires-clause-known : goal.allocate-requires-clause-known
 allocate-requires-clause-known c = (free (goal.at.allocate-requires-clause-known c).After-round-len).known
@@ -73,11 +73,11 @@ abbrev steps : goal.After-add → After-round-len
 steps c = (goal.at.returns-clause-done c).After-round-len
 
 abbrev is : goal.After-add → Machine
-is c = record (machine_of c.self.inside) { store = c.allocate.new.self; ends = c.fill.new.self.ends; buffers = c.fill.new.self.buffers; places = c.add.new.self }
+is c = record (machine_of c.self.inside) { store = c.allocate.new.self; bodies = c.fill.new.self; places = c.add.new.self }
 
 made : (c : goal.After-add) → is c ≡ allocated c.args.p c.in_ok-r.r c.round-len.result (was (steps c))
 unfolding allocated
-made c = rw (c.in_default.ensures.store, c.fill.ensures, c.in_ok-zeros.ensures, c.add.ensures, (runs (steps c)).0) refl
+made c = rw (c.in_default.ensures.store, c.fill.ensures, c.in_ok-bytes.ensures, c.add.ensures, (runs (steps c)).0) refl
 
 pub invariant_of-self-2 : goal.invariant_of-self-2
 invariant_of-self-2 c =

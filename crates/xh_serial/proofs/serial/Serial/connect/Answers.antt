@@ -1,4 +1,4 @@
-use Rattle.xh_serial.proofs.Common.{IsLawful, IsWhole, Machine, None, Ok, Paired, Some, err_from_is_err_and, first_append, first_later, first_refusal, length, machine_of, moved, nat_tests}
+use Rattle.xh_serial.proofs.Common.{IsLawful, IsWhole, Machine, None, Ok, Paired, Some, blank, err_from_is_err_and, first_append, first_later, first_refusal, length, length-set, machine_of, moved, nat_tests}
 use Rattle.xh_serial.proofs.Common.{pair_tests, refl, subst, sym, with_pair, ℕ, ◌*◌, ◌+◌, ◌<◌, ◌==◌, ◌∙◌, ◌≡◌, true, arith}
 use Rattle.xh_serial.specs.ChannelCommands.{ends_at, wire_channel, wire_heads, wired}
 use Rattle.xh_serial.proofs.Opening.{Connects, connected_whole, pair_there, room_p, room_q}
@@ -24,14 +24,15 @@ returns-in_err-r c =
 
 -- ---- the two records have blocks
 
-there : (c : In_ok-r) (k : ℕ) → ((k == c.in_ok-r.r) || (k == c.in_ok-r.t)) ≡ true → k < length c.self.inside.blocks.buffers
-there c k y = rw c.self.invariant.buffers (pair_there _ _ _ _ _ _ c.in_ok-r.ensures.done k y)
+there : (c : In_ok-r) (k : ℕ) → ((k == c.in_ok-r.r) || (k == c.in_ok-r.t)) ≡ true → k < length c.self.inside.blocks
+there c k y = rw c.self.invariant.bodies (pair_there _ _ _ _ _ _ c.in_ok-r.ensures.done k y)
 
 pub bind-requires : goal.bind-requires
 bind-requires c = there (goal.at.bind-requires c).In_ok-r c.in_ok-r.r (grind (arith, nat_tests))
 
 pub bind-requires-2 : goal.bind-requires-2
-bind-requires-2 c = rw c.bind.ensures (there (goal.at.bind-requires-2 c).In_ok-r c.in_ok-r.t (grind (arith, nat_tests)))
+bind-requires-2 c = rw (c.bind.ensures, length-set c.self.inside.blocks c.in_ok-r.r (blank (Some (2 * c.open-channel.result))))
+    (there (goal.at.bind-requires-2 c).In_ok-r c.in_ok-r.t (grind (arith, nat_tests)))
 
 -- ---- what the steps before the lists found
 
@@ -67,8 +68,7 @@ steps c = (goal.at.returns c).After-hand_over
 abbrev is : goal.After-add-2 → Machine
 is c = record (machine_of c.self.inside) {
   store = c.hand_over.new.self;
-  ends = c.bind-2.new.self.ends;
-  buffers = c.bind-2.new.self.buffers;
+  bodies = c.bind-2.new.self;
   places = c.add-2.new.self;
   lines = c.open-channel.new.self.lines;
   contracts = c.open-channel.new.self.contracts;

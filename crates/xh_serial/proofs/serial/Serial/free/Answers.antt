@@ -24,10 +24,10 @@ remove-requires c =
 abbrev begun : goal.After-remove → In_ok-check_free
 begun c = (goal.at.returns c).In_ok-check_free
 
-made : (c : goal.After-remove) → record (was (begun c)) { store = c.discard-len.new.self; ends = c.clear.new.self.ends; buffers = c.clear.new.self.buffers; places = c.remove.new.self } ≡
+made : (c : goal.After-remove) → record (was (begun c)) { store = c.discard-len.new.self; bodies = c.bind.new.self; places = c.remove.new.self } ≡
     freed_block c.args.p c.args.r (was (begun c))
 unfolding freed_block
-made c = rw (c.discard-len.ensures.store, c.clear.ensures, c.remove.ensures, (runs (begun c)).0) refl
+made c = rw (c.discard-len.ensures.store, c.bind.ensures, c.remove.ensures, (runs (begun c)).0) refl
 
 pub invariant_of-self : goal.invariant_of-self
 invariant_of-self c =

@@ -41,9 +41,6 @@ split-requires-clause-other c =
     let d = (goal.at.split-requires-clause-other c).In_ok-t in
     free_there (was d) c.in_ok-t.t c.self.invariant (free d).known
 
-pub split-requires-clause-apart : goal.split-requires-clause-apart
-split-requires-clause-apart c = other (goal.at.split-requires-clause-apart c).In_ok-t
-
 pub returns-in_err-split-clause-refused : goal.returns-in_err-split-clause-refused
 unfolding split
 returns-in_err-split-clause-refused c = λ h.
@@ -69,7 +66,7 @@ add-requires c =
 abbrev begun : goal.After-add → In_ok-t
 begun c = (goal.at.returns-clause-done c).In_ok-t
 
-made : (c : goal.After-add) → record (was (begun c)) { store = c.part.new.self; ends = c.split.new.self.ends; buffers = c.split.new.self.buffers; places = c.add.new.self } ≡
+made : (c : goal.After-add) → record (was (begun c)) { store = c.part.new.self; bodies = c.split.new.self; places = c.add.new.self } ≡
     parted c.args.p c.args.r c.in_ok-t.t c.args.k (was (begun c))
 unfolding parted
 made c = rw (c.part.ensures.store, c.in_ok-split.ensures.done, c.add.ensures, (may (begun c)).runs.0) refl

@@ -19,8 +19,8 @@ record_of c = entry (was c) c.args.p c.args.from
 read : (c : After-end-end) → slice_index_or c.blocks-2.result.now c.args.from 0 ≡ record_of c
 read c = ap (λ (xs : List ℕ). slice_index_or xs c.args.from 0) (c.blocks-2.ensures.list ∙ sym (current_blocks (was c) c.args.p (lists_current (was c) c.args.p c.args.from (has c))))
 
-there : (c : After-end-end) → record_of c < length (was c).buffers
-there c = subst (λ (n : ℕ). record_of c < n) (sym c.self.invariant.buffers) (entry_there (was c) c.args.p c.args.from c.self.invariant (has c))
+there : (c : After-end-end) → record_of c < length (was c).bodies
+there c = subst (λ (n : ℕ). record_of c < n) (sym c.self.invariant.bodies) (entry_there (was c) c.args.p c.args.from c.self.invariant (has c))
 
 -- the direction toward the entry where it is an endpoint
 end_is : (c : After-end-end) → c.end-end.result ≡ end_of (was c) (record_of c)
@@ -40,16 +40,12 @@ add_all-requires c =
 pub bind-requires : goal.bind-requires
 bind-requires c = let d = (goal.at.bind-requires c).After-end-end in rw (read d) (there d)
 
-pub clear-requires : goal.clear-requires
-clear-requires c = let d = (goal.at.clear-requires c).After-end-end in rw (read d, c.bind.ensures) (there d)
-
 -- ---- the machine after
 
 abbrev is : goal.After-remove_at → Machine
 is c = record (machine_of c.self.inside) {
   store = c.discard-bytes.new.self;
-  ends = c.clear.new.self.ends;
-  buffers = c.clear.new.self.buffers;
+  bodies = c.bind.new.self;
   places = c.remove_at.new.self;
   lines = c.shut-came.new.self.lines;
   contracts = c.shut-came.new.self.contracts;
@@ -66,7 +62,7 @@ made c =
     let d = begun c in
     let came = c.as_slice-2.ensures.value ∙ (c.shut-came.ensures.records ∙ ap (way_in (was d).lines) (end_is d)) in
     let listed = entry_left (was d) c.args.p c.args.from c.as_slice-2.result.now c.add_all.new.self c.remove_at.new.self c.self.invariant (has d) came c.add_all.ensures c.remove_at.ensures in
-    rw (listed, c.discard-bytes.ensures.store, c.accept_from.ensures, c.as_slice.ensures.value, c.clear.ensures, c.bind.ensures)
+    rw (listed, c.discard-bytes.ensures.store, c.accept_from.ensures, c.as_slice.ensures.value, c.bind.ensures)
     (rw (c.shut-came.ensures.records, c.shut-came.ensures.lines, end_is d, read d) refl)
 
 pub invariant_of-self : goal.invariant_of-self
