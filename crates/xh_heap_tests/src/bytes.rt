@@ -1,5 +1,5 @@
 //! Messages of bytes, each given or taken by one call.
-use crate::calls::{ASK, code, one};
+use crate::calls::{ASK, code, one, waiting};
 use std::alloc::Global;
 use std::process::Abort;
 use xh_heap::{
@@ -206,7 +206,7 @@ impl Job for KilledInIt {
         for _ in own.rt().forever() {
             let _nobody_gives = own.take_for(&idle, Duration::from_millis(1));
             let seen = own.overview();
-            if seen.places.iter().filter(|s| s.awaits.is_some()).count() == 1 {
+            if waiting(&seen) == 1 {
                 own.kill(0)?;
                 return Ok((0, 0));
             }

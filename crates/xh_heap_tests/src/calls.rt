@@ -1,8 +1,8 @@
 //! Each call of a process, with ample memory.
 use std::alloc::Global;
 use xh_heap::{
-    Answered, Config, Contract, Duration, Item, Items, Job, Message, Process, Refused, Returned,
-    Row, Team, one_arena, run,
+    Answered, Block, Config, Contract, Duration, Item, Items, Job, Message, Overview, Process,
+    Refused, Returned, Row, Team, one_arena, run,
 };
 
 /// A number that a call answered, or 1000 and the number of its refusal.
@@ -16,9 +16,22 @@ pub fn code<E: Into<Refused>>(answer: Result<u64, E>) -> u64 {
     }
 }
 
+/// How many bytes a block has.
+pub fn length(block: Block) -> u64 {
+    u64::from(block.len())
+}
+
 /// The tag of a message.
 pub fn tag_of(answer: Result<Message, Refused>) -> u64 {
-    code(answer.map(|message| u64::from(message.tag)))
+    match answer {
+        Ok(message) => u64::from(message.tag),
+        Err(why) => code(Err::<u64, Refused>(why)),
+    }
+}
+
+/// How many processes wait.
+pub fn waiting(seen: &Overview) -> usize {
+    seen.places.iter().filter(|s| s.awaits.is_some()).count()
 }
 
 /// The same, and 100 for each end before its own.
@@ -40,13 +53,13 @@ fn blocks<P: Process>(own: &mut P) -> Result<[u64; 8], Refused> {
     own.read(&tail, 29, &mut bytes)?;
     Ok([
         u64::from(len),
-        code(own.split(&mut head, 16).map(|b| u64::from(b.len()))),
+        code(own.split(&mut head, 16).map(length)),
         u64::from(head.len()),
         u64::from(tail.len()),
         u64::from(bytes[2]),
         u64::from(own.free(tail)?),
         u64::from(own.free(other)?),
-        code(own.alloc_in(2, 16).map(|b| u64::from(b.len()))),
+        code(own.alloc_in(2, 16).map(length)),
     ])
 }
 
@@ -198,7 +211,7 @@ fn endings<P: Process>(own: &mut P, other: &mut P, alloc: Global) -> Result<[u64
     Ok([
         u64::from(third.number()),
         killed,
-        code(third.alloc(16).map(|b| u64::from(b.len()))),
+        code(third.alloc(16).map(length)),
         stale,
         code(own.kill(77)),
         code(spawn_all(own, alloc, 30)),
@@ -236,7 +249,7 @@ fn buffers<P: Process>(own: &mut P, alloc: Global) -> Result<[u64; 8], Refused> 
     let mut bytes = vec![in alloc; 7u8; 5]?;
     let block = own.put(&mut bytes)?;
     let left = bytes.len() as u64;
-    let none = code(own.put(&mut bytes).map(|b| u64::from(b.len())));
+    let none = code(own.put(&mut bytes).map(length));
     let len = block.len();
     let back = own.into_bytes(block)?;
     let mut large = vec![in alloc; 0u8; 5000]?;
@@ -247,11 +260,8 @@ fn buffers<P: Process>(own: &mut P, alloc: Global) -> Result<[u64; 8], Refused> 
         u64::from(len),
         back.len() as u64,
         u64::from(back.get(4).copied().unwrap_or(0)),
-        code(own.put_in(1, &mut large).map(|b| u64::from(b.len()))),
-        code(
-            own.alloc_for(1, 16, Duration::ZERO)
-                .map(|b| u64::from(b.len())),
-        ),
+        code(own.put_in(1, &mut large).map(length)),
+        code(own.alloc_for(1, 16, Duration::ZERO).map(length)),
         u64::from(own.free(full)?),
     ])
 }

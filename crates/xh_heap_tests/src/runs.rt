@@ -1,5 +1,5 @@
 //! Whole runs: their limits, refused plans, handles that are dropped, and refused growths.
-use crate::calls::{ASK, code, tag_at, tag_of};
+use crate::calls::{ASK, code, length, tag_at, tag_of, waiting};
 use std::process::Abort;
 use std::time::Duration;
 use xh_heap::{
@@ -68,7 +68,7 @@ impl Job for Planned {
 
     fn work<P: Process>(&self, _plan: &[u64; 4], index: usize, own: &mut P) -> (usize, u64) {
         let size = u32::from(own.number()).wrapping_mul(16).wrapping_add(16);
-        (index, code(own.alloc(size).map(|b| u64::from(b.len()))))
+        (index, code(own.alloc(size).map(length)))
     }
 }
 
@@ -117,7 +117,7 @@ impl<R: Print + Drop> Job for WatchedRun<R> {
                 for _ in own.rt().forever() {
                     let _nobody_gives = own.take_for(end, Duration::from_millis(20));
                     let seen = own.overview();
-                    if seen.places.iter().filter(|s| s.awaits.is_some()).count() == 4 {
+                    if waiting(&seen) == 4 {
                         let _ = println!(self.0; "{seen}");
                         own.kill(0)?;
                         own.kill(3)?;
