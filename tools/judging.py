@@ -208,12 +208,15 @@ def has_types(*files: pathlib.Path) -> None:
     passes("mypy", "--strict", "--scripts-are-modules", "--cache-dir", ROOM / "mypy", *ours)
 
 
-def rt_ci() -> None:
+def rt_ci(tell: Callable[[str], object] = lambda crate: None) -> None:
+    """Each crate is proved, and each is told when it is."""
     words = ["timeout", "--signal=KILL", str(LONG), "rt", "ci"]
     said, null = "", subprocess.DEVNULL
     with subprocess.Popen(words, stdin=null, stdout=PIPE, text=True, errors="replace") as ran:
         for said in ran.stdout or ():
             print(said, end="", flush=True)
+            for crate in re.findall(r"^rt: (\w+) proved$", said):
+                tell(crate)
     claim(ran.returncode == 0, f"rt ci ended with status {ran.returncode}")
     claim(re.fullmatch(r"[1-9]\d* passed, 0 failed\n", said), f"its last line: {said!r}")
 
