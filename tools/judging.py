@@ -221,9 +221,9 @@ def rt_ci(tell: Callable[[str], object] = lambda crate: None) -> None:
     claim(re.fullmatch(r"[1-9]\d* passed, 0 failed\n", said), f"its last line: {said!r}")
 
 
-def refuses_edits(tool: Word, crate: str, count: int) -> None:
-    """Each of so many wrong bodies of the crate is refused."""
-    ran = run([tool, "--jobs", "1", crate], limit=LONG)
+def refuses_edits(tool: Word, crate: str, count: int, *by: Word) -> None:
+    """Each of so many wrong bodies of the crate is refused by the tool, which these words run."""
+    ran = run([*by, tool, "--jobs", "1", crate], limit=LONG)
     said = (ran.err + ran.out).decode(errors="replace")
     is_so = re.search(rf"^edits: {count} refused, 0 not, \d+ kept\n\Z", said, re.M)
     claim(ran.status == 0 and is_so, f"it ended with {ran.status}: {said}")
