@@ -2,7 +2,8 @@
 //!
 //! `xh_bench all|MEASURE ROUNDS [beside]` does so many steps of each measure that the word names, or of what stands beside it. It
 //! prints a line with tabs: the measure's name, how many threads do it, the most that a step may take in hundredths of one of what
-//! stands beside it, and that, piece by piece; and as an error the picoseconds of a step. docs/PERFORMANCE.md tells of the measures.
+//! stands beside it, and that, piece by piece, how often, what, and of how many bytes or 0; and as an error the picoseconds of a
+//! step. docs/PERFORMANCE.md tells of the measures.
 #![tactic(auto)]
 
 mod bench;
@@ -32,7 +33,11 @@ fn tell<R: Runtime>(rt: &R, alloc: Global, row: Row, order: Order) -> Option<()>
     let bench = Bench { alloc, row, order };
     let closed = run(rt, alloc, config(), threads, &bench).ok()?;
     let time = closed.answers.first().copied()??;
-    println!(rt; "{name}\t{threads}\t{limit}\t{beside:?}").ok()?;
+    print!(rt; "{name}\t{threads}\t{limit}").ok()?;
+    for (times, piece) in beside {
+        print!(rt; "\t{times} {piece}").ok()?;
+    }
+    println!(rt;).ok()?;
     eprintln!(rt; "{time}").ok()
 }
 

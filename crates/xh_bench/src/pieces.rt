@@ -2,11 +2,12 @@
 
 use crate::bench::{Half, Line};
 use std::alloc::Global;
+use std::fmt;
 use std::sync::atomic::AtomicU64;
 use std::sync::atomic::Ordering::SeqCst;
 use std::sync::{Mutex, Wait};
 
-#[derive(Clone, Copy, Debug)]
+#[derive(Clone, Copy)]
 pub(crate) enum Piece {
     /// A lock that nobody else wants is taken and let go.
     Lock,
@@ -27,6 +28,24 @@ pub(crate) enum Piece {
     Vector(usize),
     /// The same of a buffer that is popped from a queue of free ones, where there is one, and pushed back there.
     Pooled(usize),
+}
+
+impl fmt::Display for Piece {
+    /// Its name, and of how many bytes, or 0.
+    fn fmt<W: fmt::Write>(&self, f: &mut fmt::Formatter<W>) -> fmt::Result {
+        let (name, bytes) = match self {
+            Piece::Lock => ("Lock", 0),
+            Piece::Exchange => ("Exchange", 0),
+            Piece::Load => ("Load", 0),
+            Piece::Zeroed(bytes) => ("Zeroed", *bytes),
+            Piece::Copied(bytes) => ("Copied", *bytes),
+            Piece::PushPop => ("PushPop", 0),
+            Piece::ToAndFro => ("ToAndFro", 0),
+            Piece::Vector(bytes) => ("Vector", *bytes),
+            Piece::Pooled(bytes) => ("Pooled", *bytes),
+        };
+        write!(f, "{name} {bytes}")
+    }
 }
 
 /// What is done in a step, each piece so often.
