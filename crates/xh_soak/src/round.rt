@@ -15,7 +15,7 @@ pub(crate) const CALLS: &str =
     take_wait take_for take_bytes_wait take_any take_any_wait take_any_for close exit kill overview";
 
 /// Numbers at random, by a seed.
-#[derive(Clone, Copy, Debug)]
+#[derive(Clone, Copy)]
 pub(crate) struct Chance(pub(crate) u64);
 
 impl Chance {
