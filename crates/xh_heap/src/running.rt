@@ -55,7 +55,7 @@ fn hire<'a, 'k, N: Names, R: Wait>(
         let Some(spare) = left.pop() else {
             return Err(Refused::NoPlace);
         };
-        all.push(Handle::start(rt, alloc, kernel, spares, spare)?)?;
+        all.push_reserved(Handle::start(rt, alloc, kernel, spares, spare)?);
     }
     *spares.lock(rt) = left;
     Ok(all)
