@@ -94,6 +94,9 @@ def kept(main: Callable[[], int]) -> int:
     if not child:
         try:
             os.setsid()
+            # A session's processes have a priority together, beside their own.
+            with contextlib.suppress(OSError):
+                pathlib.Path("/proc/self/autogroup").write_text(str(os.nice(0)))
             signal.pthread_sigmask(signal.SIG_SETMASK, before)
             # Where ./soak keeps what failed, also within the gate.
             os.environ.setdefault("JUDGING_KEEPS", tempfile.gettempdir())
